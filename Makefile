@@ -113,6 +113,7 @@ gdb-test: ir
 # All outcomes of small guests, against a judge that takes each step of each thread; each order is recorded.
 explore-test: ir
 	python3 tests/exploring.py ./ir
+	python3 tests/comparing.py ./ir
 
 # The tests of sessions as a program, of which those about memory are run here. Proves them too.
 TESTS := crates/ir_session_tests/out/ir_session_tests_tests

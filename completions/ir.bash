@@ -10,7 +10,7 @@ _ir() {
             list) words="--map --help" ;;
             record) words="--order --order-file --chaos --by --budget --random --profile --input --output --status --help" ;;
             hunt) words="--seeds --until --by --jobs --seconds --budget --random --profile --input --output --help" ;;
-            explore) words="--until --states --switches --private --random --profile --input --output --help" ;;
+            explore) words="--until --states --switches --private --random --profile --input --output --within --only --help" ;;
             debug) words="--help" ;;
             gdb) words="--help" ;;
             trace) words="--help" ;;

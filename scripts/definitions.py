@@ -60,14 +60,14 @@ CLAIMS = [
     Claim("Exploring", "`ir explore` lists outcomes, and says how its search ended.", {"ir_explore/src/run.rt": ["explore_run"]}, [
         ("ir_world", "Sources", "`given`: what answers CLOCK, RANDOM and INPUT"),
         ("ir_graph", "Setup", "`Setup`, `IsCountedOf`: which complete runs count"),
-        ("ir_seen", "Seen", "`IsCounted`"),
+        ("ir_likeness", "Seen", "`IsCounted`"),
         ("ir_graph", "Outcomes", "`RunOutcome`, `run_outcome`"),
         ("ir_outcomes", "Explored", "`IsOutcomeOf`, `AreExplored`, `AreAll`, `AreHangs`"),
         ("ir_outcomes", "Shown", "`IsShown`: what LIST leads to"),
         ("ir_graph", "Hangs", "`IsCounting`, `CanEnd`, `IsHangOf`"),
         ("ir_graph", "Times", "`HasTimedRun`: where `clock counted` is said"),
         ("ir_explore", "Texts", "`AreKnown`, `IsAnswerAbout`: what is printed of it"),
-    ], (2510, 720)),
+    ], (2512, 720)),
     Claim("Recordings of an explored guest", "What the lists of `ir explore` say of recordings, by real threads too.", {
         "ir_explore/src/laws.rt": ["recordings_have_outcomes", "recordings_are_listed", "recordings_are_untimed", "untimed_recordings_are_listed",
                                        "recordings_never_fulfil", "hangs_never_complete"],
@@ -84,6 +84,14 @@ CLAIMS = [
         ("ir_explore", "Until", "`IsSought`, `IsVain`"),
         ("ir_explore", "Hang", "`FindsHang`, `IsHangTold`"),
     ], (411, 267)),
+    Claim("Comparing", "`ir explore --within` says whether each outcome of a guest is one of another's.", {
+        "ir_within/src/run.rt": ["within_run"],
+        "ir_within/src/laws.rt": ["within_is_each", "outside_is_some"],
+    }, [
+        ("ir_within", "Aspects", "`Aspects`, `seen`: what of an outcome counts"),
+        ("ir_within", "Within", "`IsCompared`, `IsWithinAnswer`: what is printed"),
+        ("ir_within", "Laws", "the laws"),
+    ], (420, 200)),
     Claim("Hunting", "`ir hunt` says which seeds it tried, and which is the lowest that it found.", {"ir_hunt/src/hunting.rt": ["hunt_run"]}, [
         ("ir_schedule", "Schedules", "`IsSchedule`: the run by a chooser"),
         ("ir_hunt", "Hunt", "`Hunt`: what is hunted"),
@@ -104,13 +112,13 @@ CLAIMS = [
         ("ir_gdb", "Replies", "`RepliesTo`: the reply to each request"),
         ("ir_gdb", "Connection", "`RepliesToItems`: the bytes of packets and acknowledgements"),
         ("ir_gdb", "Laws", "the laws"),
-    ], (2387, 1250)),
+    ], (2389, 1250)),
     Claim("Insight", "The lines of `ir stale`, `who`, `why`, `diff`, `view`, `events` and `list`.", {
         "ir_past/src/run.rt": ["stale_run"],
         "ir_stale_run/src/run.rt": ["rests_run"],
         "ir_who/src/run.rt": ["who_run"],
         "ir_who/src/fit_run.rt": ["who_fit_run"],
-        "ir_word/src/run.rt": ["word_fit_run"],
+        "ir_who_word/src/run.rt": ["word_fit_run"],
         "ir_why/src/run.rt": ["why_run"],
         "ir_why/src/fit_run.rt": ["why_fit_run"],
         "ir_why/src/laws.rt": ["needs_left_before", "waits_before"],
@@ -128,7 +136,7 @@ CLAIMS = [
         ("ir_why", "Needed", "`AreNeeds`: what an event needs"),
         ("ir_why", "Waits", "`AreWaits`: the chain of a run"),
         ("ir_why", "FitAnswers", "`IsReasonIn`"),
-        ("ir_diff", "Common", "`AreCommon`, `IsReady`"),
+        ("ir_diff", "Common", "`AreCommon`, `IsThreadReady`"),
         ("ir_picture", "Places", "`AreBoxesPlaced`: where boxes stand"),
         ("ir_holds", "Held", "`IsHeld`: where boxes of holds stand"),
         ("ir_run_picture", "Laws", "`IsMoment`, `GoesRight`: what left to right means"),
@@ -201,7 +209,7 @@ These definitions also name:
 MANUAL = {("ir_isa", "Fields"), ("ir_isa", "Code"), ("ir_mach", "Core"), ("ir_mach", "Execution"), ("ir_disasm", "Printed")}
 
 # The most lines of the headline's files, and of its definitions beside those that restate the manual.
-MOST_LINES = 3123
+MOST_LINES = 3131
 MOST_DEFINITION_LINES = 1500
 
 # What a law says all of: who believes the law needn't read the definition. The file of the law and its name.

@@ -97,7 +97,7 @@ def subcommands():
     files, image_file = constants_of(values), IMAGE.search(values)[1]
     recording = source_of("recording")
     shared = {}
-    for module in ("recording", "seeds", "values"):
+    for module in ("recording", "seeds", "values", "within"):
         shared |= options_of(source_of(module), files)
     found = []
     for name, about, module, after in ROW.findall(source_of("subcommands")):

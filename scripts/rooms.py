@@ -7,7 +7,8 @@ Of another crate's proofs a file may cite what its `proofs/CallerLemmas.antt` of
 of `proofs/` is public; a crate stands in crates.txt on each crate that its files name; the texts of ir_tests'
 `examples.rt` are those of the files of `examples`, since a test can read no file; the manual page and docs/reference agree with the texts of
 `--help`; the literals of the page of `ir view` are those of page/view.html; docs/internals names and counts what is there (scripts/definitions.py,
-scripts/facts.py); no function has more than 7 parameters, and at most three have more than 6; and each edit of `must-fail/` and `edits/` applies, has
+scripts/facts.py); no lemma statement stands in two crates, and no line of src, specs and proofs has more than 200 characters
+(scripts/statements.py); no function has more than 7 parameters, and at most three have more than 6; and each edit of `must-fail/` and `edits/` applies, has
 no line that isn't read, and writes no name that its file doesn't have.
 """
 import re
@@ -16,6 +17,7 @@ from pathlib import Path
 
 import definitions
 import facts
+import statements
 from edits import BadEdit, applied, pairs_of
 from completions import differences as completion_differences
 from man_page import differences
@@ -154,7 +156,7 @@ def wide_functions():
 
 
 def main():
-    found = [*faults(), *wide_functions(), *examples(), *differences(), *completion_differences(), *page_differences(), *bad_edits(), *definitions.faults(), *facts.differences()]
+    found = [*faults(), *wide_functions(), *examples(), *differences(), *completion_differences(), *page_differences(), *bad_edits(), *definitions.faults(), *facts.differences(), *statements.copies(), *statements.long_lines()]
     print("\n".join(found) or "rooms: each crate cites what the others offer; examples, help and definitions agree with the pages; the edits apply")
     return 1 if found else 0
 

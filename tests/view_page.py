@@ -6,8 +6,8 @@ python3 tests/view_page.py PROGRAM [FOLDER]
 Records guests of examples/ and larger ones that this file has, opens the page of each recording, light and dark, and keeps pictures in FOLDER if
 it is given. Looks whether the browser reports an error, whether each key and each click does what the page's help says, whether contrast is at
 least 4.5 for text and 3 for lines, and whether the data is digits alone. In windows of three sizes: whether All has all boxes and ends in sight, also
-after the size changes, whether nothing crosses the words at the ends, and whether versions of six digits can be read. Wants `chromium`, or another
-browser that CHROMIUM names.
+after the size changes, whether nothing crosses the words at the ends, and whether versions of six digits can be read. With names put into the page as
+`guest/ir-where --page` puts them, whether each is shown, and as text. Wants `chromium`, or another browser that CHROMIUM names.
 """
 import base64
 import json
@@ -374,6 +374,33 @@ def check_versions(browser, address):
         assert version in browser.value("el('tip').textContent") and browser.value("el('tip').style.display") == "block"
 
 
+def check_names(browser, path, page, data):
+    """Names that a script puts before the data are shown as they are, also where they look like markup."""
+    ugly = "<img src=x onerror=bad()>&amp;</script><!--\"'"
+    threads, events = {str(t): f"t{t}{ugly}" for t in range(len(data["threads"]))}, {f"{box[0]}.{box[1]}": f"e{box[0]}.{box[1]}{ugly}" for box in data["boxes"]}
+    names = {"threads": threads, "events": events, "objects": {str(o): f"o{o}{ugly}" for o in range(data["objects"])},
+             "words": {f"{o}.{k}": f"w{o}.{k}{ugly}" for o in range(data["objects"]) for k in range(16)}}
+    script = f'<script type="application/json" id="names">{json.dumps(names)}</script>\n'.replace(json.dumps(names), json.dumps(names).replace("<", "\\u003c"))
+    path.write_text(page.replace('<script type="application/json" id="run">', script + '<script type="application/json" id="run">'), encoding="ascii")
+    browser.open(path.as_uri())
+    browser.value(SETTLED)
+    markup = browser.value("document.querySelectorAll('img').length")
+    for thread, event, count, kind, shared, *_ in data["boxes"]:
+        browser.value(f"find({thread}, {event})")
+        told = browser.value("el('what').textContent")
+        assert threads[str(thread)] in told and events[f"{thread}.{event}"] in told, told
+        assert count > 1 or kind < 4 or names["objects"][str(shared)] in told, told
+    for row in data["stale"]:
+        browser.value(f"find({row[0]}, {row[2]})")
+        shared = next(box[4] for box in data["boxes"] if box[0] == row[0] and box[1] == row[2])
+        assert len(row) == 3 or names["words"][f"{shared}.{row[3]}"] in browser.value("el('what').textContent")
+    chips = browser.value("[...document.querySelectorAll('#signs .chip')].map(c => c.textContent)")
+    assert all(any(name in chip for name in names["objects"].values()) for chip in chips), chips
+    drawn = [text[0] for text in browser.value(TEXTS)]
+    assert all(any(text.startswith(f"t{t}") for text in drawn) for t in range(len(data["threads"]))) or browser.value("RH + 2 * PAD < 32"), drawn
+    assert browser.value("document.querySelectorAll('img').length") == markup == 0
+
+
 def with_long_versions(page, data):
     """The page with versions that have six digits."""
     changed = json.loads(json.dumps(data))
@@ -426,6 +453,8 @@ def main():
                         check_steps(browser, data)
                     if form != "_part":
                         check_all(browser, path.as_uri(), name + form, asked.kept)
+                    if name in ("counter", "helping", "sixteen"):
+                        check_names(browser, path, page, data)
                     if name in ("many", "sixteen"):
                         check_legend(browser, path.as_uri())
                         path.write_text(with_long_versions(page, data), encoding="ascii")

@@ -14,6 +14,7 @@ use crate::trace::TraceArguments;
 use crate::view::ViewArguments;
 use crate::who::WhoArguments;
 use crate::why::WhyArguments;
+use crate::within::WithinArguments;
 
 /// An image that is made of another file.
 #[derive(Drop)]
@@ -45,6 +46,8 @@ pub enum Print {
     View(ViewArguments),
     /// The outcomes of a guest.
     Outcomes(ExploreArguments),
+    /// The outcomes of a guest that another guest doesn't have.
+    Within(WithinArguments),
 }
 
 /// What the arguments ask for.

@@ -1,6 +1,7 @@
 //! Conditions of what a run comes to.
 
 use crate::values::UNTIL;
+use crate::wrong_condition::why_no_condition;
 use clap::ArgMatches;
 use ir_schedule::{Condition, Fact, condition_of};
 use std::alloc::{AllocError, Global};
@@ -37,10 +38,11 @@ const OF_A_RUN: &str = "end, code, word, out, fault, bad, budget and stale";
 // Those of an outcome.
 const OF_AN_OUTCOME: &str = "end, code, word, out, fault and bad, and hang by itself";
 
-// That a text is no condition, and which there are.
+// That a text is no condition, why, and which there are.
 fn no_condition(alloc: Global, text: &str, kinds: &str) -> Result<String, AllocError> {
+    let why = why_no_condition(alloc, text)?;
     format!(in alloc;
-        "--{UNTIL}: '{text}' is no condition: there are {kinds}, `!` before one and ` | ` between two"
+        "--{UNTIL}: '{text}' is no condition, because {why}: there are {kinds}, `!` before one and ` | ` between two"
     )
 }
 

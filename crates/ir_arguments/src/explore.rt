@@ -8,6 +8,7 @@ use crate::recording::{
     INPUT, OUTPUT, input_arg, output_arg, profile_arg, profile_in, random_arg, random_in,
 };
 use crate::values::{IMAGE, TRACE, UNTIL, given_text, image_arg, text_of};
+use crate::within::{WITHIN, WithinArguments, counted_of, only_arg, other_of, within_arg};
 use clap::{Arg, ArgAction, ArgMatches, Command};
 use ir_record_command::number_within;
 use ir_thread::{MOST_BUDGET, Profile};
@@ -49,11 +50,20 @@ with ` | ` between them.
 With `--until hang` alone all lines are printed, and if there is the line `hang`, TRACE is of the run by its LIST, and the lines of
 `ir record` follow. The run goes on behind the hang until its budget ends it: each thread may take one step more than all threads
 take together by LIST.
+With --within OTHER the outcomes are printed that the guest of OTHER doesn't have, each with its number and order, then
+  image finished outcomes K states N hangs H     how the search for the outcomes of IMAGE ended, as above
+  other finished outcomes K states N hangs H     the same of OTHER; if it isn't `finished`, IMAGE isn't searched
+and one of
+  within                                         each complete run of IMAGE comes to an outcome of OTHER
+  outside M                                      M outcomes of IMAGE aren't any of OTHER's
+  unknown                                        a search ended before either was known
+PARTS says what of outcomes counts, so that guests with other objects can be compared: `out` what each thread prints, `codes` how it
+ends, `objects` the words of all objects, or a number the words of that object. Without --only all of it counts.
 Exit status: 0 finished without a hang, or covered, 1 a file that can't be read or written, memory that ran out outside the search,
 or standard output that can't be written, 2 bad arguments, 3 a refused image, or a guest with more threads or objects than the
 profile takes, or a COND about what the guest hasn't, 6 stopped, 7 finished, and from some state no run reaches an end any more.
 With COND: 0 found, 5 finished or covered, and no outcome fulfils them, 6 stopped, and none was found. With `hang`: 0 found, 5
-finished, and no run hangs, 6 covered or stopped.
+finished, and no run hangs, 6 covered or stopped. With OTHER: 0 within, 5 outside, 6 unknown.
 ";
 
 const STATES: &str = "states";
@@ -157,7 +167,9 @@ pub fn with_arguments<'a>(alloc: Global, command: Command<'a>) -> Result<Command
         .arg(random_arg(alloc))?
         .arg(profile_arg(alloc))?
         .arg(input_arg(alloc))?
-        .arg(output_arg(alloc).requires_arg(UNTIL)?)
+        .arg(output_arg(alloc).requires_arg(UNTIL)?)?
+        .arg(within_arg(alloc).conflicts_with(UNTIL)?)?
+        .arg(only_arg(alloc).requires_arg(WITHIN)?)
 }
 
 fn trace_arg<'a>(alloc: Global) -> Result<Arg<'a>, AllocError> {
@@ -258,12 +270,31 @@ fn conditions_besides(
     outcome_conditions_of(alloc, matches)
 }
 
+// The comparison that is asked for, or what is wrong with what counts.
+fn within_asked(
+    alloc: Global,
+    matches: &ArgMatches<'_>,
+    explore: ExploreArguments,
+) -> Result<Asked, AllocError> {
+    match counted_of(alloc, matches)? {
+        Ok(counted) => Ok(Asked::Print(Print::Within(WithinArguments {
+            explore,
+            other: other_of(alloc, matches)?,
+            counted,
+        }))),
+        Err(why) => Ok(Asked::Nothing(why)),
+    }
+}
+
 /// What its arguments ask for.
 pub fn asked(alloc: Global, matches: &ArgMatches<'_>) -> Result<Asked, AllocError> {
     let explore = match arguments_of(alloc, matches)? {
         Ok(explore) => explore,
         Err(why) => return Ok(Asked::Nothing(why)),
     };
+    if matches.get_str(WITHIN).is_some() {
+        return within_asked(alloc, matches, explore);
+    }
     let hang = match hang_by(alloc, matches)? {
         Ok(hang) => hang,
         Err(why) => return Ok(Asked::Nothing(why)),

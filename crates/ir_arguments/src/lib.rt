@@ -23,6 +23,8 @@ mod values;
 mod view;
 mod who;
 mod why;
+mod within;
+mod wrong_condition;
 
 pub use arguments::{collected, parsed};
 pub use asked::{Asked, Make, Print};
@@ -42,3 +44,4 @@ pub use trace::TraceArguments;
 pub use view::{Part, ViewArguments};
 pub use who::WhoArguments;
 pub use why::WhyArguments;
+pub use within::{Counted, WithinArguments};

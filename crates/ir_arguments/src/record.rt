@@ -86,7 +86,14 @@ pub struct RecordArguments {
 impl RecordArguments {
     /// The plan of the recording, in the order of this list if there is one, of a guest that reads these bytes.
     pub fn plan<'a>(&self, order: Option<&'a str>, input: &'a [u8]) -> RecordPlan<'a>
-        ensures { result ≡ record { order = option_map (λ s. s.now) order.entry; budget = self.now.options.budget; random = self.now.options.random; input = input.now; profile = self.now.options.profile } }
+        ensures { result
+            ≡ record {
+              order = option_map (λ s. s.now) order.entry;
+              budget = self.now.options.budget;
+              random = self.now.options.random;
+              input = input.now;
+              profile = self.now.options.profile;
+            } }
     {
         self.options.plan(order, input)
     }

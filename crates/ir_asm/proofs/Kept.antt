@@ -1,11 +1,12 @@
 -- What the second pass keeps.
-use Rattle.std.proofs.Common.{◌≡◌, ◌+◌, ◌-◌, ◌*◌, ◌%◌, ◌≤◌, ◌<◌, ℕ, Bool, List, [], ◌∷◌, ◌++◌, length, take, drop, refl, sym, ap, subst, ◌∙◌, arith, Result, Ok, Err, true, false, Some, cond, negsuc, pos, get_or, zero, suc}
+use Rattle.std.proofs.Common.{◌≡◌, ◌+◌, ◌-◌, ◌*◌, ◌%◌, ◌≤◌, ◌<◌, ℕ, Bool, List, [], ◌∷◌, ◌++◌, length, take, drop, refl, sym, ap, subst}
+use Rattle.std.proofs.Common.{◌∙◌, arith, Result, Ok, Err, true, false, Some, cond, negsuc, pos, get_or, zero, suc}
 use Rattle.std.specs.Prelude.{nat_lt, replicate, bytes_eq}
 use Rattle.std.specs.List.{AllByRecursion}
 use Rattle.std.proofs.lemmas.Bool.{ltb-true}
 use Rattle.std.proofs.lemmas.Option.{same_Some}
 use Rattle.std.proofs.lemmas.List.{length-replicate, length-append, length-take-le, length-drop}
-use Rattle.ir_lemmas.proofs.CallerLemmas.{all_by_recursion_after_push, ok_is_injective}
+use Rattle.ir_lemmas.proofs.CallerLemmas.{all_of_push, ok_is_injective}
 use Rattle.ir_image.specs.declared.form.ImageForm.{ImageForm}
 use Rattle.ir_image.specs.declared.form.ImageForm.TheVariants.{Small, Large}
 use Rattle.ir_image.specs.Guest.{limits_of, Guest, code_start, object_words, padded_to}
@@ -22,12 +23,12 @@ use Rattle.ir_asm.specs.Names.{named}
 use Rattle.ir_asm.specs.declared.asm_err.AsmErr.{AsmErr}
 use Rattle.ir_asm.specs.declared.refusal.Refusal.{Refusal}
 use Rattle.ir_asm.specs.declared.refusal.Refusal.TheVariants.{Faulty, NoMem}
-use Rattle.ir_asm.specs.Faults.{◌>>=◌, Makes}
-use Rattle.ir_asm.specs.Answered.{Answers, refused}
+use Rattle.ir_asm.specs.Faults.{◌>>=◌, MakesOrFaults}
+use Rattle.ir_asm.specs.Answered.{AnswersSource, refused}
 use Rattle.ir_asm.specs.Source.{Seen, Fault, same_section, at_line}
-use Rattle.ir_asm.specs.Passes.{put, distance_to, value_of, text_address, with_code, with_object, second_pass}
+use Rattle.ir_asm.specs.Passes.{put_word_in, distance_to, operand_value, text_address, with_code, with_object_line, second_pass}
 use Rattle.ir_asm.specs.Bounds.{HasFewWords}
-use Rattle.ir_asm.proofs.Steps.{parts_of_ok_bind, test_and_value_of_ok_unless, option_is_some_if_or_cause_of_it_is_ok}
+use Rattle.ir_asm.proofs.Steps.{parts_of_ok_bind, ok_unless_parts, or_cause_ok_is_some}
 
 -- how many bytes of code an item is
 abbrev pub code_size : Item → ℕ
@@ -57,21 +58,21 @@ abbrev pub LabelsFit : List (List ℕ × Place) → Type 0
 LabelsFit labels = AllByRecursion (λ l. IsTextPlace l.1.section l.1.address) labels
 
 -- what holds beside all names holds beside one
-pub named_value_has_property_of_all : {A : Type 0} (P : A → Type 0) (rows : List (List ℕ × A)) (name : List ℕ) (x : A) → AllByRecursion (λ r. P r.1) rows
+pub named_value_satisfies : {A : Type 0} (P : A → Type 0) (rows : List (List ℕ × A)) (name : List ℕ) (x : A) → AllByRecursion (λ r. P r.1) rows
     → named rows name ≡ Some x → P x
-named_value_has_property_of_all P [] name x h e = absurd (cc e)
-named_value_has_property_of_all P (r ∷ rows) name x h e = by_test (bytes_eq name r.0) (λ f. named_value_has_property_of_all P rows name x h.1 f) e
+named_value_satisfies P [] name x h e = absurd (cc e)
+named_value_satisfies P (r ∷ rows) name x h e = by_test (bytes_eq name r.0) (λ f. named_value_satisfies P rows name x h.1 f) e
   where
     by_test : (b : Bool) → (named rows name ≡ Some x → P x) → cond b (Some r.1) (named rows name) ≡ Some x → P x
     by_test true rest f = subst P (same_Some r.1 x f) h.0
     by_test false rest f = rest f
 
 -- the address of a label in text is a place there
-pub text_address_is_text_place : (s : Seen) (label : List ℕ) (a : ℕ) → LabelsFit s.labels → text_address s label ≡ Ok a → (a % 4 ≡ 0) × (code_start ≤ a)
-text_address_is_text_place s label a fits e =
-    let b = parts_of_ok_bind (value_of s label) _ a e in
-    let t = test_and_value_of_ok_unless (same_section b.0.section Text) WrongSection b.0.address a b.2 in
-    let p = named_value_has_property_of_all (λ (place : Place). IsTextPlace place.section place.address) s.labels label b.0 fits (option_is_some_if_or_cause_of_it_is_ok LabelMissing _ b.0 b.1) in
+pub text_address_is_place : (s : Seen) (label : List ℕ) (a : ℕ) → LabelsFit s.labels → text_address s label ≡ Ok a → (a % 4 ≡ 0) × (code_start ≤ a)
+text_address_is_place s label a fits e =
+    let b = parts_of_ok_bind (operand_value s label) _ a e in
+    let t = ok_unless_parts (same_section b.0.section Text) WrongSection b.0.address a b.2 in
+    let p = named_value_satisfies (λ (place : Place). IsTextPlace place.section place.address) s.labels label b.0 fits (or_cause_ok_is_some LabelMissing _ b.0 b.1) in
     subst (λ n. (n % 4 ≡ 0) × (code_start ≤ n)) t.1 (by_section b.0.section b.0.address t.0 p)
   where
     by_section : (section : Section) (n : ℕ) → same_section section Text ≡ true → IsTextPlace section n → (n % 4 ≡ 0) × (code_start ≤ n)
@@ -84,34 +85,34 @@ take_of_zeros zero n l = refl
 take_of_zeros (suc k) zero l = absurd (omega (arith, l))
 take_of_zeros (suc k) (suc n) l = ap (λ (xs : List ℕ). 0 ∷ xs) (take_of_zeros k n (omega (arith, l)))
 
-take_of_words_and_zeros_is_words_and_fewer_zeros : (words : List ℕ) (k n : ℕ) → k ≤ n → take (length words + k) (words ++ replicate {A = ℕ} n 0) ≡ words ++ replicate {A = ℕ} k 0
-take_of_words_and_zeros_is_words_and_fewer_zeros [] k n l = let e : 0 + k ≡ k = omega arith in rw e (take_of_zeros k n l)
-take_of_words_and_zeros_is_words_and_fewer_zeros (w ∷ ws) k n l =
+take_words_and_zeros : (words : List ℕ) (k n : ℕ) → k ≤ n → take (length words + k) (words ++ replicate {A = ℕ} n 0) ≡ words ++ replicate {A = ℕ} k 0
+take_words_and_zeros [] k n l = let e : 0 + k ≡ k = omega arith in rw e (take_of_zeros k n l)
+take_words_and_zeros (w ∷ ws) k n l =
     let e : length (w ∷ ws) + k ≡ suc (length ws + k) = omega arith in
-    rw e (ap (λ (xs : List ℕ). w ∷ xs) (take_of_words_and_zeros_is_words_and_fewer_zeros ws k n l))
+    rw e (ap (λ (xs : List ℕ). w ∷ xs) (take_words_and_zeros ws k n l))
 
 -- fewer words of an object
-pub take_of_padded_words_is_padded_to_fewer : (count most : ℕ) (words : List ℕ) → length words ≤ count → count ≤ most
+pub take_padded_words : (count most : ℕ) (words : List ℕ) → length words ≤ count → count ≤ most
     → take count (padded_to most words) ≡ padded_to count words
-take_of_padded_words_is_padded_to_fewer count most words l m =
+take_padded_words count most words l m =
     let e : length words + (count - length words) ≡ count = omega (arith, l) in
     ap (λ (k : ℕ). take k (padded_to most words)) (sym e)
-    ∙ take_of_words_and_zeros_is_words_and_fewer_zeros words (count - length words) (most - length words) (omega (arith, m))
+    ∙ take_words_and_zeros words (count - length words) (most - length words) (omega (arith, m))
 
 -- an object has its place
-end_of_object_within_words_of_all_objects : (form : ImageForm) (object objects : ℕ) → object < objects
+object_end_within_words : (form : ImageForm) (object objects : ℕ) → object < objects
     → (limits_of form).words * object + (limits_of form).words ≤ (limits_of form).words * objects
-end_of_object_within_words_of_all_objects Small object objects l = omega (arith, l)
-end_of_object_within_words_of_all_objects Large object objects l = omega (arith, l)
+object_end_within_words Small object objects l = omega (arith, l)
+object_end_within_words Large object objects l = omega (arith, l)
 
 pub object_has_room : (g : Guest) (object objects : ℕ) → object < objects → length g.words ≡ object_words g * objects
     → object_words g * object + object_words g ≤ length g.words
-object_has_room g object objects l there = let r = end_of_object_within_words_of_all_objects g.form object objects l in omega (arith, r, there)
+object_has_room g object objects l there = let r = object_end_within_words g.form object objects l in omega (arith, r, there)
 
 -- words take the place of as many
-length_is_unchanged_after_words_replaced : (all words : List ℕ) (start count : ℕ) → length words ≤ count → start + count ≤ length all
+replaced_length_same : (all words : List ℕ) (start count : ℕ) → length words ≤ count → start + count ≤ length all
     → length (take start all ++ (padded_to count words ++ drop (start + count) all)) ≡ length all
-length_is_unchanged_after_words_replaced all words start count few there =
+replaced_length_same all words start count few there =
     let front : List ℕ = take start all in
     let back : List ℕ = drop (start + count) all in
     omega (
@@ -126,9 +127,9 @@ length_is_unchanged_after_words_replaced all words start count few there =
       there,
     )
 
-pub with_object_keeps_number_of_words : (g : Guest) (object : ℕ) (words : List ℕ) → length words ≤ object_words g
-    → object_words g * object + object_words g ≤ length g.words → length (with_object g object words).words ≡ length g.words
-with_object_keeps_number_of_words g object words few there = length_is_unchanged_after_words_replaced g.words words (object_words g * object) (object_words g) few there
+pub with_object_word_count : (g : Guest) (object : ℕ) (words : List ℕ) → length words ≤ object_words g
+    → object_words g * object + object_words g ≤ length g.words → length (with_object_line g object words).words ≡ length g.words
+with_object_word_count g object words few there = replaced_length_same g.words words (object_words g * object) (object_words g) few there
 
 -- what an item adds to a guest
 pub record Adds (s : Seen) (item : Item) (g h : Guest) : Type 0 where
@@ -156,7 +157,7 @@ adds_if_guest_unchanged s item g h c d n e = subst (Adds s item g) e
     (record { form = refl; code = omega (arith, c); bytes = omega (arith, d); entries = omega (arith, n); words = refl; fit = λ fits k m all. all })
 
 pub put_adds_item : (s : Seen) (a : ℕ) (item : Item) (g h : Guest) → HasFewWords g.form item → length g.words ≡ object_words g * s.objects
-    → put s a item g ≡ Ok h → Adds s item g h
+    → put_word_in s a item g ≡ Ok h → Adds s item g h
 put_adds_item s a (Code words) g h few there e = adds_if_code_appended s (Code words) g h words refl refl refl (ok_is_injective _ h e)
 put_adds_item s a (BranchTo op rs1 rs2 label) g h few there e =
     let b = parts_of_ok_bind (distance_to s (negsuc 4095) (pos 4094) a label) _ h e in
@@ -165,7 +166,7 @@ put_adds_item s a (JumpTo rd label) g h few there e =
     let b = parts_of_ok_bind (distance_to s (negsuc 1048575) (pos 1048574) a label) _ h e in
     adds_if_code_appended s (JumpTo rd label) g h _ refl refl refl (ok_is_injective _ h b.2)
 put_adds_item s a (LoadAddress rd label) g h few there e =
-    let b = parts_of_ok_bind (value_of s label) _ h e in
+    let b = parts_of_ok_bind (operand_value s label) _ h e in
     adds_if_code_appended s (LoadAddress rd label) g h _ refl refl refl (ok_is_injective _ h b.2)
 put_adds_item s a (Filled bytes) g h few there e = subst (Adds s (Filled bytes) g) (ok_is_injective _ h e) (record {
   form = refl;
@@ -177,7 +178,7 @@ put_adds_item s a (Filled bytes) g h few there e = subst (Adds s (Filled bytes) 
 })
 put_adds_item s a (Entry label) g h few there e =
     let b = parts_of_ok_bind (text_address s label) _ h e in
-    let t = test_and_value_of_ok_unless (nat_lt b.0 (code_start + s.code)) WrongSection _ h b.2 in
+    let t = ok_unless_parts (nat_lt b.0 (code_start + s.code)) WrongSection _ h b.2 in
     let below : b.0 < code_start + s.code = ltb-true b.0 (code_start + s.code) t.0 in
     subst (Adds s (Entry label) g) t.1 (record {
       form = refl;
@@ -185,18 +186,18 @@ put_adds_item s a (Entry label) g h few there e =
       bytes = omega arith;
       entries = length-append g.entries (b.0 ∷ []);
       words = refl;
-      fit = λ fits n m all. let p = text_address_is_text_place s label b.0 fits b.1 in
-          all_by_recursion_after_push (IsPlace n) g.entries b.0 all (record { aligned = p.0; low = p.1; high = omega (arith, below, m) });
+      fit = λ fits n m all. let p = text_address_is_place s label b.0 fits b.1 in
+          all_of_push (IsPlace n) g.entries b.0 all (record { aligned = p.0; low = p.1; high = omega (arith, below, m) });
     })
 put_adds_item s a (First object words) g h few there e =
-    let t = test_and_value_of_ok_unless (nat_lt object s.objects) BadCount _ h e in
+    let t = ok_unless_parts (nat_lt object s.objects) BadCount _ h e in
     let below : object < s.objects = ltb-true object s.objects t.0 in
     subst (Adds s (First object words) g) t.1 (record {
       form = refl;
       code = omega arith;
       bytes = omega arith;
       entries = omega arith;
-      words = with_object_keeps_number_of_words g object words few (object_has_room g object s.objects below there);
+      words = with_object_word_count g object words few (object_has_room g object s.objects below there);
       fit = λ fits k m all. all;
     })
 put_adds_item s a Enlarged g h few there e = adds_if_guest_unchanged s Enlarged g h refl refl refl (ok_is_injective _ h e)
@@ -206,20 +207,20 @@ put_adds_item s a Nothing g h few there e = adds_if_guest_unchanged s Nothing g 
 
 -- the form stays, and the number of words
 pub put_keeps_form : (s : Seen) (a : ℕ) (item : Item) (g h : Guest) → HasFewWords g.form item → length g.words ≡ object_words g * s.objects
-    → put s a item g ≡ Ok h → h.form ≡ g.form
+    → put_word_in s a item g ≡ Ok h → h.form ≡ g.form
 put_keeps_form s a item g h few there e = (put_adds_item s a item g h few there e).form
 
 pub put_keeps_word_count : (s : Seen) (a : ℕ) (item : Item) (g h : Guest) → HasFewWords g.form item → length g.words ≡ object_words g * s.objects
-    → put s a item g ≡ Ok h → length h.words ≡ object_words h * s.objects
+    → put_word_in s a item g ≡ Ok h → length h.words ≡ object_words h * s.objects
 put_keeps_word_count s a item g h few there e =
     let a = put_adds_item s a item g h few there e in
     a.words ∙ there ∙ ap (λ (f : ImageForm). (limits_of f).words * s.objects) (sym a.form)
 
 -- what holds of all holds of one
-pub get_or_has_property_of_all : {X : Type 0} (P : X → Type 0) (xs : List X) (i : ℕ) (d : X) → i < length xs → AllByRecursion P xs → P (get_or xs i d)
-get_or_has_property_of_all P [] i d l h = absurd (omega (arith, l))
-get_or_has_property_of_all P (y ∷ ys) zero d l h = h.0
-get_or_has_property_of_all P (y ∷ ys) (suc i) d l h = get_or_has_property_of_all P ys i d (omega (arith, l)) h.1
+pub get_or_has_property : {X : Type 0} (P : X → Type 0) (xs : List X) (i : ℕ) (d : X) → i < length xs → AllByRecursion P xs → P (get_or xs i d)
+get_or_has_property P [] i d l h = absurd (omega (arith, l))
+get_or_has_property P (y ∷ ys) zero d l h = h.0
+get_or_has_property P (y ∷ ys) (suc i) d l h = get_or_has_property P ys i d (omega (arith, l)) h.1
 
 drop_begins_with_get_or : {X : Type 0} (xs : List X) (i : ℕ) (d : X) → i < length xs → drop i xs ≡ get_or xs i d ∷ drop (i + 1) xs
 drop_begins_with_get_or [] i d l = absurd (omega (arith, l))
@@ -229,24 +230,24 @@ drop_begins_with_get_or (y ∷ ys) (suc i) d l =
     rw n (drop_begins_with_get_or ys i d (omega (arith, l)))
 
 -- one step, and those that follow
-pub second_pass_of_rest_step_after_put : (s : Seen) (xs : List Placed) (i : ℕ) (x : Placed) (g h : Guest) (whole : Result Guest Fault) → i < length xs
-    → x ≡ get_or xs i x → put s x.address x.item g ≡ Ok h →
+pub second_pass_put_step : (s : Seen) (xs : List Placed) (i : ℕ) (x : Placed) (g h : Guest) (whole : Result Guest Fault) → i < length xs
+    → x ≡ get_or xs i x → put_word_in s x.address x.item g ≡ Ok h →
     second_pass s (drop i xs) g ≡ whole → second_pass s (drop (i + 1) xs) h ≡ whole
-second_pass_of_rest_step_after_put s xs i x g h whole l there e whole_is =
+second_pass_put_step s xs i x g h whole l there e whole_is =
     let cut : drop i xs ≡ x ∷ drop (i + 1) xs = drop_begins_with_get_or xs i x l ∙ ap (λ (y : Placed). y ∷ drop (i + 1) xs) (sym there) in
     sym (ap (λ (l : List Placed). second_pass s l g) cut ∙ rw e refl) ∙ whole_is
 
 -- a step that is refused
-pub second_pass_stops_at_refused_put : {X : Type 0} (view : X → Guest) (s : Seen) (xs : List Placed) (i : ℕ) (x : Placed) (g state : Guest) (refusal : Refusal)
+pub second_pass_put_refused : {X : Type 0} (view : X → Guest) (s : Seen) (xs : List Placed) (i : ℕ) (x : Placed) (g state : Guest) (refusal : Refusal)
     (error : AsmErr) (whole : Result Guest Fault) → i < length xs → x ≡ get_or xs i x → error ≡ refused x.line refusal →
-    Makes {A = Unit {0}} state (Err refusal) (put s x.address x.item g) → second_pass s (drop i xs) g ≡ whole
-    → Answers view (Err error) whole
-second_pass_stops_at_refused_put view s xs i x g state refusal error whole l there is e whole_is =
+    MakesOrFaults {A = Unit {0}} state (Err refusal) (put_word_in s x.address x.item g) → second_pass s (drop i xs) g ≡ whole
+    → AnswersSource view (Err error) whole
+second_pass_put_refused view s xs i x g state refusal error whole l there is e whole_is =
     let cut : drop i xs ≡ x ∷ drop (i + 1) xs = drop_begins_with_get_or xs i x l ∙ ap (λ (y : Placed). y ∷ drop (i + 1) xs) (sym there) in
     let again : second_pass s (x ∷ drop (i + 1) xs) g ≡ whole = sym (ap (λ (l : List Placed). second_pass s l g) cut) ∙ whole_is in
-    subst (λ r. Answers view (Err r) whole) (sym is) (by_refusal refusal (put s x.address x.item g) e again)
+    subst (λ r. AnswersSource view (Err r) whole) (sym is) (by_refusal refusal (put_word_in s x.address x.item g) e again)
   where
-    by_refusal : (r : Refusal) (step : Result Guest Cause) → Makes {A = Unit {0}} state (Err r) step
-        → (at_line x.line step >>= λ h. second_pass s (drop (i + 1) xs) h) ≡ whole → Answers view (Err (refused x.line r)) whole
+    by_refusal : (r : Refusal) (step : Result Guest Cause) → MakesOrFaults {A = Unit {0}} state (Err r) step
+        → (at_line x.line step >>= λ h. second_pass s (drop (i + 1) xs) h) ≡ whole → AnswersSource view (Err (refused x.line r)) whole
     by_refusal (Faulty cause) step m k = sym k ∙ rw m refl
     by_refusal NoMem step m k = tt

@@ -22,3 +22,4 @@ mod Uppers
 mod Law
 mod RowTests
 mod LabelValues
+pub mod CallerLemmas

@@ -5,12 +5,12 @@ use Rattle.ir_asm.specs.declared.form.Section.TheVariants.{Text}
 use Rattle.ir_asm.specs.declared.form.Form.{Form}
 use Rattle.ir_asm.specs.declared.item.Operand.{Operand}
 use Rattle.ir_asm.specs.declared.item.Item.TheVariants.{Code}
-use Rattle.ir_asm.specs.Text.{before, trim, is_nil}
+use Rattle.ir_asm.specs.Text.{text_before, trim, is_nil}
 use Rattle.ir_image.specs.declared.form.ImageForm.TheVariants.{Small}
 use Rattle.ir_asm.specs.Forms.{form_named, in_image, stands_in}
 use Rattle.ir_asm.specs.Operands.{operands_of}
-use Rattle.ir_asm.specs.Items.{item_of}
-use Rattle.ir_asm.specs.Source.{line_of, name_of, operand_texts, is_source_byte, may_stand, nothing_seen, begun, with_statement, with_item, with_line}
+use Rattle.ir_asm.specs.Items.{source_item}
+use Rattle.ir_asm.specs.Source.{source_line, name_of, operand_texts, is_source_byte, may_stand, nothing_seen, begun_line, with_statement, with_source_item, with_line}
 use Rattle.ir_asm.specs.Passes.{assembled, IsWordGuest}
 use Rattle.ir_asm.proofs.Pieces.{lacks, split_without_separator}
 
@@ -20,21 +20,21 @@ pub record Says (text st : List ℕ) (word : ℕ) : Type 0 where
   pub xs : List Operand
   pub feed : lacks 10 text ≡ true
   pub source : list_all is_source_byte text ≡ true
-  pub colon : lacks 58 (before 35 text) ≡ true
-  pub trimmed : trim (before 35 text) ≡ st
+  pub colon : lacks 58 (text_before 35 text) ≡ true
+  pub trimmed : trim (text_before 35 text) ≡ st
   pub some : is_nil st ≡ false
   pub named : form_named (name_of st) ≡ Some form
   pub stands : may_stand (stands_in form) Text ≡ true
   pub read : operands_of (in_image Small form) (operand_texts st) ≡ Ok xs
-  pub means : item_of (in_image Small form) xs ≡ Code (word ∷ [])
+  pub means : source_item (in_image Small form) xs ≡ Code (word ∷ [])
 
-with_statement_places_said_word : (text st : List ℕ) (word : ℕ) (s : Says text st word)
-    → with_statement 1 st nothing_seen ≡ with_item 1 (Code (word ∷ [])) (begun nothing_seen)
-with_statement_places_said_word text st word s = rw (s.some, s.named) (rw (s.stands, s.read) (rw (s.means) refl))
+statement_places_word : (text st : List ℕ) (word : ℕ) (s : Says text st word)
+    → with_statement 1 st nothing_seen ≡ with_source_item 1 (Code (word ∷ [])) (begun_line nothing_seen)
+statement_places_word text st word s = rw (s.some, s.named) (rw (s.stands, s.read) (rw (s.means) refl))
 
-with_line_places_said_word : (text st : List ℕ) (word : ℕ) (s : Says text st word)
-    → with_line 1 (line_of text) nothing_seen ≡ with_item 1 (Code (word ∷ [])) (begun nothing_seen)
-with_line_places_said_word text st word s = rw (s.source, split_without_separator 58 (before 35 text) s.colon) (rw s.trimmed (with_statement_places_said_word text st word s))
+line_places_word : (text st : List ℕ) (word : ℕ) (s : Says text st word)
+    → with_line 1 (source_line text) nothing_seen ≡ with_source_item 1 (Code (word ∷ [])) (begun_line nothing_seen)
+line_places_word text st word s = rw (s.source, split_without_separator 58 (text_before 35 text) s.colon) (rw s.trimmed (statement_places_word text st word s))
 
-pub line_that_says_word_assembles : (text st : List ℕ) (word : ℕ) (s : Says text st word) → IsWordGuest (assembled text) word
-line_that_says_word_assembles text st word s = rw (split_without_separator 10 text s.feed) (rw (with_line_places_said_word text st word s) refl)
+pub said_word_assembles : (text st : List ℕ) (word : ℕ) (s : Says text st word) → IsWordGuest (assembled text) word
+said_word_assembles text st word s = rw (split_without_separator 10 text s.feed) (rw (line_places_word text st word s) refl)

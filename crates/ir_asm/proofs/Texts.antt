@@ -4,7 +4,7 @@ use Rattle.std.specs.Prelude.{map, if◌then◌else◌}
 use Rattle.ir_asm.specs.declared.cause.Cause.{Cause}
 use Rattle.ir_asm.specs.declared.form.Form.{Form}
 use Rattle.ir_asm.specs.declared.item.Operand.{Operand}
-use Rattle.ir_asm.specs.Faults.{◌>>=◌, Gives}
+use Rattle.ir_asm.specs.Faults.{◌>>=◌, YieldsOrFaults}
 use Rattle.ir_asm.specs.declared.refusal.Refusal.{Refusal}
 use Rattle.ir_asm.specs.declared.refusal.Refusal.TheVariants.{Faulty, NoMem}
 use Rattle.ir_asm.specs.Forms.{kind_at}
@@ -35,21 +35,21 @@ onto_read_all_step form place done x text texts e = rw e (by_rest (read_all form
     by_rest (Err e) = refl
 
 -- a fault of an operand
-pub onto_read_all_of_faulty_operand : (form : Form) (place : ℕ) (done : List Operand) (cause : Cause) (text : List ℕ) (texts : List (List ℕ))
+pub onto_faulty_operand : (form : Form) (place : ℕ) (done : List Operand) (cause : Cause) (text : List ℕ) (texts : List (List ℕ))
     → read (kind_at form place) text ≡ Err cause → onto done (read_all form place (text ∷ texts)) ≡ Err cause
-onto_read_all_of_faulty_operand form place done cause text texts e = rw e refl
+onto_faulty_operand form place done cause text texts e = rw e refl
 
 pub onto_nil : (r : Result (List Operand) Cause) → onto [] r ≡ r
 onto_nil (Ok xs) = refl
 onto_nil (Err e) = refl
 
 -- an operand that is refused
-pub refused_operand_refuses_all : {X : Type 0} (view : X → List Operand) (e : Refusal) (form : Form) (place : ℕ) (done : List Operand) (rest part : List ℕ)
+pub refused_operand_refuses : {X : Type 0} (view : X → List Operand) (e : Refusal) (form : Form) (place : ℕ) (done : List Operand) (rest part : List ℕ)
     (whole : Result (List Operand) Cause) →
     split 44 rest ≡ part ∷ drop 1 (split 44 rest)
-    → Gives {X = Operand} {Y = Operand} (λ x. x) (Err e) (read (kind_at form place) (trim part)) →
-    onto done (read_all form place (map trim (split 44 rest))) ≡ whole → Gives view (Err e) whole
-refused_operand_refuses_all view (Faulty cause) form place done rest part whole s g whole_is =
+    → YieldsOrFaults {X = Operand} {Y = Operand} (λ x. x) (Err e) (read (kind_at form place) (trim part)) →
+    onto done (read_all form place (map trim (split 44 rest))) ≡ whole → YieldsOrFaults view (Err e) whole
+refused_operand_refuses view (Faulty cause) form place done rest part whole s g whole_is =
     sym whole_is ∙ ap (λ (l : List (List ℕ)). onto done (read_all form place (map trim l))) s
-    ∙ onto_read_all_of_faulty_operand form place done cause (trim part) (map trim (drop 1 (split 44 rest))) g
-refused_operand_refuses_all view NoMem form place done rest part whole s g whole_is = tt
+    ∙ onto_faulty_operand form place done cause (trim part) (map trim (drop 1 (split 44 rest))) g
+refused_operand_refuses view NoMem form place done rest part whole s g whole_is = tt

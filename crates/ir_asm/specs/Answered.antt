@@ -7,10 +7,10 @@ use Rattle.ir_asm.specs.declared.refusal.Refusal.TheVariants as refusal
 use Rattle.ir_asm.specs.Source.{Fault}
 
 -- an answer, seen by a view, is what the passes give or their first fault, unless memory ran out
-abbrev pub Answers : {X Y : Type 0} → (X → Y) → Result X AsmErr → Result Y Fault → Type 0
-Answers view (Ok x) passes = passes ≡ Ok (view x)
-Answers view (Err (At line cause)) passes = passes ≡ Err (record { line = line; cause = cause })
-Answers view (Err NoMem) passes = Unit {0}
+abbrev pub AnswersSource : {X Y : Type 0} → (X → Y) → Result X AsmErr → Result Y Fault → Type 0
+AnswersSource view (Ok x) passes = passes ≡ Ok (view x)
+AnswersSource view (Err (At line cause)) passes = passes ≡ Err (record { line = line; cause = cause })
+AnswersSource view (Err NoMem) passes = Unit {0}
 
 -- what was refused in a line
 abbrev pub refused : ℕ → Refusal → AsmErr

@@ -16,17 +16,17 @@ or_cause cause (Some x) = Ok x
 or_cause cause None = Err cause
 
 -- a step after a test, which is a fault if it fails
-abbrev pub unless : {A : Type 0} → Bool → Cause → Result A Cause → Result A Cause
-unless b cause r = if b then r else Err cause
+abbrev pub fault_unless : {A : Type 0} → Bool → Cause → Result A Cause → Result A Cause
+fault_unless b cause r = if b then r else Err cause
 
 -- an answer, seen by a view, is what a step gives, unless memory ran out
-abbrev pub Gives : {X Y : Type 0} → (X → Y) → Result X Refusal → Result Y Cause → Type 0
-Gives view (Ok x) step = step ≡ Ok (view x)
-Gives view (Err (Faulty cause)) step = step ≡ Err cause
-Gives view (Err NoMem) step = Unit {0}
+abbrev pub YieldsOrFaults : {X Y : Type 0} → (X → Y) → Result X Refusal → Result Y Cause → Type 0
+YieldsOrFaults view (Ok x) step = step ≡ Ok (view x)
+YieldsOrFaults view (Err (Faulty cause)) step = step ≡ Err cause
+YieldsOrFaults view (Err NoMem) step = Unit {0}
 
 -- a state is what a step gives, unless memory ran out; a fault leaves it open
-abbrev pub Makes : {A S : Type 0} → S → Result A Refusal → Result S Cause → Type 0
-Makes state (Ok x) step = step ≡ Ok state
-Makes state (Err (Faulty cause)) step = step ≡ Err cause
-Makes state (Err NoMem) step = Unit {0}
+abbrev pub MakesOrFaults : {A S : Type 0} → S → Result A Refusal → Result S Cause → Type 0
+MakesOrFaults state (Ok x) step = step ≡ Ok state
+MakesOrFaults state (Err (Faulty cause)) step = step ≡ Err cause
+MakesOrFaults state (Err NoMem) step = Unit {0}

@@ -80,5 +80,5 @@ abbrev pub upper_of : ℤ → UpperImmediate
 upper_of z = record { value = 2 ^ 12 * low_bits 20 z; in_range = fits_20 z; whole = shifted (low_bits 20 z) }
 
 -- the amount of a shift
-abbrev pub amount_of : ℤ → ShiftAmount
-amount_of z = record { bits = low_bits 5 z; in_range = fits_5 z }
+abbrev pub shift_amount : ℤ → ShiftAmount
+shift_amount z = record { bits = low_bits 5 z; in_range = fits_5 z }

@@ -6,7 +6,9 @@ use Rattle.ir_image.specs.Guest.{limits_of, memory_size}
 use Rattle.ir_asm.specs.declared.form.Section.{Section}
 use Rattle.ir_asm.specs.declared.form.Section.TheVariants.{Text, Data}
 use Rattle.ir_asm.specs.declared.form.Form.{Form}
-use Rattle.ir_asm.specs.declared.form.Form.TheVariants.{Registers, Immediates, Shifts, Loads, JumpsTo, Stores, Branches, Jumps, LoadsUpper, AddsUpper, Fences, Calls, Breaks, DoesNothing, LoadsValue, Enlarges, Sections, Words, Bytes, Space, Thread, Objects, Object}
+use Rattle.ir_asm.specs.declared.form.Form.TheVariants.{Registers, Immediates, Shifts, Loads, JumpsTo, Stores, Branches, Jumps, LoadsUpper}
+use Rattle.ir_asm.specs.declared.form.Form.TheVariants.{AddsUpper, Fences, Calls, Breaks, DoesNothing, LoadsValue, Enlarges, Sections}
+use Rattle.ir_asm.specs.declared.form.Form.TheVariants.{Words, Bytes, Space, Thread, Objects, Object}
 use Rattle.ir_asm.specs.declared.form.Kind.{Kind}
 use Rattle.ir_asm.specs.declared.form.Kind.TheVariants.{Register, Number, Address, Target, Value, Label}
 use Rattle.ir_disasm.specs.Names.{branch_name, load_name, store_name, immediate_name, shift_name, operation_name}

@@ -6,9 +6,11 @@ use Rattle.ir_isa.specs.declared.inst.Inst.{Inst}
 use Rattle.ir_isa.specs.declared.inst.Inst.TheVariants.{Lui, Auipc, Jal, Jalr, Branch, Load, Store, OpImm, Shift, Op, Fence, Ecall, Ebreak}
 use Rattle.ir_isa.specs.declared.inst.ImmediateOp.TheVariants.{Addi}
 use Rattle.ir_isa.specs.declared.inst.Register.{Register}
-use Rattle.ir_asm.specs.Fields.{register_of, immediate_of, branch_offset_of, jump_offset_of, upper_of, amount_of}
+use Rattle.ir_asm.specs.Fields.{register_of, immediate_of, branch_offset_of, jump_offset_of, upper_of, shift_amount}
 use Rattle.ir_asm.specs.declared.form.Form.{Form}
-use Rattle.ir_asm.specs.declared.form.Form.TheVariants.{Registers, Immediates, Shifts, Loads, JumpsTo, Stores, Branches, Jumps, LoadsUpper, AddsUpper, Fences, Calls, Breaks, DoesNothing, LoadsValue, Enlarges, Sections, Words, Bytes, Space, Thread, Objects, Object}
+use Rattle.ir_asm.specs.declared.form.Form.TheVariants.{Registers, Immediates, Shifts, Loads, JumpsTo, Stores, Branches, Jumps, LoadsUpper}
+use Rattle.ir_asm.specs.declared.form.Form.TheVariants.{AddsUpper, Fences, Calls, Breaks, DoesNothing, LoadsValue, Enlarges, Sections}
+use Rattle.ir_asm.specs.declared.form.Form.TheVariants.{Words, Bytes, Space, Thread, Objects, Object}
 use Rattle.ir_asm.specs.declared.item.Operand.{Operand}
 use Rattle.ir_asm.specs.declared.item.Operand.TheVariants.{Index, Integer, Offset, Symbol}
 use Rattle.ir_asm.specs.declared.item.Item.{Item}
@@ -30,32 +32,32 @@ values bits (Integer z ∷ xs) = low_bits bits z ∷ values bits xs
 values bits (x ∷ xs) = values bits xs
 
 -- the item of a form with these operands
-abbrev pub item_of : Form → List Operand → Item
-item_of (Registers op) (Index rd ∷ Index rs1 ∷ Index rs2 ∷ []) = instruction (Op op rd rs1 rs2)
-item_of (Immediates op) (Index rd ∷ Index rs1 ∷ Integer imm ∷ []) = instruction (OpImm op rd rs1 (immediate_of imm))
-item_of (Shifts op) (Index rd ∷ Index rs1 ∷ Integer n ∷ []) = instruction (Shift op rd rs1 (amount_of n))
-item_of (Loads op) (Index rd ∷ Offset imm rs1 ∷ []) = instruction (Load op rd rs1 (immediate_of imm))
-item_of JumpsTo (Index rd ∷ Offset imm rs1 ∷ []) = instruction (Jalr rd rs1 (immediate_of imm))
-item_of (Stores op) (Index rs2 ∷ Offset imm rs1 ∷ []) = instruction (Store op rs1 rs2 (immediate_of imm))
-item_of (Branches op) (Index rs1 ∷ Index rs2 ∷ Integer z ∷ []) = instruction (Branch op rs1 rs2 (branch_offset_of z))
-item_of (Branches op) (Index rs1 ∷ Index rs2 ∷ Symbol label ∷ []) = BranchTo op rs1 rs2 label
-item_of Jumps (Index rd ∷ Integer z ∷ []) = instruction (Jal rd (jump_offset_of z))
-item_of Jumps (Index rd ∷ Symbol label ∷ []) = JumpTo rd label
-item_of LoadsUpper (Index rd ∷ Integer z ∷ []) = instruction (Lui rd (upper_of z))
-item_of AddsUpper (Index rd ∷ Integer z ∷ []) = instruction (Auipc rd (upper_of z))
-item_of Fences [] = instruction (Fence (register_of 0) (register_of 0) (immediate_of (pos 0x0FF)))
-item_of Fences (Index rd ∷ Index rs1 ∷ Integer z ∷ []) = instruction (Fence rd rs1 (immediate_of z))
-item_of Calls [] = instruction Ecall
-item_of Breaks [] = instruction Ebreak
-item_of DoesNothing [] = instruction (OpImm Addi (register_of 0) (register_of 0) (immediate_of (pos 0)))
-item_of LoadsValue (Index rd ∷ Integer z ∷ []) = Code (li_words rd (low_bits 32 z))
-item_of LoadsValue (Index rd ∷ Symbol label ∷ []) = LoadAddress rd label
-item_of Enlarges [] = Enlarged
-item_of (Sections section) [] = Within section
-item_of Words xs = Code (values 32 xs)
-item_of Bytes xs = Filled (values 8 xs)
-item_of Space (Integer z ∷ []) = Filled (replicate (low_bits 32 z) 0)
-item_of Thread (Symbol label ∷ []) = Entry label
-item_of (Objects image) (Integer z ∷ []) = Count (low_bits 32 z)
-item_of (Object image) (Integer z ∷ xs) = First (low_bits 32 z) (values 32 xs)
-item_of form xs = Nothing
+abbrev pub source_item : Form → List Operand → Item
+source_item (Registers op) (Index rd ∷ Index rs1 ∷ Index rs2 ∷ []) = instruction (Op op rd rs1 rs2)
+source_item (Immediates op) (Index rd ∷ Index rs1 ∷ Integer imm ∷ []) = instruction (OpImm op rd rs1 (immediate_of imm))
+source_item (Shifts op) (Index rd ∷ Index rs1 ∷ Integer n ∷ []) = instruction (Shift op rd rs1 (shift_amount n))
+source_item (Loads op) (Index rd ∷ Offset imm rs1 ∷ []) = instruction (Load op rd rs1 (immediate_of imm))
+source_item JumpsTo (Index rd ∷ Offset imm rs1 ∷ []) = instruction (Jalr rd rs1 (immediate_of imm))
+source_item (Stores op) (Index rs2 ∷ Offset imm rs1 ∷ []) = instruction (Store op rs1 rs2 (immediate_of imm))
+source_item (Branches op) (Index rs1 ∷ Index rs2 ∷ Integer z ∷ []) = instruction (Branch op rs1 rs2 (branch_offset_of z))
+source_item (Branches op) (Index rs1 ∷ Index rs2 ∷ Symbol label ∷ []) = BranchTo op rs1 rs2 label
+source_item Jumps (Index rd ∷ Integer z ∷ []) = instruction (Jal rd (jump_offset_of z))
+source_item Jumps (Index rd ∷ Symbol label ∷ []) = JumpTo rd label
+source_item LoadsUpper (Index rd ∷ Integer z ∷ []) = instruction (Lui rd (upper_of z))
+source_item AddsUpper (Index rd ∷ Integer z ∷ []) = instruction (Auipc rd (upper_of z))
+source_item Fences [] = instruction (Fence (register_of 0) (register_of 0) (immediate_of (pos 0x0FF)))
+source_item Fences (Index rd ∷ Index rs1 ∷ Integer z ∷ []) = instruction (Fence rd rs1 (immediate_of z))
+source_item Calls [] = instruction Ecall
+source_item Breaks [] = instruction Ebreak
+source_item DoesNothing [] = instruction (OpImm Addi (register_of 0) (register_of 0) (immediate_of (pos 0)))
+source_item LoadsValue (Index rd ∷ Integer z ∷ []) = Code (li_words rd (low_bits 32 z))
+source_item LoadsValue (Index rd ∷ Symbol label ∷ []) = LoadAddress rd label
+source_item Enlarges [] = Enlarged
+source_item (Sections section) [] = Within section
+source_item Words xs = Code (values 32 xs)
+source_item Bytes xs = Filled (values 8 xs)
+source_item Space (Integer z ∷ []) = Filled (replicate (low_bits 32 z) 0)
+source_item Thread (Symbol label ∷ []) = Entry label
+source_item (Objects image) (Integer z ∷ []) = Count (low_bits 32 z)
+source_item (Object image) (Integer z ∷ xs) = First (low_bits 32 z) (values 32 xs)
+source_item form xs = Nothing

@@ -18,13 +18,13 @@ use Rattle.ir_isa.specs.declared.inst.RegisterOp.{RegisterOp}
 use Rattle.ir_isa.specs.declared.inst.RegisterOp.TheVariants.{Add, Sub, Sll, Slt, Sltu, Xor, Srl, Sra, Or, And, Mul, Mulh, Mulhsu, Mulhu, Div, Divu, Rem, Remu}
 
 -- names and their numbers, counted from one on
-abbrev pub counted : ℕ → List (List ℕ) → List (List ℕ × ℕ)
-counted n [] = []
-counted n (name ∷ names) = (name, n) ∷ counted (n + 1) names
+abbrev pub counted_names : ℕ → List (List ℕ) → List (List ℕ × ℕ)
+counted_names n [] = []
+counted_names n (name ∷ names) = (name, n) ∷ counted_names (n + 1) names
 
 -- the names of the calling convention, with a second one for s0
 abbrev pub abi_rows : List (List ℕ × ℕ)
-abi_rows = counted 0 register_names ++ (codes "fp", 8) ∷ []
+abi_rows = counted_names 0 register_names ++ (codes "fp", 8) ∷ []
 
 -- the names by number
 abbrev pub x_rows : List (List ℕ × ℕ)
@@ -47,13 +47,13 @@ abbrev pub named : {A : Type 0} → List (List ℕ × A) → List ℕ → Option
 named rows name = lookup (bytes_eq name) rows
 
 -- the first of two that there is
-abbrev pub first_of : {A : Type 0} → Option A → Option A → Option A
-first_of (Some x) other = Some x
-first_of None other = other
+abbrev pub first_name : {A : Type 0} → Option A → Option A → Option A
+first_name (Some x) other = Some x
+first_name None other = other
 
 -- the register of a name
-abbrev pub register : List ℕ → Option Register
-register name = option_map register_of (named register_rows name)
+abbrev pub register_named : List ℕ → Option Register
+register_named name = option_map register_of (named register_rows name)
 
 -- all branches
 abbrev pub branch_ops : List BranchOp

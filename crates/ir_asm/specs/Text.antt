@@ -4,13 +4,13 @@ use Rattle.std.specs.List.{slice_split, list_all}
 use Rattle.ir_numerals.specs.Numerals.{number_in}
 
 -- a space or a tab
-abbrev pub is_blank : ℕ → Bool
-is_blank b = (b == 32) || (b == 9)
+abbrev pub is_source_blank : ℕ → Bool
+is_source_blank b = (b == 32) || (b == 9)
 
 -- the bytes from the first that is no blank
-abbrev pub skip_blanks : List ℕ → List ℕ
-skip_blanks [] = []
-skip_blanks (b ∷ bs) = if is_blank b then skip_blanks bs else b ∷ bs
+abbrev pub skip_source_blanks : List ℕ → List ℕ
+skip_source_blanks [] = []
+skip_source_blanks (b ∷ bs) = if is_source_blank b then skip_source_blanks bs else b ∷ bs
 
 -- the list is empty
 abbrev pub is_nil : List ℕ → Bool
@@ -20,11 +20,11 @@ is_nil (b ∷ bs) = false
 -- the bytes up to the last that is no blank
 abbrev pub trim_end : List ℕ → List ℕ
 trim_end [] = []
-trim_end (b ∷ bs) = if is_blank b && is_nil (trim_end bs) then [] else b ∷ trim_end bs
+trim_end (b ∷ bs) = if is_source_blank b && is_nil (trim_end bs) then [] else b ∷ trim_end bs
 
 -- the bytes without the blanks round them
 abbrev pub trim : List ℕ → List ℕ
-trim bs = trim_end (skip_blanks bs)
+trim bs = trim_end (skip_source_blanks bs)
 
 -- the parts between the bytes c
 abbrev pub split : ℕ → List ℕ → List (List ℕ)
@@ -41,14 +41,14 @@ from p [] = []
 from p (b ∷ bs) = if p b then b ∷ bs else from p bs
 
 -- what comes before the first byte c
-abbrev pub before : ℕ → List ℕ → List ℕ
-before c bs = until (λ b. b == c) bs
+abbrev pub text_before : ℕ → List ℕ → List ℕ
+text_before c bs = until (λ b. b == c) bs
 
 -- ---- names
 
 -- a decimal digit
-abbrev pub is_digit : ℕ → Bool
-is_digit b = nat_le 48 b && nat_le b 57
+abbrev pub is_source_digit : ℕ → Bool
+is_source_digit b = nat_le 48 b && nat_le b 57
 
 -- a letter of either case
 abbrev pub is_letter : ℕ → Bool
@@ -60,12 +60,12 @@ begins_name b = is_letter b || (b == 95)
 
 -- a byte that a name may go on with
 abbrev pub goes_on_name : ℕ → Bool
-goes_on_name b = begins_name b || is_digit b
+goes_on_name b = begins_name b || is_source_digit b
 
 -- a name of at most 64 bytes
-abbrev pub is_name : List ℕ → Bool
-is_name [] = false
-is_name (b ∷ bs) = begins_name b && (list_all goes_on_name bs && nat_le (length bs) 63)
+abbrev pub is_source_name : List ℕ → Bool
+is_source_name [] = false
+is_source_name (b ∷ bs) = begins_name b && (list_all goes_on_name bs && nat_le (length bs) 63)
 
 -- ---- numbers
 
@@ -79,5 +79,5 @@ first_byte [] = 0
 first_byte (b ∷ bs) = b
 
 -- a number with or without a minus sign
-abbrev pub number : List ℕ → Option ℤ
-number ds = if first_byte ds == 45 then option_map (λ n. neg_ℤ (pos n)) (natural (drop 1 ds)) else option_map pos (natural ds)
+abbrev pub source_number : List ℕ → Option ℤ
+source_number ds = if first_byte ds == 45 then option_map (λ n. neg_ℤ (pos n)) (natural (drop 1 ds)) else option_map pos (natural ds)

@@ -4,8 +4,8 @@ ghost use Rattle.std.specs.Prelude.{◌≡◌, IfOk, Ok};
 ghost use Rattle.std.specs.List.{AllByRecursion};
 ghost use Rattle.ir_image.specs.Bounds.{IsByte, IsWord};
 ghost use Rattle.ir_asm.specs.Forms.{stated};
-ghost use Rattle.ir_asm.specs.Passes.{guest_of, assembled, labels_of};
-ghost use Rattle.ir_asm.specs.Answered.{Answers};
+ghost use Rattle.ir_asm.specs.Passes.{assembled_guest, assembled, labels_of};
+ghost use Rattle.ir_asm.specs.Answered.{AnswersSource};
 ghost use Rattle.ir_asm.specs.Bounds.{HaveFewWords, HasLimits};
 
 use crate::asm_err::AsmErr;
@@ -50,7 +50,7 @@ fn image(alloc: Global, parts: Parts) -> Result<Image, AllocError>
 // What was placed, and an entry where there is none.
 fn parts_of(alloc: Global, scan: &Scan) -> Result<Parts, AsmErr>
     requires { HaveFewWords (stated scan.now.form) scan.now.placed }
-    ensures { Answers (λ p. p) result (guest_of scan.now) }
+    ensures { AnswersSource (λ p. p) result (assembled_guest scan.now) }
 {
     let mut parts = Parts::new(alloc, scan.image_form(), scan.objects)?;
     second_pass(alloc, scan, scan.placed.as_slice(), &mut parts)?;
@@ -72,7 +72,7 @@ pub struct Assembly {
 /// # Errors
 /// As of `assemble`.
 pub fn assemble_with_labels(alloc: Global, source: &str) -> Result<Assembly, AsmErr>
-    ensures image { Answers (λ a. a.image) result (assembled source.now) }
+    ensures image { AnswersSource (λ a. a.image) result (assembled source.now) }
     ensures labels { IfOk result (λ a. labels_of source.now ≡ Ok a.labels) }
 {
     let mut scan = Scan::new(alloc);
@@ -100,7 +100,7 @@ pub fn assemble_with_labels(alloc: Global, source: &str) -> Result<Assembly, Asm
 /// by itself, a second one for labels and objects; a source without code is at fault in the line after its last.
 /// Or out of memory.
 pub fn assemble(alloc: Global, source: &str) -> Result<Image, AsmErr>
-    ensures { Answers (λ i. i) result (assembled source.now) }
+    ensures { AnswersSource (λ i. i) result (assembled source.now) }
 {
     match assemble_with_labels(alloc, source) {
         Ok(assembly) => Ok(assembly.image),

@@ -1,7 +1,7 @@
 //! What can be wrong with a source.
 
 ghost use Rattle.std.specs.Prelude.{◌≡◌};
-ghost use Rattle.ir_asm.specs.Causes.{number_of};
+ghost use Rattle.ir_asm.specs.Causes.{number_of_cause};
 
 /// The fault of a line.
 #[derive(Clone, Copy, Debug, PartialEq, Eq)]
@@ -35,7 +35,7 @@ pub enum Cause {
 impl Cause {
     /// The number that the cause goes by, 1 to 12 in the order above.
     pub fn number(self) -> u8
-        ensures { result ≡ number_of self }
+        ensures { result ≡ number_of_cause self }
     {
         match self {
             Cause::BadByte => 1,

@@ -2,7 +2,7 @@
 
 ghost use Rattle.std.specs.Prelude.{◌≡◌, ◌≤◌, ◌<◌, ◌^◌, ◌*◌, ◌%◌};
 ghost use Rattle.ir_isa.specs.Fields.{sign_extended, low_bits};
-ghost use Rattle.ir_asm.specs.Fields.{even_bits, register_of, immediate_of, branch_offset_of, jump_offset_of, upper_of, amount_of};
+ghost use Rattle.ir_asm.specs.Fields.{even_bits, register_of, immediate_of, branch_offset_of, jump_offset_of, upper_of, shift_amount};
 
 use ir_isa::{BranchOffset, Immediate, JumpOffset, Register, ShiftAmount, UpperImmediate};
 
@@ -79,7 +79,7 @@ fn with_zeros(upper: u32) -> UpperImmediate
 }
 
 /// The register of a number.
-#[tactic(auto, using(crate::proofs::FieldLaws::register_is_register_of_n_if_its_number_is_n))]
+#[tactic(auto, using(crate::proofs::FieldLaws::register_of_number_is))]
 pub fn register(number: u8) -> Register
     requires { number < 32 }
     ensures { result ≡ register_of number }
@@ -88,7 +88,7 @@ pub fn register(number: u8) -> Register
 }
 
 /// The immediate of the lowest twelve bits.
-#[tactic(auto, using(crate::proofs::FieldLaws::immediate_is_immediate_of_z_if_its_value_is_low_z))]
+#[tactic(auto, using(crate::proofs::FieldLaws::immediate_of_value_is))]
 pub fn immediate(value: i64) -> Immediate
     ensures { result ≡ immediate_of value }
 {
@@ -96,7 +96,7 @@ pub fn immediate(value: i64) -> Immediate
 }
 
 /// The distance of a branch, which is even.
-#[tactic(auto, using(crate::proofs::FieldLaws::branch_offset_is_branch_offset_of_z_if_its_value_is_low_z))]
+#[tactic(auto, using(crate::proofs::FieldLaws::branch_offset_of_value))]
 pub fn branch_offset(value: i64) -> BranchOffset
     ensures { result ≡ branch_offset_of value }
 {
@@ -104,7 +104,7 @@ pub fn branch_offset(value: i64) -> BranchOffset
 }
 
 /// The distance of a jump, which is even.
-#[tactic(auto, using(crate::proofs::FieldLaws::jump_offset_is_jump_offset_of_z_if_its_value_is_low_z))]
+#[tactic(auto, using(crate::proofs::FieldLaws::jump_offset_of_value))]
 pub fn jump_offset(value: i64) -> JumpOffset
     ensures { result ≡ jump_offset_of value }
 {
@@ -112,7 +112,7 @@ pub fn jump_offset(value: i64) -> JumpOffset
 }
 
 /// The value whose upper twenty bits are the lowest of a number.
-#[tactic(auto, using(crate::proofs::FieldLaws::upper_is_upper_of_z_if_its_value_is_low_z))]
+#[tactic(auto, using(crate::proofs::FieldLaws::upper_of_value))]
 pub fn upper(value: i64) -> UpperImmediate
     ensures { result ≡ upper_of value }
 {
@@ -120,9 +120,9 @@ pub fn upper(value: i64) -> UpperImmediate
 }
 
 /// The amount of a shift.
-#[tactic(auto, using(crate::proofs::FieldLaws::amount_is_amount_of_z_if_its_bits_are_low_z))]
+#[tactic(auto, using(crate::proofs::FieldLaws::amount_of_bits))]
 pub fn amount(value: i64) -> ShiftAmount
-    ensures { result ≡ amount_of value }
+    ensures { result ≡ shift_amount value }
 {
     ShiftAmount {
         bits: low_bits(5, value) as u8,

@@ -2,9 +2,9 @@
 
 ghost use Rattle.std.specs.Prelude.{◌≡◌, ◌+◌, ◌<◌, ◌∷◌, [], map, length, IfSome, IfOk, MatchOption};
 ghost use Rattle.ir_asm.specs.Text.{split, trim};
-ghost use Rattle.ir_asm.specs.Faults.{Makes};
-ghost use Rattle.ir_asm.specs.Source.{all_but_last, line_of, lines_of, without_return, with_labels, with_statement, with_line, first_pass};
-ghost use Rattle.ir_asm.specs.Answered.{Answers};
+ghost use Rattle.ir_asm.specs.Faults.{MakesOrFaults};
+ghost use Rattle.ir_asm.specs.Source.{all_but_last, source_line, source_lines, line_without_return, with_labels, with_statement, with_line, first_pass};
+ghost use Rattle.ir_asm.specs.Answered.{AnswersSource};
 
 use crate::asm_err::{AsmErr, at_line};
 use crate::cause::Cause;
@@ -16,9 +16,9 @@ use crate::text::{before, first_part, trim};
 use std::alloc::Global;
 
 // After the labels of a line.
-#[tactic(auto, using(crate::proofs::Lines::all_but_last_keeps_part_before_split, crate::proofs::Lines::all_but_last_of_single, crate::proofs::Passing::with_labels_after_taken_label, crate::proofs::Passing::with_labels_of_refused_label))]
+#[tactic(auto, using(crate::proofs::Lines::all_but_last_of_split, crate::proofs::Lines::all_but_last_single, crate::proofs::Passing::with_labels_taken, crate::proofs::Passing::with_labels_refused))]
 fn with_labels(alloc: Global, scan: &mut Scan, text: &[u8]) -> Result<(), Refusal>
-    ensures { Makes scan.new result (with_labels (map trim (all_but_last (split 58 text.now))) scan.old) }
+    ensures { MakesOrFaults scan.new result (with_labels (map trim (all_but_last (split 58 text.now))) scan.old) }
 {
     let mut rest = text;
     while let (label, Some(tail)) = first_part(rest, b':') {
@@ -35,7 +35,7 @@ fn with_statement(
     line: usize,
     statement: &[u8],
 ) -> Result<(), Refusal>
-    ensures { Makes scan.new result (with_statement line statement.now scan.old) }
+    ensures { MakesOrFaults scan.new result (with_statement line statement.now scan.old) }
 {
     if statement.is_empty() {
         return Ok(());
@@ -47,7 +47,7 @@ fn with_statement(
 
 // After a line: its bytes, all its labels' forms, its labels, its statement.
 fn with_line(alloc: Global, scan: &mut Scan, number: usize, line: &[u8]) -> Result<(), Refusal>
-    ensures { Makes scan.new result (with_line number (line_of line.now) scan.old) }
+    ensures { MakesOrFaults scan.new result (with_line number (source_line line.now) scan.old) }
 {
     if !may_be_source(line) {
         return Err(Refusal::Faulty(Cause::BadByte));
@@ -61,9 +61,9 @@ fn with_line(alloc: Global, scan: &mut Scan, number: usize, line: &[u8]) -> Resu
 }
 
 // A line without the carriage return at its end.
-#[tactic(auto, using(crate::proofs::Passing::without_return_drops_last_return, crate::proofs::Passing::without_return_keeps_other_end))]
+#[tactic(auto, using(crate::proofs::Passing::last_return_dropped, crate::proofs::Passing::end_without_return_stays))]
 fn without_return(line: &[u8]) -> &[u8]
-    ensures { result.now ≡ without_return line.now }
+    ensures { result.now ≡ line_without_return line.now }
 {
     match line {
         [init @ .., last] if *last == b'\r' => init,
@@ -72,9 +72,9 @@ fn without_return(line: &[u8]) -> &[u8]
 }
 
 // The first line, and what follows its line feed, if it is not the last.
-#[tactic(auto, using(crate::proofs::Passing::without_returns_is_first_line_and_lines_of_rest))]
+#[tactic(auto, using(crate::proofs::Passing::without_returns_split))]
 fn first_line(text: &[u8]) -> (&[u8], Option<&[u8]>)
-    ensures lines { MatchOption result.1 (lines_of text.now ≡ result.0.now ∷ []) (λ rest. lines_of text.now ≡ result.0.now ∷ lines_of rest.now) }
+    ensures lines { MatchOption result.1 (source_lines text.now ≡ result.0.now ∷ []) (λ rest. source_lines text.now ≡ result.0.now ∷ source_lines rest.now) }
     ensures shorter { IfSome result.1 (λ rest. length rest.now < length text.now) }
 {
     match first_part(text, b'\n') {
@@ -88,8 +88,8 @@ fn first_line(text: &[u8]) -> (&[u8], Option<&[u8]>)
 /// # Errors
 /// The first fault, or out of memory.
 pub fn first_pass(alloc: Global, scan: &mut Scan, source: &[u8]) -> Result<usize, AsmErr>
-    ensures exact { Answers (λ _. scan.new) result (first_pass 1 (lines_of source.now) scan.old) }
-    ensures count { IfOk result (λ number. number ≡ length (lines_of source.now) + 1) }
+    ensures exact { AnswersSource (λ _. scan.new) result (first_pass 1 (source_lines source.now) scan.old) }
+    ensures count { IfOk result (λ number. number ≡ length (source_lines source.now) + 1) }
 {
     let mut rest = source;
     let mut more = true;

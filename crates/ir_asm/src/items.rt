@@ -3,8 +3,10 @@
 ghost use Rattle.std.specs.Prelude.{◌≡◌, ◌==◌, length, if◌then◌else◌, IfOk};
 ghost use Rattle.ir_isa.specs.Fields.{low_bits};
 ghost use Rattle.ir_image.specs.declared.form.ImageForm.{ImageForm};
-ghost use Rattle.ir_asm.specs.Items.{instruction, li_words, values, item_of};
-ghost use Rattle.ir_asm.specs.declared.form.Form.TheVariants.{Registers, Immediates, Shifts, Loads, JumpsTo, Stores, Branches, Jumps, LoadsUpper, AddsUpper, Fences, DoesNothing, LoadsValue, Enlarges, Sections, Space, Thread, Objects, Object};
+ghost use Rattle.ir_asm.specs.Items.{instruction, li_words, values, source_item};
+ghost use Rattle.ir_asm.specs.declared.form.Form.TheVariants.{Registers, Immediates, Shifts, Loads, JumpsTo, Stores, Branches, Jumps};
+ghost use Rattle.ir_asm.specs.declared.form.Form.TheVariants.{LoadsUpper, AddsUpper, Fences, DoesNothing, LoadsValue, Enlarges, Sections};
+ghost use Rattle.ir_asm.specs.declared.form.Form.TheVariants.{Space, Thread, Objects, Object};
 ghost use Rattle.ir_asm.specs.declared.item.Item.TheVariants.{Nothing};
 
 use crate::fields::{amount, branch_offset, immediate, jump_offset, low_bits, register, upper};
@@ -29,7 +31,7 @@ fn copy_name(alloc: Global, name: &Name) -> Result<Name, AllocError>
 }
 
 fn registers_item(alloc: Global, op: RegisterOp, operands: &[Operand]) -> Result<Item, AllocError>
-    ensures { IfOk result (λ i. i ≡ item_of (Registers op) operands.now) }
+    ensures { IfOk result (λ i. i ≡ source_item (Registers op) operands.now) }
 {
     match operands {
         [Operand::Index(rd), Operand::Index(rs1), Operand::Index(rs2)] => {
@@ -41,7 +43,7 @@ fn registers_item(alloc: Global, op: RegisterOp, operands: &[Operand]) -> Result
 }
 
 fn immediates_item(alloc: Global, op: ImmediateOp, operands: &[Operand]) -> Result<Item, AllocError>
-    ensures { IfOk result (λ i. i ≡ item_of (Immediates op) operands.now) }
+    ensures { IfOk result (λ i. i ≡ source_item (Immediates op) operands.now) }
 {
     match operands {
         [
@@ -57,7 +59,7 @@ fn immediates_item(alloc: Global, op: ImmediateOp, operands: &[Operand]) -> Resu
 }
 
 fn shifts_item(alloc: Global, op: ShiftOp, operands: &[Operand]) -> Result<Item, AllocError>
-    ensures { IfOk result (λ i. i ≡ item_of (Shifts op) operands.now) }
+    ensures { IfOk result (λ i. i ≡ source_item (Shifts op) operands.now) }
 {
     match operands {
         [
@@ -81,7 +83,7 @@ fn shifts_item(alloc: Global, op: ShiftOp, operands: &[Operand]) -> Result<Item,
 }
 
 fn loads_item(alloc: Global, op: LoadOp, operands: &[Operand]) -> Result<Item, AllocError>
-    ensures { IfOk result (λ i. i ≡ item_of (Loads op) operands.now) }
+    ensures { IfOk result (λ i. i ≡ source_item (Loads op) operands.now) }
 {
     match operands {
         [Operand::Index(rd), Operand::Offset(imm, rs1)] => {
@@ -93,7 +95,7 @@ fn loads_item(alloc: Global, op: LoadOp, operands: &[Operand]) -> Result<Item, A
 }
 
 fn jumps_to_item(alloc: Global, operands: &[Operand]) -> Result<Item, AllocError>
-    ensures { IfOk result (λ i. i ≡ item_of JumpsTo operands.now) }
+    ensures { IfOk result (λ i. i ≡ source_item JumpsTo operands.now) }
 {
     match operands {
         [Operand::Index(rd), Operand::Offset(imm, rs1)] => {
@@ -105,7 +107,7 @@ fn jumps_to_item(alloc: Global, operands: &[Operand]) -> Result<Item, AllocError
 }
 
 fn stores_item(alloc: Global, op: StoreOp, operands: &[Operand]) -> Result<Item, AllocError>
-    ensures { IfOk result (λ i. i ≡ item_of (Stores op) operands.now) }
+    ensures { IfOk result (λ i. i ≡ source_item (Stores op) operands.now) }
 {
     match operands {
         [Operand::Index(rs2), Operand::Offset(imm, rs1)] => {
@@ -117,7 +119,7 @@ fn stores_item(alloc: Global, op: StoreOp, operands: &[Operand]) -> Result<Item,
 }
 
 fn branches_item(alloc: Global, op: BranchOp, operands: &[Operand]) -> Result<Item, AllocError>
-    ensures { IfOk result (λ i. i ≡ item_of (Branches op) operands.now) }
+    ensures { IfOk result (λ i. i ≡ source_item (Branches op) operands.now) }
 {
     match operands {
         [
@@ -146,7 +148,7 @@ fn branches_item(alloc: Global, op: BranchOp, operands: &[Operand]) -> Result<It
 }
 
 fn jumps_item(alloc: Global, operands: &[Operand]) -> Result<Item, AllocError>
-    ensures { IfOk result (λ i. i ≡ item_of Jumps operands.now) }
+    ensures { IfOk result (λ i. i ≡ source_item Jumps operands.now) }
 {
     match operands {
         [Operand::Index(rd), Operand::Integer(distance)] => {
@@ -161,7 +163,7 @@ fn jumps_item(alloc: Global, operands: &[Operand]) -> Result<Item, AllocError>
 }
 
 fn loads_upper_item(alloc: Global, operands: &[Operand]) -> Result<Item, AllocError>
-    ensures { IfOk result (λ i. i ≡ item_of LoadsUpper operands.now) }
+    ensures { IfOk result (λ i. i ≡ source_item LoadsUpper operands.now) }
 {
     match operands {
         [Operand::Index(rd), Operand::Integer(number)] => {
@@ -173,7 +175,7 @@ fn loads_upper_item(alloc: Global, operands: &[Operand]) -> Result<Item, AllocEr
 }
 
 fn adds_upper_item(alloc: Global, operands: &[Operand]) -> Result<Item, AllocError>
-    ensures { IfOk result (λ i. i ≡ item_of AddsUpper operands.now) }
+    ensures { IfOk result (λ i. i ≡ source_item AddsUpper operands.now) }
 {
     match operands {
         [Operand::Index(rd), Operand::Integer(number)] => {
@@ -185,7 +187,7 @@ fn adds_upper_item(alloc: Global, operands: &[Operand]) -> Result<Item, AllocErr
 }
 
 fn fences_item(alloc: Global, operands: &[Operand]) -> Result<Item, AllocError>
-    ensures { IfOk result (λ i. i ≡ item_of Fences operands.now) }
+    ensures { IfOk result (λ i. i ≡ source_item Fences operands.now) }
 {
     match operands {
         [] => {
@@ -205,7 +207,7 @@ fn fences_item(alloc: Global, operands: &[Operand]) -> Result<Item, AllocError>
 }
 
 fn does_nothing_item(alloc: Global, operands: &[Operand]) -> Result<Item, AllocError>
-    ensures { IfOk result (λ i. i ≡ item_of DoesNothing operands.now) }
+    ensures { IfOk result (λ i. i ≡ source_item DoesNothing operands.now) }
 {
     let (op, rd, rs1, imm) = (ImmediateOp::Addi, register(0), register(0), immediate(0));
     fixed_item(alloc, Inst::OpImm { op, rd, rs1, imm }, operands)
@@ -230,7 +232,7 @@ pub fn load_words(alloc: Global, rd: Register, value: u32) -> Result<Vec<u32>, A
 }
 
 fn loads_value_item(alloc: Global, operands: &[Operand]) -> Result<Item, AllocError>
-    ensures { IfOk result (λ i. i ≡ item_of LoadsValue operands.now) }
+    ensures { IfOk result (λ i. i ≡ source_item LoadsValue operands.now) }
 {
     match operands {
         [Operand::Index(rd), Operand::Integer(value)] => {
@@ -269,7 +271,7 @@ fn bytes_of(alloc: Global, operands: &[Operand]) -> Result<ByteList, AllocError>
 }
 
 fn space_item(alloc: Global, operands: &[Operand]) -> Result<Item, AllocError>
-    ensures { IfOk result (λ i. i ≡ item_of Space operands.now) }
+    ensures { IfOk result (λ i. i ≡ source_item Space operands.now) }
 {
     match operands {
         [Operand::Integer(count)] => {
@@ -281,7 +283,7 @@ fn space_item(alloc: Global, operands: &[Operand]) -> Result<Item, AllocError>
 }
 
 fn thread_item(alloc: Global, operands: &[Operand]) -> Result<Item, AllocError>
-    ensures { IfOk result (λ i. i ≡ item_of Thread operands.now) }
+    ensures { IfOk result (λ i. i ≡ source_item Thread operands.now) }
 {
     match operands {
         [Operand::Symbol(label)] => Ok(Item::Entry(copy_name(alloc, label)?)),
@@ -290,7 +292,7 @@ fn thread_item(alloc: Global, operands: &[Operand]) -> Result<Item, AllocError>
 }
 
 fn objects_item(operands: &[Operand]) -> Item
-    ensures { (image : ImageForm) → result ≡ item_of (Objects image) operands.now }
+    ensures { (image : ImageForm) → result ≡ source_item (Objects image) operands.now }
 {
     match operands {
         [Operand::Integer(count)] => Item::Count(low_bits(32, *count)),
@@ -299,7 +301,7 @@ fn objects_item(operands: &[Operand]) -> Item
 }
 
 fn object_item(alloc: Global, operands: &[Operand]) -> Result<Item, AllocError>
-    ensures { IfOk result (λ i. (image : ImageForm) → i ≡ item_of (Object image) operands.now) }
+    ensures { IfOk result (λ i. (image : ImageForm) → i ≡ source_item (Object image) operands.now) }
 {
     match operands {
         [Operand::Integer(object), rest @ ..] => {
@@ -321,7 +323,7 @@ fn fixed_item(alloc: Global, inst: Inst, operands: &[Operand]) -> Result<Item, A
 }
 
 fn enlarges_item(operands: &[Operand]) -> Item
-    ensures { result ≡ item_of Enlarges operands.now }
+    ensures { result ≡ source_item Enlarges operands.now }
 {
     match operands {
         [] => Item::Enlarged,
@@ -330,7 +332,7 @@ fn enlarges_item(operands: &[Operand]) -> Item
 }
 
 fn section_item(section: Section, operands: &[Operand]) -> Item
-    ensures { result ≡ item_of (Sections section) operands.now }
+    ensures { result ≡ source_item (Sections section) operands.now }
 {
     match operands {
         [] => Item::Within(section),
@@ -340,7 +342,7 @@ fn section_item(section: Section, operands: &[Operand]) -> Item
 
 /// The item of a form with these operands.
 pub fn item_of(alloc: Global, form: Form, operands: &[Operand]) -> Result<Item, AllocError>
-    ensures { IfOk result (λ i. i ≡ item_of form operands.now) }
+    ensures { IfOk result (λ i. i ≡ source_item form operands.now) }
 {
     match form {
         Form::Registers(op) => registers_item(alloc, op, operands),

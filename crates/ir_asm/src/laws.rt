@@ -4,11 +4,11 @@ ghost use Rattle.std.specs.Prelude.{◌≡◌, ℕ, List, [], ◌∷◌, ◌++�
 ghost use Rattle.std.specs.List.{list_any};
 ghost use Rattle.ir_image.specs.declared.form.ImageForm.TheVariants.{Small, Large};
 ghost use Rattle.ir_asm.specs.Names.{named};
-ghost use Rattle.ir_asm.specs.Standing.{place_after};
+ghost use Rattle.ir_asm.specs.Standing.{place_after_statement};
 ghost use Rattle.ir_asm.specs.declared.form.Section.TheVariants.{Text};
 ghost use Rattle.ir_disasm.specs.Printed.{text_of};
 ghost use Rattle.ir_asm.specs.Placing.{AreInOrder, IsFirstFault};
-ghost use Rattle.ir_asm.specs.Source.{Seen, Fault, nothing_seen, line_of, with_line, first_pass};
+ghost use Rattle.ir_asm.specs.Source.{Seen, Fault, nothing_seen, source_line, with_line, first_pass};
 ghost use Rattle.ir_asm.specs.Passes.{assembled, assembled_lines, IsWordGuest};
 ghost use Rattle.ir_asm.specs.declared.cause.Cause.{Cause};
 ghost use Rattle.ir_asm.specs.declared.cause.Cause.TheVariants.{UnknownStatement, UnknownRegister, BadNumber, LabelTwice, LabelMissing, WrongSection, BadSize};
@@ -21,18 +21,18 @@ pub fn word_law()
 }
 
 /// The first line with a fault of the first pass is the one that is named, whatever follows it.
-#[tactic(auto, using(crate::proofs::Firsts::assembled_lines_fault_at_refused_line))]
+#[tactic(auto, using(crate::proofs::Firsts::fault_at_refused_line))]
 pub fn first_fault()
     ensures { (before after : List (List ℕ)) (line : List ℕ) (s : Seen) (cause : Cause) →
         first_pass 1 before nothing_seen ≡ Ok s →
-        with_line (1 + length before) (line_of line) s ≡ Err cause →
+        with_line (1 + length before) (source_line line) s ≡ Err cause →
         assembled_lines (before ++ line ∷ after) ≡ Err (record { line = 1 + length before; cause = cause }) }
 {}
 
 /// If the first pass has no fault and there is code, the fault of a source is that of the first of its placed
 /// statements, in the order of their lines, that has one. Its label is missing, in the wrong section or too far away,
 /// or its object isn't there.
-#[tactic(auto, using(crate::proofs::OrderLaws::first_pass_places_in_order))]
+#[tactic(auto, using(crate::proofs::OrderLaws::first_pass_in_order))]
 pub fn second_fault()
     ensures order { (lines : List (List ℕ)) (s : Seen) → first_pass 1 lines nothing_seen ≡ Ok s → AreInOrder 1 s.placed }
     ensures exact { (lines : List (List ℕ)) (s : Seen) (fault : Fault) →
@@ -43,12 +43,12 @@ pub fn second_fault()
 
 /// A label comes after what was placed before it: its value is the start of its section plus the sizes of what comes
 /// before it in that section.
-#[tactic(auto, using(crate::proofs::LabelValues::label_value_is_place_after_earlier_lines))]
+#[tactic(auto, using(crate::proofs::LabelValues::label_value_is_place))]
 pub fn label_value()
     ensures { (before after : List (List ℕ)) (line name : List ℕ) (s : Seen) →
         first_pass 1 (before ++ line ∷ after) nothing_seen ≡ Ok s →
-        list_any (bytes_eq name) (line_of line).labels ≡ true →
-        named s.labels name ≡ Some (place_after Text before) }
+        list_any (bytes_eq name) (source_line line).labels ≡ true →
+        named s.labels name ≡ Some (place_after_statement Text before) }
 {}
 
 /// Sources and their answers.

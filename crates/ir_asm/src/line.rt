@@ -2,8 +2,8 @@
 
 ghost use Rattle.std.specs.Prelude.{◌≡◌, map};
 ghost use Rattle.std.specs.List.{list_all};
-ghost use Rattle.ir_asm.specs.Text.{is_name, split, trim};
-ghost use Rattle.ir_asm.specs.Source.{is_source_byte, all_but_last, last_of};
+ghost use Rattle.ir_asm.specs.Text.{is_source_name, split, trim};
+ghost use Rattle.ir_asm.specs.Source.{is_source_byte, all_but_last, last_segment};
 
 use crate::text::{first_part, is_name, trim};
 
@@ -21,9 +21,9 @@ pub fn may_be_source(line: &[u8]) -> bool
 }
 
 // Whether all labels are names.
-#[tactic(auto, using(crate::proofs::Lines::all_but_last_keeps_part_before_split, crate::proofs::Lines::all_but_last_of_single))]
+#[tactic(auto, using(crate::proofs::Lines::all_but_last_of_split, crate::proofs::Lines::all_but_last_single))]
 pub fn are_names(text: &[u8]) -> bool
-    ensures { result ≡ list_all is_name (map trim (all_but_last (split 58 text.now))) }
+    ensures { result ≡ list_all is_source_name (map trim (all_but_last (split 58 text.now))) }
 {
     let mut rest = text;
     while let (label, Some(tail)) = first_part(rest, b':') {
@@ -36,9 +36,9 @@ pub fn are_names(text: &[u8]) -> bool
 }
 
 // What follows the last label.
-#[tactic(auto, using(crate::proofs::Lines::last_of_ignores_part_before_split))]
+#[tactic(auto, using(crate::proofs::Lines::last_of_split))]
 pub fn statement(text: &[u8]) -> &[u8]
-    ensures { result.now ≡ trim (last_of (split 58 text.now)) }
+    ensures { result.now ≡ trim (last_segment (split 58 text.now)) }
 {
     let mut rest = text;
     loop {

@@ -1,8 +1,8 @@
 //! Numbers as they are written.
 
 ghost use Rattle.std.specs.Prelude.{◌≡◌, ◌<◌, ◌^◌, IfSome};
-ghost use Rattle.ir_asm.specs.Text.{natural, number};
-ghost use Rattle.ir_asm.specs.Operands.{distance_text};
+ghost use Rattle.ir_asm.specs.Text.{natural, source_number};
+ghost use Rattle.ir_asm.specs.Operands.{operand_distance_text};
 
 use ir_numerals::number_in;
 
@@ -20,7 +20,7 @@ fn natural(text: &[u8]) -> Option<u64>
 
 /// The number that a text says, with or without a minus sign.
 pub fn number(text: &[u8]) -> Option<i64>
-    ensures { result ≡ number text.now }
+    ensures { result ≡ source_number text.now }
 {
     match text {
         [b'-', digits @ ..] => natural(digits).map(|n| -(n as i64)),
@@ -30,7 +30,7 @@ pub fn number(text: &[u8]) -> Option<i64>
 
 /// The distance that a text says, which is `.+` or `.-` and a number without sign.
 pub fn distance(text: &[u8]) -> Option<i64>
-    ensures { result ≡ distance_text text.now }
+    ensures { result ≡ operand_distance_text text.now }
 {
     match text {
         [b'.', b'+', digits @ ..] => natural(digits).map(|n| n as i64),

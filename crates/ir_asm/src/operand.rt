@@ -1,9 +1,9 @@
 //! Operands: their shape, and what they say.
 
 ghost use Rattle.std.specs.Prelude.{◌≡◌, ◌&&◌, ◌||◌, ◌==◌, ◌≤◌, ◌+◌, [], ◌∷◌, ℕ, ℤ, List, Option, Some, None, Ok, Err, IfOk, pos, negsuc, is_some, option_map, length, MatchOption, MatchResult};
-ghost use Rattle.ir_asm.specs.Faults.{Gives};
-ghost use Rattle.ir_asm.specs.Text.{is_name, is_digit, first_byte, split, trim};
-ghost use Rattle.ir_asm.specs.Operands.{is_even, within, number_in, distance_in, is_like_label, in_parentheses, address, is_formed, read, at_address};
+ghost use Rattle.ir_asm.specs.Faults.{YieldsOrFaults};
+ghost use Rattle.ir_asm.specs.Text.{is_source_name, is_source_digit, first_byte, split, trim};
+ghost use Rattle.ir_asm.specs.Operands.{is_even, operand_within, operand_number, distance_in, is_like_label, in_parentheses, operand_address, is_formed, read, at_address};
 ghost use Rattle.ir_asm.specs.declared.item.Operand.TheVariants.{Symbol};
 
 use crate::cause::Cause;
@@ -16,7 +16,7 @@ use crate::text::{first_part, is_name, trim};
 use std::alloc::{AllocError, Global};
 
 fn within(low: i64, high: i64, value: i64) -> Result<i64, Cause>
-    ensures { result ≡ within low high value }
+    ensures { result ≡ operand_within low high value }
 {
     if low <= value && value <= high {
         Ok(value)
@@ -33,7 +33,7 @@ fn is_even(value: i64) -> bool
 
 // The number of a text, in a range.
 fn number_in(low: i64, high: i64, text: &[u8]) -> Result<i64, Cause>
-    ensures { result ≡ number_in low high text.now }
+    ensures { result ≡ operand_number low high text.now }
 {
     match number(text) {
         Some(value) => within(low, high, value),
@@ -71,7 +71,7 @@ fn name(alloc: Global, text: &[u8]) -> Result<Name, AllocError>
 }
 
 // What comes before the one closing parenthesis, which ends the text.
-#[tactic(auto, using(crate::proofs::Cuts::no_parentheses_if_text_follows))]
+#[tactic(auto, using(crate::proofs::Cuts::no_parentheses_in_text))]
 fn before_closing(text: &[u8]) -> Option<&[u8]>
     ensures { MatchOption result ((imm : List ℕ) → in_parentheses (imm ∷ []) (split 41 text.now) ≡ None) (λ base. split 41 text.now ≡ base.now ∷ [] ∷ []) }
 {
@@ -82,7 +82,7 @@ fn before_closing(text: &[u8]) -> Option<&[u8]>
 }
 
 // The text, if it is the only part between such bytes.
-#[tactic(auto, using(crate::proofs::Cuts::split_is_not_single_part_if_rest_is_split_too))]
+#[tactic(auto, using(crate::proofs::Cuts::split_has_more_parts))]
 fn only_part(text: &[u8], byte: u8) -> Option<&[u8]>
     ensures { MatchOption result ((p : List ℕ) → split byte text.now ≡ p ∷ [] → ⊥) (λ part. split byte text.now ≡ part.now ∷ []) }
 {
@@ -93,9 +93,9 @@ fn only_part(text: &[u8], byte: u8) -> Option<&[u8]>
 }
 
 // The parts of an address, which are a number and a register in parentheses.
-#[tactic(auto, using(crate::proofs::Cuts::no_address_if_opened_twice, crate::proofs::Cuts::no_address_if_closed_early))]
+#[tactic(auto, using(crate::proofs::Cuts::opened_twice_no_address, crate::proofs::Cuts::closed_early_no_address))]
 fn address(text: &[u8]) -> Option<(&[u8], &[u8])>
-    ensures { MatchOption result (address text.now ≡ None) (λ parts. address text.now ≡ Some (parts.0.now, parts.1.now)) }
+    ensures { MatchOption result (operand_address text.now ≡ None) (λ parts. operand_address text.now ≡ Some (parts.0.now, parts.1.now)) }
 {
     let (before, after) = first_part(text, b'(');
     let after = after?;
@@ -117,7 +117,7 @@ pub fn is_formed(kind: Kind, text: &[u8]) -> bool
 }
 
 fn at_address(text: &[u8]) -> Result<Operand, Cause>
-    ensures { result ≡ at_address (address text.now) }
+    ensures { result ≡ at_address (operand_address text.now) }
 {
     match address(text) {
         Some((imm, base)) => {
@@ -130,7 +130,7 @@ fn at_address(text: &[u8]) -> Result<Operand, Cause>
 }
 
 fn symbol(alloc: Global, text: &[u8]) -> Result<Operand, Refusal>
-    ensures { Gives (λ x. x) result (Ok (Symbol text.now)) }
+    ensures { YieldsOrFaults (λ x. x) result (Ok (Symbol text.now)) }
 {
     let name = name(alloc, text)?;
     Ok(Operand::Symbol(name))
@@ -138,7 +138,7 @@ fn symbol(alloc: Global, text: &[u8]) -> Result<Operand, Refusal>
 
 /// What an operand of a kind says.
 pub fn read(alloc: Global, kind: Kind, text: &[u8]) -> Result<Operand, Refusal>
-    ensures { Gives (λ x. x) result (read kind text.now) }
+    ensures { YieldsOrFaults (λ x. x) result (read kind text.now) }
 {
     match kind {
         Kind::Register => Ok(Operand::Index(register(text)?)),

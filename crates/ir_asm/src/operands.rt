@@ -1,7 +1,7 @@
 //! The operands of a statement.
 
 ghost use Rattle.std.specs.Prelude.{◌≡◌, ◌≤◌, ◌+◌, length};
-ghost use Rattle.ir_asm.specs.Faults.{Gives};
+ghost use Rattle.ir_asm.specs.Faults.{YieldsOrFaults};
 ghost use Rattle.ir_asm.specs.Operands.{are_formed, read_all, operands_of};
 ghost use Rattle.ir_asm.specs.Source.{texts_of};
 
@@ -54,9 +54,9 @@ fn are_formed(form: Form, text: &[u8]) -> bool
 }
 
 // What the operands say.
-#[tactic(auto, using(crate::proofs::Texts::onto_read_all_step, crate::proofs::Texts::onto_nil, crate::proofs::Texts::refused_operand_refuses_all))]
+#[tactic(auto, using(crate::proofs::Texts::onto_read_all_step, crate::proofs::Texts::onto_nil, crate::proofs::Texts::refused_operand_refuses))]
 fn read_all(alloc: Global, form: Form, text: &[u8]) -> Result<Vec<Operand>, Refusal>
-    ensures { Gives (λ v. v.items) result (read_all form 0 (texts_of text.now)) }
+    ensures { YieldsOrFaults (λ v. v.items) result (read_all form 0 (texts_of text.now)) }
 {
     let mut operands = Vec::new(alloc);
     let mut rest = text;
@@ -79,7 +79,7 @@ fn read_all(alloc: Global, form: Form, text: &[u8]) -> Result<Vec<Operand>, Refu
 
 /// What the operands of a statement say: their number and all shapes are tested before any is read.
 pub fn operands_of(alloc: Global, form: Form, text: &[u8]) -> Result<Vec<Operand>, Refusal>
-    ensures { Gives (λ v. v.items) result (operands_of form (texts_of text.now)) }
+    ensures { YieldsOrFaults (λ v. v.items) result (operands_of form (texts_of text.now)) }
 {
     if !takes(form, count(text)) || !are_formed(form, text) {
         return Err(Refusal::Faulty(Cause::WrongOperands));

@@ -3,7 +3,7 @@
 ghost use Rattle.std.specs.Prelude.{◌≡◌, ◌+◌, ◌*◌, ◌≤◌, ◌++◌, [], ◌∷◌, length, take, drop, replicate, IfOk, OnOk};
 ghost use Rattle.ir_image.specs.Guest.{limits_of, most_object_words, object_words, padded_to};
 ghost use Rattle.ir_image.specs.Padded.{padded};
-ghost use Rattle.ir_asm.specs.Passes.{with_code, with_object, with_entry};
+ghost use Rattle.ir_asm.specs.Passes.{with_code, with_object_line, with_entry_line};
 
 use ir_image::{CODE_START, ImageForm, MOST_OBJECT_WORDS};
 use std::alloc::{AllocError, Global};
@@ -88,7 +88,7 @@ impl Parts {
     pub fn set_object(&mut self, object: u32, words: &[u32])
         requires few { length words.now ≤ object_words self.old }
         requires there { object_words self.old * object + object_words self.old ≤ length self.old.words }
-        ensures { self.new ≡ with_object self.old object words.now }
+        ensures { self.new ≡ with_object_line self.old object words.now }
     {
         let start = self.form.words_of(object);
         let count = self.form.limits().words;
@@ -97,7 +97,7 @@ impl Parts {
 
     /// One thread at the start of the code, where there is none yet.
     pub fn add_first_entry(&mut self) -> Result<(), AllocError>
-        ensures { OnOk result (self.new ≡ with_entry self.old) }
+        ensures { OnOk result (self.new ≡ with_entry_line self.old) }
     {
         if self.entries.is_empty() {
             return self.add_entry(CODE_START);

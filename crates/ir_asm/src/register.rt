@@ -1,7 +1,7 @@
 //! The registers by their names.
 
 ghost use Rattle.std.specs.Prelude.{◌≡◌, ◌<◌, IfSome};
-ghost use Rattle.ir_asm.specs.Names.{named, abi_rows, x_rows, register_rows, register};
+ghost use Rattle.ir_asm.specs.Names.{named, abi_rows, x_rows, register_rows, register_named};
 ghost use Rattle.ir_asm.specs.Faults.{or_cause};
 ghost use Rattle.ir_asm.specs.declared.cause.Cause.TheVariants.{UnknownRegister};
 
@@ -104,7 +104,7 @@ fn number_of(name: &[u8]) -> Option<u8>
 
 /// The register of a name.
 pub fn register(name: &[u8]) -> Result<Register, Cause>
-    ensures { result ≡ or_cause UnknownRegister (register name.now) }
+    ensures { result ≡ or_cause UnknownRegister (register_named name.now) }
 {
     match number_of(name) {
         Some(number) => Ok(numbered_register(number)),

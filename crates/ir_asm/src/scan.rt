@@ -4,9 +4,9 @@ ghost use Rattle.std.specs.Prelude.{◌≡◌, ◌+◌, ◌++◌, [], ◌∷◌,
 ghost use Rattle.byteorder.specs.Endian.{little_bytes};
 ghost use Rattle.ir_image.specs.Guest.{memory_size};
 ghost use Rattle.ir_asm.specs.Forms.{stated};
-ghost use Rattle.ir_asm.specs.Source.{nothing_seen, here, grown, size_of, laid, placed_at, entered, begun, with_item, with_labels};
+ghost use Rattle.ir_asm.specs.Source.{nothing_seen, here, grown_segment, statement_size, laid_out, placed_at_label, entered_line, begun_line, with_source_item, with_labels};
 ghost use Rattle.ir_asm.specs.declared.item.Item.TheVariants.{Entry};
-ghost use Rattle.ir_asm.specs.Faults.{Makes, unless};
+ghost use Rattle.ir_asm.specs.Faults.{MakesOrFaults, fault_unless};
 ghost use Rattle.ir_asm.specs.declared.cause.Cause.TheVariants.{BadSize};
 
 use crate::cause::Cause;
@@ -48,7 +48,7 @@ impl Model for Size {
 impl Size {
     // The size with `bytes` bytes more, if they fit.
     fn plus(self, bytes: usize) -> Result<Size, Cause>
-        ensures { result ≡ unless (nat_le (self + bytes) memory_size) BadSize (Ok (self + bytes)) }
+        ensures { result ≡ fault_unless (nat_le (self + bytes) memory_size) BadSize (Ok (self + bytes)) }
     {
         if bytes > (MOST_BYTES - self.bytes) as usize {
             return Err(Cause::BadSize);
@@ -83,7 +83,7 @@ impl Model for Scan {
 
 // How many bytes an item takes of its section.
 fn size_of(item: &Item) -> usize
-    ensures { result ≡ size_of item.now }
+    ensures { result ≡ statement_size item.now }
 {
     match item {
         Item::Code(list) => size_of_val(list.words.as_slice()),
@@ -115,7 +115,7 @@ fn bytes_of(alloc: Global, words: &[u32]) -> Result<ByteList, AllocError>
 
 // Words in data are bytes.
 fn laid(alloc: Global, section: Section, item: Item) -> Result<Item, AllocError>
-    ensures { IfOk result (λ i. i ≡ laid section item) }
+    ensures { IfOk result (λ i. i ≡ laid_out section item) }
 {
     match (section, item) {
         (Section::Data, Item::Code(list)) => {
@@ -158,7 +158,7 @@ impl Scan {
 
     /// There is a statement, which says the form of the image.
     pub fn begin(&mut self)
-        ensures { self.new ≡ begun self.old }
+        ensures { self.new ≡ begun_line self.old }
     {
         self.form = Some(self.image_form());
     }
@@ -179,7 +179,7 @@ impl Scan {
 
     // After a statement that takes `bytes` bytes of a section.
     fn grow(&mut self, section: Section, bytes: usize) -> Result<(), Refusal>
-        ensures { Makes self.new result (grown section bytes self.old) }
+        ensures { MakesOrFaults self.new result (grown_segment section bytes self.old) }
     {
         match section {
             Section::Text => self.code = self.code.plus(bytes)?,
@@ -190,7 +190,7 @@ impl Scan {
 
     // One more item that waits for the second pass.
     fn place(&mut self, line: usize, address: u32, item: Item) -> Result<(), AllocError>
-        ensures { OnOk result (self.new ≡ placed_at line address item self.old) }
+        ensures { OnOk result (self.new ≡ placed_at_label line address item self.old) }
     {
         self.placed.push(Placed {
             line,
@@ -202,7 +202,7 @@ impl Scan {
 
     // One more thread, whose entry waits for the second pass.
     fn place_entry(&mut self, line: usize, address: u32, label: Name) -> Result<(), Refusal>
-        ensures { Makes self.new result (entered line address (Entry label) self.old) }
+        ensures { MakesOrFaults self.new result (entered_line line address (Entry label) self.old) }
     {
         if self.threads >= self.image_form().limits().threads {
             return Err(Refusal::Faulty(Cause::BadCount));
@@ -214,7 +214,7 @@ impl Scan {
 
     // After what an item says.
     fn enter(&mut self, line: usize, address: u32, item: Item) -> Result<(), Refusal>
-        ensures { Makes self.new result (entered line address item self.old) }
+        ensures { MakesOrFaults self.new result (entered_line line address item self.old) }
     {
         match item {
             Item::Enlarged => self.form = Some(ImageForm::Large),
@@ -229,7 +229,7 @@ impl Scan {
 
     /// After an item: first its size, then what it says.
     pub fn with_item(&mut self, alloc: Global, line: usize, item: Item) -> Result<(), Refusal>
-        ensures { Makes self.new result (with_item line item self.old) }
+        ensures { MakesOrFaults self.new result (with_source_item line item self.old) }
     {
         let address = self.here().address;
         let section = self.section;
@@ -240,7 +240,7 @@ impl Scan {
 
     /// After a label, of whose name there may be one already.
     pub fn with_label(&mut self, alloc: Global, label: &[u8]) -> Result<(), Refusal>
-        ensures { Makes self.new result (with_labels (label.now ∷ []) self.old) }
+        ensures { MakesOrFaults self.new result (with_labels (label.now ∷ []) self.old) }
     {
         if self.labels.get(label).is_some() {
             return Err(Refusal::Faulty(Cause::LabelTwice));

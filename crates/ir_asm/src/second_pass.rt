@@ -2,9 +2,9 @@
 
 ghost use Rattle.std.specs.Prelude.{◌≡◌, ◌*◌, ◌≤◌, length};
 ghost use Rattle.ir_image.specs.Guest.{object_words};
-ghost use Rattle.ir_asm.specs.Faults.{Makes};
-ghost use Rattle.ir_asm.specs.Passes.{value_of, text_address, distance_to, put, second_pass};
-ghost use Rattle.ir_asm.specs.Answered.{Answers};
+ghost use Rattle.ir_asm.specs.Faults.{MakesOrFaults};
+ghost use Rattle.ir_asm.specs.Passes.{operand_value, text_address, distance_to, put_word_in, second_pass};
+ghost use Rattle.ir_asm.specs.Answered.{AnswersSource};
 ghost use Rattle.ir_asm.specs.Bounds.{HasFewWords, HaveFewWords};
 ghost use Rattle.ir_asm.specs.declared.item.Item.TheVariants.{BranchTo, JumpTo, LoadAddress, Entry, First};
 
@@ -24,7 +24,7 @@ use std::alloc::Global;
 
 // Where a label is.
 fn value_of(scan: &Scan, label: &Name) -> Result<Place, Cause>
-    ensures { result ≡ value_of scan.now label.now }
+    ensures { result ≡ operand_value scan.now label.now }
 {
     match scan.labels.get(label.text.as_slice()) {
         Some(place) => Ok(place),
@@ -63,7 +63,7 @@ fn put_branch(
     compared: (Register, Register),
     label: &Name,
 ) -> Result<(), Refusal>
-    ensures { Makes parts.new result (put scan.now address (BranchTo op compared.0 compared.1 label.now) parts.old) }
+    ensures { MakesOrFaults parts.new result (put_word_in scan.now address (BranchTo op compared.0 compared.1 label.now) parts.old) }
 {
     let distance = distance_to(scan, -4096, 4094, address, label)?;
     let offset = branch_offset(distance);
@@ -83,7 +83,7 @@ fn put_jump(
     rd: Register,
     label: &Name,
 ) -> Result<(), Refusal>
-    ensures { Makes parts.new result (put scan.now address (JumpTo rd label.now) parts.old) }
+    ensures { MakesOrFaults parts.new result (put_word_in scan.now address (JumpTo rd label.now) parts.old) }
 {
     let distance = distance_to(scan, -1_048_576, 1_048_574, address, label)?;
     let offset = jump_offset(distance);
@@ -98,7 +98,7 @@ fn put_address(
     rd: Register,
     label: &Name,
 ) -> Result<(), Refusal>
-    ensures { Makes parts.new result (put scan.now 0 (LoadAddress rd label.now) parts.old) }
+    ensures { MakesOrFaults parts.new result (put_word_in scan.now 0 (LoadAddress rd label.now) parts.old) }
 {
     let place = value_of(scan, label)?;
     let words = load_words(alloc, rd, place.address)?;
@@ -108,7 +108,7 @@ fn put_address(
 
 // The entry of a thread, which has to be a place in the code.
 fn put_entry(scan: &Scan, parts: &mut Parts, label: &Name) -> Result<(), Refusal>
-    ensures { Makes parts.new result (put scan.now 0 (Entry label.now) parts.old) }
+    ensures { MakesOrFaults parts.new result (put_word_in scan.now 0 (Entry label.now) parts.old) }
 {
     let entry = text_address(scan, label)?;
     if entry >= CODE_START + scan.code.bytes {
@@ -123,7 +123,7 @@ fn put_entry(scan: &Scan, parts: &mut Parts, label: &Name) -> Result<(), Refusal
 fn put_object(scan: &Scan, parts: &mut Parts, object: u32, words: &[u32]) -> Result<(), Refusal>
     requires few { length words.now ≤ object_words parts.old }
     requires there { length parts.old.words ≡ object_words parts.old * scan.now.objects }
-    ensures { Makes parts.new result (put scan.now 0 (First object words.now) parts.old) }
+    ensures { MakesOrFaults parts.new result (put_word_in scan.now 0 (First object words.now) parts.old) }
 {
     if object >= scan.objects {
         return Err(Refusal::Faulty(Cause::BadCount));
@@ -142,7 +142,7 @@ fn put(
 ) -> Result<(), Refusal>
     requires few { HasFewWords parts.old.form item.now }
     requires there { length parts.old.words ≡ object_words parts.old * scan.now.objects }
-    ensures { Makes parts.new result (put scan.now address item.now parts.old) }
+    ensures { MakesOrFaults parts.new result (put_word_in scan.now address item.now parts.old) }
 {
     match item {
         Item::Code(list) => parts.add_code(list.words.as_slice())?,
@@ -176,7 +176,7 @@ pub fn second_pass(
 ) -> Result<(), AsmErr>
     requires few { HaveFewWords parts.old.form all.now }
     requires there { length parts.old.words ≡ object_words parts.old * scan.now.objects }
-    ensures { Answers (λ _. parts.new) result (second_pass scan.now all.now parts.old) }
+    ensures { AnswersSource (λ _. parts.new) result (second_pass scan.now all.now parts.old) }
 {
     for placed in all {
         match put(alloc, scan, parts, placed.address, &placed.item) {

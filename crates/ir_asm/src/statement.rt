@@ -1,7 +1,7 @@
 //! What a statement places.
 
 ghost use Rattle.std.specs.Prelude.{◌≡◌};
-ghost use Rattle.ir_asm.specs.Faults.{Gives};
+ghost use Rattle.ir_asm.specs.Faults.{YieldsOrFaults};
 ghost use Rattle.ir_asm.specs.Source.{same_section, may_stand, texts_of, item_with, item_in};
 
 use crate::cause::Cause;
@@ -36,7 +36,7 @@ fn may_stand(form: Option<Section>, section: Section) -> bool
 
 // What the operands of a form say.
 fn item_with(alloc: Global, form: Form, text: &[u8]) -> Result<Item, Refusal>
-    ensures { Gives (λ i. i) result (item_with form (texts_of text.now)) }
+    ensures { YieldsOrFaults (λ i. i) result (item_with form (texts_of text.now)) }
 {
     match operands_of(alloc, form, text) {
         Ok(operands) => Ok(item_of(alloc, form, operands.as_slice())?),
@@ -51,7 +51,7 @@ pub fn item_in(
     section: Section,
     statement: &[u8],
 ) -> Result<Item, Refusal>
-    ensures { Gives (λ i. i) result (item_in before section statement.now) }
+    ensures { YieldsOrFaults (λ i. i) result (item_in before section statement.now) }
 {
     let (name, rest) = name_and_rest(statement);
     let form = match form_named(name) {

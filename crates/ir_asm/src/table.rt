@@ -1,8 +1,10 @@
 //! The table of statements.
 
 ghost use Rattle.std.specs.Prelude.{◌≡◌, ℕ, List, Option, Some, None, length, bytes_eq};
-ghost use Rattle.ir_asm.specs.Names.{named, first_of};
-ghost use Rattle.ir_asm.specs.Forms.{base_rows, multiply_rows, immediate_rows, memory_rows, branch_rows, single_rows, directive_rows, form_named, stated, in_image, may_follow, may_come, stands_in, takes, registers_then, word_number, kind_at};
+ghost use Rattle.ir_asm.specs.Names.{named, first_name};
+ghost use Rattle.ir_asm.specs.Forms.{base_rows, multiply_rows, immediate_rows, memory_rows, branch_rows, single_rows, directive_rows};
+ghost use Rattle.ir_asm.specs.Forms.{form_named, stated, in_image, may_follow, may_come, stands_in, takes, registers_then, word_number};
+ghost use Rattle.ir_asm.specs.Forms.{kind_at};
 
 use crate::form::{Form, Kind, Section};
 use ir_image::{ImageForm, MEMORY_SIZE};
@@ -157,7 +159,7 @@ fn directive_form(name: &[u8]) -> Option<Form>
 
 // The first of two answers that there is.
 fn either(first: Option<Form>, second: Option<Form>) -> Option<Form>
-    ensures { result ≡ first_of first second }
+    ensures { result ≡ first_name first second }
 {
     match first {
         Some(form) => Some(form),

@@ -2,17 +2,17 @@
 
 ghost use Rattle.std.specs.Prelude.{◌≡◌, ◌≤◌, ◌<◌, ◌==◌, length, ℕ, List, [], ◌∷◌, map, Option, Some, None, Ok, Err, take, drop, IfSome, MatchOption};
 ghost use Rattle.std.specs.List.{list_all};
-ghost use Rattle.ir_asm.specs.Text.{is_blank, skip_blanks, trim_end, trim, until, from, split, is_letter, is_digit, begins_name, goes_on_name, is_name};
+ghost use Rattle.ir_asm.specs.Text.{is_source_blank, skip_source_blanks, trim_end, trim, until, from, split, is_letter, is_source_digit, begins_name, goes_on_name, is_source_name};
 
 pub fn is_blank(byte: u8) -> bool
-    ensures { result ≡ is_blank byte }
+    ensures { result ≡ is_source_blank byte }
 {
     byte == b' ' || byte == b'\t'
 }
 
 // The bytes from the first that is no blank.
 fn skip_blanks(text: &[u8]) -> &[u8]
-    ensures { result.now ≡ skip_blanks text.now }
+    ensures { result.now ≡ skip_source_blanks text.now }
 {
     let mut rest = text;
     while let [first, tail @ ..] = rest {
@@ -46,7 +46,7 @@ pub fn trim(text: &[u8]) -> &[u8]
 }
 
 // How many bytes come before the first that is this one.
-#[tactic(auto, using(crate::proofs::Cuts::take_is_until_first_match, crate::proofs::Cuts::drop_is_from_first_match))]
+#[tactic(auto, using(crate::proofs::Cuts::take_first_match, crate::proofs::Cuts::drop_first_match))]
 fn length_before(text: &[u8], byte: u8) -> usize
     ensures within { result ≤ length text.now }
     ensures before { take result text.now ≡ until (λ b. b == byte) text.now }
@@ -67,7 +67,7 @@ pub fn before(text: &[u8], byte: u8) -> &[u8]
 }
 
 // The first of the parts between such bytes, and what follows it, if it is not the last.
-#[tactic(auto, using(crate::proofs::Cuts::split_is_split_rest, crate::proofs::Cuts::split_begins_with_part_if_part_is_until))]
+#[tactic(auto, using(crate::proofs::Cuts::split_is_split_rest, crate::proofs::Cuts::split_begins_with_part))]
 pub fn first_part(text: &[u8], byte: u8) -> (&[u8], Option<&[u8]>)
     ensures parts { MatchOption result.1 (split byte text.now ≡ result.0.now ∷ []) (λ rest. split byte text.now ≡ result.0.now ∷ split byte rest.now) }
     ensures first { split byte text.now ≡ result.0.now ∷ drop 1 (split byte text.now) }
@@ -81,11 +81,11 @@ pub fn first_part(text: &[u8], byte: u8) -> (&[u8], Option<&[u8]>)
 }
 
 // How many bytes come before the first blank.
-#[tactic(auto, using(crate::proofs::Cuts::take_is_until_first_match, crate::proofs::Cuts::drop_is_from_first_match))]
+#[tactic(auto, using(crate::proofs::Cuts::take_first_match, crate::proofs::Cuts::drop_first_match))]
 fn length_unblank(text: &[u8]) -> usize
     ensures within { result ≤ length text.now }
-    ensures before { take result text.now ≡ until is_blank text.now }
-    ensures after { drop result text.now ≡ from is_blank text.now }
+    ensures before { take result text.now ≡ until is_source_blank text.now }
+    ensures after { drop result text.now ≡ from is_source_blank text.now }
 {
     for (index, here) in text.iter().enumerate() {
         if is_blank(*here) {
@@ -97,8 +97,8 @@ fn length_unblank(text: &[u8]) -> usize
 
 // The name of a statement, and what follows it.
 pub fn name_and_rest(statement: &[u8]) -> (&[u8], &[u8])
-    ensures name { result.0.now ≡ until is_blank statement.now }
-    ensures rest { result.1.now ≡ from is_blank statement.now }
+    ensures name { result.0.now ≡ until is_source_blank statement.now }
+    ensures rest { result.1.now ≡ from is_source_blank statement.now }
 {
     statement.split_at(length_unblank(statement))
 }
@@ -123,7 +123,7 @@ fn all_go_on(text: &[u8]) -> bool
 }
 
 pub fn is_name(text: &[u8]) -> bool
-    ensures { result ≡ is_name text.now }
+    ensures { result ≡ is_source_name text.now }
 {
     match text {
         [first, rest @ ..] => begins_name(*first) && all_go_on(rest) && rest.len() <= 63,

@@ -1,5 +1,6 @@
 -- A field that is read is the field that was written, and what was written is read again.
-use Rattle.std.proofs.Common.{◌≡◌, ℕ, zero, suc, ◌^◌, ◌<◌, ◌≤◌, false, ltb, List, [], ◌∷◌, ◌++◌, length, take, drop, None, Ok, Err, refl, sym, ap, subst, ◌∙◌, append_assoc, arith, length-append, length-take-le}
+use Rattle.std.proofs.Common.{◌≡◌, ℕ, zero, suc, ◌^◌, ◌<◌, ◌≤◌, false, ltb, List, [], ◌∷◌, ◌++◌, length, take, drop, None, Ok, Err, refl}
+use Rattle.std.proofs.Common.{sym, ap, subst, ◌∙◌, append_assoc, arith, length-append, length-take-le}
 use Rattle.std.specs.List.{AllByRecursion, flat_map}
 use Rattle.std.proofs.lemmas.Bool.{ltb-false, ltb-true, le-ltb}
 use Rattle.std.proofs.lemmas.List.{take-append-drop}
@@ -8,16 +9,16 @@ use Rattle.std.proofs.Math.Seq.{take-append_seam, drop-append_seam}
 use Rattle.byteorder.specs.Endian.{little_bytes, little_number}
 use Rattle.byteorder.specs.Numbers.{little_number-reads_back, length-bytes_low_first}
 use Rattle.ir_bytes.specs.Reading.{Reader, Field, judged, number_at, field_at, bytes_at, fields_at}
-use Rattle.ir_bytes.proofs.Numbers.{IsBytes, drop_of_bytes_is_bytes, take_of_bytes_is_bytes, prefix_encodes_number, little_bytes_of_one_byte}
-use Rattle.ir_bytes.proofs.Steps.{each_of_two_is_ok_if_bind_is_ok, each_of_three_is_ok_if_binds_are_ok, guard_passed_if_ok, no_fault_if_judged_ok, ok_is_injective, test_failed_if_error}
+use Rattle.ir_bytes.proofs.Numbers.{IsBytes, drop_of_bytes_is_bytes, take_of_bytes_is_bytes, prefix_encodes_number, little_bytes_1}
+use Rattle.ir_bytes.proofs.Steps.{two_binds_are_ok, three_binds_are_ok, guard_passed_if_ok, no_fault_if_judged_ok, ok_is_injective, test_failed_if_error}
 
 -- what a reader took from the prefix
 pub record Takes (bytes text rest : List ℕ) : Type 0 where
   pub parts : bytes ≡ text ++ rest
   pub rest_fits : IsBytes rest
 
-pub takes_append_of_successive_takes : (a x b y c : List ℕ) → Takes a x b → Takes b y c → Takes a (x ++ y) c
-takes_append_of_successive_takes a x b y c p q = record
+pub takes_append : (a x b y c : List ℕ) → Takes a x b → Takes b y c → Takes a (x ++ y) c
+takes_append a x b y c p q = record
     { parts = p.parts ∙ ap (λ (t : List ℕ). x ++ t) q.parts ∙ sym (append_assoc x y c); rest_fits = q.rest_fits }
 
 -- ---- numbers
@@ -32,10 +33,10 @@ number_at_takes_number {E} short size bytes n fits e =
     (ok_is_injective E (little_number size bytes, drop size bytes) n g.1)
     (record { parts = own.parts; rest_fits = drop_of_bytes_is_bytes size bytes fits }, own.fits)
 
-pub number_at_of_little_bytes : {E : Type 0} (short : E) (size n : ℕ) (rest : List ℕ) → n < 256 ^ size
+pub number_at-little_bytes : {E : Type 0} (short : E) (size n : ℕ) (rest : List ℕ) → n < 256 ^ size
     → number_at short size (little_bytes size n ++ rest) ≡ Ok (n, rest)
 unfolding number_at
-number_at_of_little_bytes short size n rest fits =
+number_at-little_bytes short size n rest fits =
     let count = length-bytes_low_first 0 size n in
     let long : ltb (length (little_bytes size n ++ rest)) size ≡ false = le-ltb _ _
     (omega (arith, length-append (little_bytes size n) rest, count)) in
@@ -54,27 +55,27 @@ pub field_at_takes_field : {E : Type 0} (short : E) (f : Field E) (bytes : List 
     → field_at short f bytes ≡ Ok n → TakesField f bytes n
 unfolding field_at
 field_at_takes_field {E} short f bytes n fits e =
-    each_of_two_is_ok_if_bind_is_ok (number_at short f.size bytes) (λ m. judged (f.fault m.0) m) n e (λ m e0 e1.
+    two_binds_are_ok (number_at short f.size bytes) (λ m. judged (f.fault m.0) m) n e (λ m e0 e1.
     let g = no_fault_if_judged_ok (f.fault m.0) m n e1 in
     let t = number_at_takes_number short f.size bytes m fits e0 in
     subst (λ (x : ℕ × List ℕ). TakesField f bytes x) g.1 (record { takes = t.0; fits = t.1; passes = g.0 }))
 
-pub field_at_of_little_bytes : {E : Type 0} (short : E) (f : Field E) (n : ℕ) (rest : List ℕ) → n < 256 ^ f.size → f.fault n ≡ None
+pub field_at-little_bytes : {E : Type 0} (short : E) (f : Field E) (n : ℕ) (rest : List ℕ) → n < 256 ^ f.size → f.fault n ≡ None
     → field_at short f (little_bytes f.size n ++ rest) ≡ Ok (n, rest)
 unfolding field_at
-field_at_of_little_bytes short f n rest fits passes = rw (number_at_of_little_bytes short f.size n rest fits, passes) refl
+field_at-little_bytes short f n rest fits passes = rw (number_at-little_bytes short f.size n rest fits, passes) refl
 
 -- ---- single bytes
 
 -- a byte that was taken as the number of one byte
-pub takes_byte_if_takes_its_little_bytes : (bytes : List ℕ) (n : ℕ × List ℕ) → Takes bytes (little_bytes 1 n.0) n.1 → n.0 < 256 → Takes bytes (n.0 ∷ []) n.1
-takes_byte_if_takes_its_little_bytes bytes n takes fits = subst (λ (x : List ℕ). Takes bytes x n.1) (little_bytes_of_one_byte n.0 fits) takes
+pub takes_single_byte : (bytes : List ℕ) (n : ℕ × List ℕ) → Takes bytes (little_bytes 1 n.0) n.1 → n.0 < 256 → Takes bytes (n.0 ∷ []) n.1
+takes_single_byte bytes n takes fits = subst (λ (x : List ℕ). Takes bytes x n.1) (little_bytes_1 n.0 fits) takes
 
 pub number_at_takes_byte : {E : Type 0} (short : E) (bytes : List ℕ) (n : ℕ × List ℕ) → IsBytes bytes → number_at short 1 bytes ≡ Ok n
     → Takes bytes (n.0 ∷ []) n.1
 number_at_takes_byte short bytes n fits e =
     let t = number_at_takes_number short 1 bytes n fits e in
-    takes_byte_if_takes_its_little_bytes bytes n t.0 t.1
+    takes_single_byte bytes n t.0 t.1
 
 pub number_at_of_byte : {E : Type 0} (short : E) (n : ℕ) (rest : List ℕ) → number_at short 1 (n ∷ rest) ≡ Ok (n, rest)
 unfolding number_at
@@ -148,7 +149,7 @@ takes_fields_step : {X : Type 0} (P : X → Type 0) (encode : X → List ℕ) (n
     → TakesFields P encode (suc n) bytes (first.0 ∷ others.0, others.1)
 takes_fields_step P encode n bytes first others a b =
     record {
-      takes = rw flat_map-cons (takes_append_of_successive_takes bytes (encode first.0) first.1 (flat_map encode others.0) others.1 a.0 b.takes);
+      takes = rw flat_map-cons (takes_append bytes (encode first.0) first.1 (flat_map encode others.0) others.1 a.0 b.takes);
       count =
           ap suc b.count;
       fit = (a.1, b.fit);
@@ -162,7 +163,7 @@ fields_at_takes_fields {X} {E} P encode read takes zero bytes x fits e =
     subst (λ (y : List X × List ℕ). TakesFields P encode 0 bytes y) (ok_is_injective E ([], bytes) x e)
     (record { takes = record { parts = refl; rest_fits = fits }; count = refl; fit = tt })
 fields_at_takes_fields {X} {E} P encode read takes (suc n) bytes x fits e =
-    each_of_three_is_ok_if_binds_are_ok (read bytes) (λ first. fields_at read n first.1) (λ first others. Ok (first.0 ∷ others.0, others.1)) x e
+    three_binds_are_ok (read bytes) (λ first. fields_at read n first.1) (λ first others. Ok (first.0 ∷ others.0, others.1)) x e
     (λ first others e0 e1 e2.
     let a = takes bytes first fits e0 in
     subst (λ (y : List X × List ℕ). TakesFields P encode (suc n) bytes y) (ok_is_injective E (first.0 ∷ others.0, others.1) x e2)

@@ -38,6 +38,6 @@ different [] = 0
 different (a ∷ others) = if has_origin a others then different others else suc (different others)
 
 -- the origins of pages with these sources, from a place on
-abbrev pub origins : ℕ → List ℕ → List Origin
-origins place [] = []
-origins place (source ∷ sources) = record { source = source; place = place } ∷ origins (suc place) sources
+abbrev pub page_origins : ℕ → List ℕ → List Origin
+page_origins place [] = []
+page_origins place (source ∷ sources) = record { source = source; place = place } ∷ page_origins (suc place) sources

@@ -3,12 +3,12 @@ use Rattle.std.specs.Prelude.{◌≡◌, ◌==◌, ◌<◌, ◌≤◌, ◌*◌, 
 use Rattle.std.specs.List.{sum_by, slice_index_or}
 use Rattle.ir_image.specs.Guest.{most_threads}
 use Rattle.ir_mach.specs.Pages.{page_size}
-use Rattle.ir_thread.specs.Frames.{ThreadFrame, frame_of, thread_of}
+use Rattle.ir_thread.specs.Frames.{ThreadFrame, frame_of, framed_thread}
 use Rattle.ir_thread.specs.State as thread
 use Rattle.ir_object.specs.Cell.{Cell}
 use Rattle.ir_weave.specs.Standing.{Standing}
 use Rattle.ir_checkpoint.specs.Pages.{all_pages, same_bytes}
-use Rattle.ir_checkpoint.specs.Keeping.{Kept, most_states, is_below, total}
+use Rattle.ir_checkpoint.specs.Keeping.{KeptState, most_states, is_below, total}
 
 -- a page and the number that it was first kept under
 pub record Page : Type 0 where
@@ -32,31 +32,31 @@ newer None old = old
 newer (Some page) old = page
 
 -- pages over older ones
-abbrev pub laid : List (Option Page) → List Page → List Page
-laid [] old = []
-laid (page ∷ pages) [] = newer page blank ∷ laid pages []
-laid (page ∷ pages) (first ∷ old) = newer page first ∷ laid pages old
+abbrev pub laid_pages : List (Option Page) → List Page → List Page
+laid_pages [] old = []
+laid_pages (page ∷ pages) [] = newer page blank ∷ laid_pages pages []
+laid_pages (page ∷ pages) (first ∷ old) = newer page first ∷ laid_pages pages old
 
 -- all pages of the newest entry
 abbrev pub in_force : List Entry → List Page
 in_force [] = []
-in_force (entry ∷ older) = laid entry.pages (in_force older)
+in_force (entry ∷ older) = laid_pages entry.pages (in_force older)
 
 -- threads of frames and of their pages, 16 each
-abbrev pub threads_of : List ThreadFrame → List Page → List thread.ThreadState
-threads_of [] pages = []
-threads_of (frame ∷ frames) pages = thread_of frame (map (λ p. p.bytes) (take 16 pages)) ∷ threads_of frames (drop 16 pages)
+abbrev pub stored_threads : List ThreadFrame → List Page → List thread.ThreadState
+stored_threads [] pages = []
+stored_threads (frame ∷ frames) pages = framed_thread frame (map (λ p. p.bytes) (take 16 pages)) ∷ stored_threads frames (drop 16 pages)
 
 -- what an entry with these pages keeps
-abbrev pub kept_of : Entry → List Page → Kept
+abbrev pub kept_of : Entry → List Page → KeptState
 kept_of entry pages = record {
   number = entry.number;
-  state = record { threads = threads_of entry.frames pages; objects = entry.objects };
+  state = record { threads = stored_threads entry.frames pages; objects = entry.objects };
   sources = map (λ p. p.source) pages;
 }
 
 -- what entries keep
-abbrev pub all_kept : List Entry → List Kept
+abbrev pub all_kept : List Entry → List KeptState
 all_kept [] = []
 all_kept (entry ∷ older) = kept_of entry (in_force (entry ∷ older)) ∷ all_kept older
 
@@ -85,13 +85,13 @@ entry_of n state older = record {
 -- ---- an entry is dropped
 
 -- its own page, or else the gift
-abbrev pub first_of : Option Page → Option Page → Option Page
-first_of None gift = gift
-first_of (Some own) gift = Some own
+abbrev pub first_stored : Option Page → Option Page → Option Page
+first_stored None gift = gift
+first_stored (Some own) gift = Some own
 
 -- the pages of an entry with those of the next older one, which is dropped
 abbrev pub handed : List (Option Page) → List (Option Page) → List (Option Page)
-handed (page ∷ pages) (gift ∷ gifts) = first_of page gift ∷ handed pages gifts
+handed (page ∷ pages) (gift ∷ gifts) = first_stored page gift ∷ handed pages gifts
 handed [] gifts = []
 handed pages [] = pages
 
@@ -110,9 +110,9 @@ taken_away (suc (suc place)) (entry ∷ older) = entry ∷ taken_away (suc place
 -- ---- entries are looked for and counted
 
 -- the place of the entry of a number, or the number of entries if there is none
-abbrev pub place_of : ℕ → List Entry → ℕ
-place_of n [] = 0
-place_of n (entry ∷ older) = if entry.number == n then 0 else suc (place_of n older)
+abbrev pub frame_place : ℕ → List Entry → ℕ
+frame_place n [] = 0
+frame_place n (entry ∷ older) = if entry.number == n then 0 else suc (frame_place n older)
 
 -- how many places have a page of their own
 abbrev pub owned : List (Option Page) → ℕ
@@ -121,8 +121,8 @@ owned (None ∷ pages) = owned pages
 owned (Some page ∷ pages) = suc (owned pages)
 
 -- how many pages lie there
-abbrev pub stored : List Entry → ℕ
-stored entries = sum_by (λ e. owned e.pages) entries
+abbrev pub stored_pages : List Entry → ℕ
+stored_pages entries = sum_by (λ e. owned e.pages) entries
 
 -- ---- what a store keeps
 
@@ -147,20 +147,20 @@ AreFalling [] = ⊤
 AreFalling (entry ∷ older) = AreBelow entry.number older × AreFalling older
 
 -- a whole page, kept at n or before
-pub record IsWhole (n : ℕ) (page : Page) : Type 0 where
+pub record IsWholeStore (n : ℕ) (page : Page) : Type 0 where
   pub within : page.source ≤ n
   pub size : length page.bytes ≡ page_size
 
 abbrev pub AreWhole : ℕ → List Page → Type 0
 AreWhole n [] = ⊤
-AreWhole n (page ∷ pages) = IsWhole n page × AreWhole n pages
+AreWhole n (page ∷ pages) = IsWholeStore n page × AreWhole n pages
 
 -- a page of its own is of a later source than the older one in its place; the oldest entry has each page of its own
 abbrev pub AreNewer : ℕ → List (Option Page) → List Page → Type 0
 AreNewer n [] old = ⊤
-AreNewer n (Some page ∷ pages) [] = IsWhole n page × AreNewer n pages []
+AreNewer n (Some page ∷ pages) [] = IsWholeStore n page × AreNewer n pages []
 AreNewer n (None ∷ pages) [] = ⊥
-AreNewer n (Some page ∷ pages) (first ∷ old) = (first.source < page.source) × IsWhole n page × AreNewer n pages old
+AreNewer n (Some page ∷ pages) (first ∷ old) = (first.source < page.source) × IsWholeStore n page × AreNewer n pages old
 AreNewer n (None ∷ pages) (first ∷ old) = AreNewer n pages old
 
 abbrev pub AreLaid : List Entry → Type 0
@@ -178,7 +178,7 @@ HasStart (entry ∷ []) = (entry.number ≡ 0) × AreZero entry.cut
 HasStart (entry ∷ next ∷ older) = HasStart (next ∷ older)
 
 -- entries of n threads, the last number given being this
-pub record IsStore (n last : ℕ) (entries : List Entry) : Type 0 where
+pub record IsPageStore (n last : ℕ) (entries : List Entry) : Type 0 where
   pub few : length entries ≤ most_states
   pub threads : n ≤ most_threads
   pub each : AreEntries n entries

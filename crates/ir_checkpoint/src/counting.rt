@@ -22,9 +22,9 @@ fn owned(pages: &[Option<Page>]) -> u32
 
 // How many pages entries have of their own.
 pub fn stored(entries: &[Entry]) -> u32
-    requires all { store.stored entries.now < 2 ^ 32 }
+    requires all { store.stored_pages entries.now < 2 ^ 32 }
     requires each { All (λ e. length e.pages < 2 ^ 32) entries.now }
-    ensures { result ≡ store.stored entries.now }
+    ensures { result ≡ store.stored_pages entries.now }
 {
     let mut all = 0;
     for entry in entries {

@@ -1,7 +1,7 @@
 //! A kept cut as it lies: with the pages that differ from those of the next older one.
 
 ghost use Rattle.std.specs.Prelude.{◌≡◌, ◌<◌, length, slice_index_or, MatchOption, Some, None};
-ghost use Rattle.ir_checkpoint.specs.Store.{first_of, handed};
+ghost use Rattle.ir_checkpoint.specs.Store.{first_stored, handed};
 ghost use Rattle.ir_checkpoint.specs.Store as store;
 
 use crate::page::Page;
@@ -34,7 +34,7 @@ impl Model for Entry {
 
 // Its own page, or else the gift.
 fn prefer(own: &mut Option<Page>, gift: Option<Page>)
-    ensures { own.new ≡ first_of own.old gift }
+    ensures { own.new ≡ first_stored own.old gift }
 {
     if own.is_none() {
         *own = gift;

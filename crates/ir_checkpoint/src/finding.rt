@@ -9,7 +9,7 @@ use crate::entry::Entry;
 
 // The place of the entry of a number, or the number of entries if there is none.
 pub fn place_of(entries: &[Entry], n: u32) -> usize
-    ensures value { result ≡ store.place_of n entries.now }
+    ensures value { result ≡ store.frame_place n entries.now }
     ensures within { result ≤ length entries.now }
 {
     for place in 0..entries.len() {

@@ -60,7 +60,7 @@ impl Model for Keeper {
 
     ghost view = { λ k. record { kept = store.all_kept k.entries.items; last = k.last } };
 
-    ghost invariant = { λ k. store.IsStore (store.thread_count k.entries.items) k.last k.entries.items };
+    ghost invariant = { λ k. store.IsPageStore (store.thread_count k.entries.items) k.last k.entries.items };
 }
 
 // The entry of a state over older ones.

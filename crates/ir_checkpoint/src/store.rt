@@ -2,9 +2,9 @@
 
 ghost use Rattle.std.specs.Prelude.{◌≡◌, ◌<◌, ◌≤◌, ◌+◌, ◌*◌, length, map, take, drop, slice_index_or, slice_get, IfOk, Some};
 ghost use Rattle.std.specs.List.{All};
-ghost use Rattle.ir_thread.specs.Frames.{thread_of};
+ghost use Rattle.ir_thread.specs.Frames.{framed_thread};
 ghost use Rattle.ir_checkpoint.specs.Pages.{all_pages, same_bytes};
-ghost use Rattle.ir_checkpoint.specs.Store.{Entry, blank, in_force, changed_page, changed, threads_of, AreEntries, AreFull};
+ghost use Rattle.ir_checkpoint.specs.Store.{Entry, blank, in_force, changed_page, changed, stored_threads, AreEntries, AreFull};
 
 use crate::entry::Entry;
 use crate::page::Page;
@@ -71,7 +71,7 @@ pub fn thread_at(
     requires fits { All (λ e. 16 * t + 16 ≤ length e.pages) entries.now }
     requires full { AreFull (in_force entries.now) }
     requires some { 0 < length entries.now }
-    ensures { IfOk result (λ thread. thread ≡ thread_of frame.now (map (λ p. p.bytes) (take 16 (drop (16 * t) (in_force entries.now))))) }
+    ensures { IfOk result (λ thread. thread ≡ framed_thread frame.now (map (λ p. p.bytes) (take 16 (drop (16 * t) (in_force entries.now))))) }
 {
     let mut pages: [&[u8]; 16] = [&[]; 16];
     for i in 0..PAGES_EACH {
@@ -90,7 +90,7 @@ pub fn threads_at(
     requires fits { AreEntries (length frames.now) entries.now }
     requires full { AreFull (in_force entries.now) }
     requires some { 0 < length entries.now }
-    ensures { IfOk result (λ threads. threads.items ≡ threads_of frames.now (in_force entries.now)) }
+    ensures { IfOk result (λ threads. threads.items ≡ stored_threads frames.now (in_force entries.now)) }
 {
     let mut threads = Vec::with_capacity(alloc, frames.len())?;
     for t in 0..frames.len() {

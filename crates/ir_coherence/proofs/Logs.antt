@@ -18,15 +18,15 @@ writes_of_append : (o v : ℕ) (xs ys : List Label) → writes_among o v (xs ++ 
 writes_of_append o v [] ys = let e : writes_among o v ys ≡ 0 + writes_among o v ys = omega arith in e
 writes_of_append o v (x ∷ xs) ys = omega (arith, writes_of_append o v xs ys)
 
-nested_condition_at_most_one : (b d : Bool) → ◌≤◌ (cond b (cond d 1 0) 0) 1
-nested_condition_at_most_one true true = omega arith
-nested_condition_at_most_one true false = omega arith
-nested_condition_at_most_one false d = omega arith
+nested_bit_at_most_one : (b d : Bool) → ◌≤◌ (cond b (cond d 1 0) 0) 1
+nested_bit_at_most_one true true = omega arith
+nested_bit_at_most_one true false = omega arith
+nested_bit_at_most_one false d = omega arith
 
 reads_one_at_most_one : (o v : ℕ) (m : Label) → reads_one o v m ≤ 1
 reads_one_at_most_one o v Quiet = omega arith
 reads_one_at_most_one o v (Answer k x) = omega arith
-reads_one_at_most_one o v (EnteredAt p Reading w l) = nested_condition_at_most_one (eqb p o) (eqb w v)
+reads_one_at_most_one o v (EnteredAt p Reading w l) = nested_bit_at_most_one (eqb p o) (eqb w v)
 reads_one_at_most_one o v (EnteredAt p Writing w l) = omega arith
 reads_one_at_most_one o v (FailedTry p) = omega arith
 reads_one_at_most_one o v (LeftAt p a w) = omega arith
@@ -35,7 +35,7 @@ writes_one_at_most_one : (o v : ℕ) (m : Label) → writes_one o v m ≤ 1
 writes_one_at_most_one o v Quiet = omega arith
 writes_one_at_most_one o v (Answer k x) = omega arith
 writes_one_at_most_one o v (EnteredAt p Reading w l) = omega arith
-writes_one_at_most_one o v (EnteredAt p Writing w l) = nested_condition_at_most_one (eqb p o) (eqb w v)
+writes_one_at_most_one o v (EnteredAt p Writing w l) = nested_bit_at_most_one (eqb p o) (eqb w v)
 writes_one_at_most_one o v (FailedTry p) = omega arith
 writes_one_at_most_one o v (LeftAt p a w) = omega arith
 
@@ -48,30 +48,30 @@ writes_at_most_length o v [] = omega arith
 writes_at_most_length o v (k ∷ ks) = omega (arith, writes_one_at_most_one o v k, writes_at_most_length o v ks)
 
 -- what room is left
-pub room_after_counted_labels : (a b : EntryCounts) (ks : List Label) (n k : ℕ) → HasRoom a n → CountsMore a b ks → length ks + k ≤ n → HasRoom b k
-room_after_counted_labels a b ks n k room more l = record {
+pub room_after_counted : (a b : EntryCounts) (ks : List Label) (n k : ℕ) → HasRoom a n → CountsMore a b ks → length ks + k ≤ n → HasRoom b k
+room_after_counted a b ks n k room more l = record {
   reads = λ o v. omega (arith, room.reads o v, more.reads o v, reads_at_most_length o v ks);
   writes = λ o v. omega (arith, room.writes o v, more.writes o v, writes_at_most_length o v ks);
 }
 
-counts_after_appended_labels : (a b d : EntryCounts) (xs ys : List Label) → CountsMore a b xs → CountsMore b d ys → CountsMore a d (xs ++ ys)
-counts_after_appended_labels a b d xs ys m k = record {
+counts_more_append : (a b d : EntryCounts) (xs ys : List Label) → CountsMore a b xs → CountsMore b d ys → CountsMore a d (xs ++ ys)
+counts_more_append a b d xs ys m k = record {
   objects = k.objects ∙ m.objects;
   reads = λ o v. omega (arith, k.reads o v, m.reads o v, reads_of_append o v xs ys);
   writes = λ o v. omega (arith, k.writes o v, m.writes o v, writes_of_append o v xs ys);
 }
 
 -- one event further
-pub counts_after_taken_events_step : (a b d : EntryCounts) (es : List Event) (i : ℕ) (e : Event) → i < length es → CountsMore a b (map label_of (take i es))
+pub counts_more_take_step : (a b d : EntryCounts) (es : List Event) (i : ℕ) (e : Event) → i < length es → CountsMore a b (map label_of (take i es))
     → CountsMore b d (label_of (get_or es i e) ∷ []) → CountsMore a d (map label_of (take (i + 1) es))
-counts_after_taken_events_step a b d es i e l m k =
+counts_more_take_step a b d es i e l m k =
     subst (CountsMore a d) (sym (ap (map label_of) (take_more es i e l) ∙ map-append label_of (take i es) (get_or es i e ∷ [])))
-    (counts_after_appended_labels a b d (map label_of (take i es)) (label_of (get_or es i e) ∷ []) m k)
+    (counts_more_append a b d (map label_of (take i es)) (label_of (get_or es i e) ∷ []) m k)
 
 -- a sum of n numbers, each of at most as many events as a log has
-pub sum_below_at_most_count_times_most_events : (n : ℕ) (f : ℕ → ℕ) → ((t : ℕ) → t < n → f t ≤ most_events) → sum_below n f ≤ n * most_events
-sum_below_at_most_count_times_most_events zero f h = omega arith
-sum_below_at_most_count_times_most_events (suc n) f h = omega (arith, h n (omega arith), sum_below_at_most_count_times_most_events n f (λ t l. h t (omega arith)))
+pub sum_below_le_events : (n : ℕ) (f : ℕ → ℕ) → ((t : ℕ) → t < n → f t ≤ most_events) → sum_below n f ≤ n * most_events
+sum_below_le_events zero f h = omega arith
+sum_below_le_events (suc n) f h = omega (arith, h n (omega arith), sum_below_le_events n f (λ t l. h t (omega arith)))
 
 pub sum_below_of_successor : (n : ℕ) (f : ℕ → ℕ) → sum_below (n + 1) f ≡ f n + sum_below n f
 sum_below_of_successor n f = rw add-one refl

@@ -1,5 +1,6 @@
 -- What a line asks: one table of names and of the numbers after them.
-use Rattle.std.specs.Prelude.{ℕ, nat_lt, List, [], ◌∷◌, length, codes, find, slice_index, Option, Some, None, if◌then◌else◌, option_map, option_and_then, Result, Ok, Err, ◌-◌, ◌==◌, ◌||◌, not, Bool, true, false, take, filter, ◌^◌, ◌&&◌, nat_le}
+use Rattle.std.specs.Prelude.{ℕ, nat_lt, List, [], ◌∷◌, length, codes, find, slice_index, Option, Some, None, if◌then◌else◌, option_map}
+use Rattle.std.specs.Prelude.{option_and_then, Result, Ok, Err, ◌-◌, ◌==◌, ◌||◌, not, Bool, true, false, take, filter, ◌^◌, ◌&&◌, nat_le}
 use Rattle.std.specs.Str.{bytes_eq}
 use Rattle.ir_command.specs.declared.command.Command.{Command}
 use Rattle.ir_command.specs.declared.command.Command.TheVariants as command

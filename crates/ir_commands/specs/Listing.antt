@@ -36,11 +36,11 @@ abbrev pub listing : Recorded → List ℕ
 listing r = header_line (length r.threads) r.objects r.budget r.profile ++ threads_listing 0 r.threads
 
 -- what is written of the bytes of a trace: its lines, or the line that refuses it
-abbrev pub shown : Result Recorded TraceErr → List ℕ
-shown (Ok r) = listing r
-shown (Err e) = refused_line (unwrap_or (trace_fault_number e) 0)
+abbrev pub shown_trace : Result Recorded TraceErr → List ℕ
+shown_trace (Ok r) = listing r
+shown_trace (Err e) = refused_line (unwrap_or (trace_fault_number e) 0)
 
 -- and the exit status
-abbrev pub status_of : Result Recorded TraceErr → ExitStatus
-status_of (Ok r) = status.Done
-status_of (Err e) = status.Refused
+abbrev pub listing_status : Result Recorded TraceErr → ExitStatus
+listing_status (Ok r) = status.Done
+listing_status (Err e) = status.Refused

@@ -1,6 +1,7 @@
 //! Files that commands read, places that they write, and what is said of both.
 
-ghost use Rattle.std.specs.Prelude.{◌≡◌, OnSome, OnOk, IfSome, IfOk, Ok, false};
+ghost use Rattle.std.specs.Prelude.{◌≡◌, OnSome, OnOk, IfSome, IfOk, IfErr, Ok, false};
+ghost use Rattle.ir_commands.specs.Files.{IsImageIn, IsFileIn, IsUnreadStatus};
 ghost use Rattle.ir_make.specs.Opening.{image_bytes};
 
 use ir_elf::ElfErr;
@@ -25,7 +26,7 @@ pub fn bytes_of<D: Folder, E: Sink>(
     most: u32,
 ) -> Option<Vec<u8>>
     ensures kept { OnSome result (faults.new ≡ faults.old) }
-    ensures bytes { IfSome result (λ v. IfSome (D.bytes_at folder.now path.now) (λ file. v.items ≡ file)) }
+    ensures bytes { IfSome result (λ v. IsFileIn (D.bytes_at folder.now path.now) v.items) }
 {
     match read_file(alloc, folder, path, most) {
         Ok(bytes) => Some(bytes),
@@ -49,6 +50,7 @@ pub fn image_of_file<E: Sink>(
 ) -> Result<Vec<u8>, ExitStatus>
     ensures kept { OnOk result (faults.new ≡ faults.old) }
     ensures bytes { IfOk result (λ v. image_bytes file.items ≡ Ok v.items) }
+    ensures status { IfErr result IsUnreadStatus }
 {
     match image_bytes(alloc, file) {
         Ok(bytes) => Ok(bytes),
@@ -76,7 +78,8 @@ pub fn image_in<D: Folder, E: Sink>(
     path: &str,
 ) -> Result<Vec<u8>, ExitStatus>
     ensures kept { OnOk result (faults.new ≡ faults.old) }
-    ensures bytes { IfOk result (λ v. IfSome (D.bytes_at folder.now path.now) (λ file. image_bytes file ≡ Ok v.items)) }
+    ensures bytes { IfOk result (λ v. IsImageIn (D.bytes_at folder.now path.now) v.items) }
+    ensures status { IfErr result IsUnreadStatus }
 {
     match bytes_of(alloc, folder, faults, path, MOST_FILE_BYTES) {
         Some(file) => image_of_file(alloc, faults, path, file),

@@ -21,6 +21,7 @@ mod surroundings;
 mod trace;
 mod tracing;
 mod until;
+mod within;
 
 pub use assemble::assemble_file;
 pub use elf::convert_file;
@@ -36,3 +37,4 @@ pub use surroundings::Surroundings;
 pub use trace::trace_file;
 pub use tracing::trace_run;
 pub use until::until_file;
+pub use within::within_file;

@@ -13,8 +13,8 @@ use ir_run_picture::view_fit_run;
 use ir_stale_run::rests_run;
 use ir_stream::Sink;
 use ir_who::{Question, who_fit_run, who_run};
+use ir_who_word::word_fit_run;
 use ir_why::{FitQuestion, why_fit_run, why_run};
-use ir_word::word_fit_run;
 use std::alloc::Global;
 
 // Why there is no picture, in words: the line that was printed says which of these it is.
@@ -106,7 +106,7 @@ fn print_versions<O: Sink, E: Sink>(
     let object = arguments.object;
     match arguments.word {
         Some(word) => {
-            let asked = ir_word::Question { object, word };
+            let asked = ir_who_word::Question { object, word };
             word_fit_run(alloc, image, trace, &asked, out, faults)
         }
         None => {

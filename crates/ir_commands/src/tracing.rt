@@ -3,7 +3,7 @@
 ghost use Rattle.std.specs.Prelude.{◌≡◌, ◌≢◌, OnOk, IfOk, IfErr, false};
 ghost use Rattle.std.specs.Io.KnownBytes.{Appends};
 ghost use Rattle.ir_trace.specs.Recorded.{recorded_at};
-ghost use Rattle.ir_commands.specs.Listing.{shown, status_of};
+ghost use Rattle.ir_commands.specs.Listing.{shown_trace, listing_status};
 ghost use Rattle.ir_past.specs.Answers.{Stops, fault_words};
 ghost use Rattle.ir_files.specs.Writers.{writer_of, Took, Reports, fault_text};
 ghost use Rattle.ir_files.specs.declared.exit_status.ExitStatus.TheVariants.{Failed};
@@ -19,9 +19,9 @@ use std::alloc::Global;
 // Writes what the bytes of a trace show; the status.
 fn show<W: Sink>(alloc: Global, trace: &[u8], out: &mut W) -> Result<ExitStatus, PastErr>
     requires { W.broken out.old ≡ false }
-    ensures ok { IfOk result (λ status. (status ≡ status_of (recorded_at trace.now)) × Appends (W.written out.old) (W.written out.new) (shown (recorded_at trace.now))) }
+    ensures ok { IfOk result (λ status. (status ≡ listing_status (recorded_at trace.now)) × Appends (W.written out.old) (W.written out.new) (shown_trace (recorded_at trace.now))) }
     ensures works { OnOk result (W.broken out.new ≡ false) }
-    ensures fails { IfErr result (λ e. Stops e (writer_of (W.written out.old) (W.written out.new) (W.broken out.new)) (shown (recorded_at trace.now))) }
+    ensures fails { IfErr result (λ e. Stops e (writer_of (W.written out.old) (W.written out.new) (W.broken out.new)) (shown_trace (recorded_at trace.now))) }
 {
     match read_trace(alloc, trace) {
         Ok(trace) => {
@@ -48,12 +48,12 @@ pub fn trace_run<W: Sink, E: Sink>(
     requires writes { W.broken out.old ≡ false }
     requires reports { E.broken faults.old ≡ false }
     // All was written, by what the bytes are, and no fault reported.
-    ensures done { result ≢ Failed → (result ≡ status_of (recorded_at trace.now))
-        × Took (writer_of (W.written out.old) (W.written out.new) (W.broken out.new)) (shown (recorded_at trace.now))
+    ensures done { result ≢ Failed → (result ≡ listing_status (recorded_at trace.now))
+        × Took (writer_of (W.written out.old) (W.written out.new) (W.broken out.new)) (shown_trace (recorded_at trace.now))
         × (W.broken out.new ≡ false) × (faults.new ≡ faults.old) }
     // Else what stopped it, what that leaves, and that it is reported.
     ensures stopped { result ≡ Failed → (e : PastErr)
-        × Stops e (writer_of (W.written out.old) (W.written out.new) (W.broken out.new)) (shown (recorded_at trace.now))
+        × Stops e (writer_of (W.written out.old) (W.written out.new) (W.broken out.new)) (shown_trace (recorded_at trace.now))
         × Reports (writer_of (E.written faults.old) (E.written faults.new) (E.broken faults.new)) (fault_text (fault_words e)) }
 {
     match show(alloc, trace, out) {

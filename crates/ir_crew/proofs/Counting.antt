@@ -21,34 +21,34 @@ abbrev pub total : ℕ → (ℕ → ℕ) → ℕ
 total zero f = 0
 total (suc n) f = total n f + f n
 
-pub total_at_most_count_times_bound : (n k : ℕ) (f : ℕ → ℕ) → ((t : ℕ) → f t ≤ k) → n ≤ most_threads → total n f ≤ n * k
-total_at_most_count_times_bound zero k f h l = omega arith
-total_at_most_count_times_bound (suc n) k f h l = let r = total_at_most_count_times_bound n k f h (omega arith) in let e = h n in omega (arith, r, e)
+pub total_le_count_bound : (n k : ℕ) (f : ℕ → ℕ) → ((t : ℕ) → f t ≤ k) → n ≤ most_threads → total n f ≤ n * k
+total_le_count_bound zero k f h l = omega arith
+total_le_count_bound (suc n) k f h l = let r = total_le_count_bound n k f h (omega arith) in let e = h n in omega (arith, r, e)
 
 total_of_zeros : (n : ℕ) → total n (λ t. 0) ≡ 0
 total_of_zeros zero = refl
 total_of_zeros (suc n) = let r = total_of_zeros n in omega (arith, r)
 
-total_of_equal_functions : (n : ℕ) (f g : ℕ → ℕ) → ((t : ℕ) → t < n → f t ≡ g t) → total n f ≡ total n g
-total_of_equal_functions zero f g h = refl
-total_of_equal_functions (suc n) f g h = let r = total_of_equal_functions n f g (λ t lt. h t (omega arith)) in let s = h n (omega arith) in omega (arith, r, s)
+total_cong : (n : ℕ) (f g : ℕ → ℕ) → ((t : ℕ) → t < n → f t ≡ g t) → total n f ≡ total n g
+total_cong zero f g h = refl
+total_cong (suc n) f g h = let r = total_cong n f g (λ t lt. h t (omega arith)) in let s = h n (omega arith) in omega (arith, r, s)
 
 -- where f is k more than g at u, and the same elsewhere
-total_with_one_increased : (n u k : ℕ) (f g : ℕ → ℕ) → u < n → f u ≡ g u + k → ((t : ℕ) → t ≢ u → f t ≡ g t) → total n f ≡ total n g + k
-total_with_one_increased zero u k f g lt here others = absurd (omega arith)
-total_with_one_increased (suc n) u k f g lt here others = elim (cases_eq u n) [
-  | inl is ↦ let r = total_of_equal_functions n f g (λ t small. others t (λ e. omega (arith, e, small, is))) in let s : f n ≡ g n + k =
+total_one_increased : (n u k : ℕ) (f g : ℕ → ℕ) → u < n → f u ≡ g u + k → ((t : ℕ) → t ≢ u → f t ≡ g t) → total n f ≡ total n g + k
+total_one_increased zero u k f g lt here others = absurd (omega arith)
+total_one_increased (suc n) u k f g lt here others = elim (cases_eq u n) [
+  | inl is ↦ let r = total_cong n f g (λ t small. others t (λ e. omega (arith, e, small, is))) in let s : f n ≡ g n + k =
       subst (λ z. f z ≡ g z + k) is here in omega (arith, r, s)
-  | inr ne ↦ let r = total_with_one_increased n u k f g (omega (arith, ne, lt)) here others in let s = others n (λ e. ne (sym e)) in omega (arith, r, s)
+  | inr ne ↦ let r = total_one_increased n u k f g (omega (arith, ne, lt)) here others in let s = others n (λ e. ne (sym e)) in omega (arith, r, s)
 ]
 
 -- the entries are those of the threads
-pub total_entries_of_threads_is_all_entries : {T : Type 0} (m : Machine T) (n count : ℕ) (f : ℕ → Object) (xs : List (ℕ × Shared)) → IsLegal m n count f xs
+pub total_of_thread_entries : {T : Type 0} (m : Machine T) (n count : ℕ) (f : ℕ → Object) (xs : List (ℕ × Shared)) → IsLegal m n count f xs
     → total n (λ t. entries (of_thread t xs)) ≡ all_entries xs
-total_entries_of_threads_is_all_entries m n count f [] l = total_of_zeros n
-total_entries_of_threads_is_all_entries m n count f (x ∷ xs) l =
-    let r = total_entries_of_threads_is_all_entries m n count (objects_then f x) xs l.1 in
-    let s = total_with_one_increased n x.0 (one_if_entry x.1.0) (λ t. entries (of_thread t (x ∷ xs))) (λ t. entries (of_thread t xs)) l.0.thread
+total_of_thread_entries m n count f [] l = total_of_zeros n
+total_of_thread_entries m n count f (x ∷ xs) l =
+    let r = total_of_thread_entries m n count (objects_then f x) xs l.1 in
+    let s = total_one_increased n x.0 (one_if_entry x.1.0) (λ t. entries (of_thread t (x ∷ xs))) (λ t. entries (of_thread t xs)) l.0.thread
     (let e : entries (join_if (eqb x.0 x.0) x.1 (of_thread x.0 xs)) ≡ one_if_entry x.1.0 + entries (of_thread x.0 xs) =
     ap (λ b. entries (join_if b x.1 (of_thread x.0 xs))) (eq-eqb x.0 x.0 refl) in omega (arith, e))
     (λ t ne. ap (λ b. entries (join_if b x.1 (of_thread t xs))) (ne_eqb t x.0 ne)) in

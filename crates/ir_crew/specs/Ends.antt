@@ -13,30 +13,30 @@ use Rattle.ir_object.specs.Standing.{StandsFor}
 use Rattle.ir_object.specs.Layout.{word_place, content_place, table_length}
 use Rattle.ir_object.specs.Order.{Shared, of_thread, objects_after, IsLegal}
 use Rattle.ir_object.specs.Word.{fields_of}
-use Rattle.ir_crew.specs.Rule.{View, entries, start_objects, IsTrack}
+use Rattle.ir_crew.specs.Rule.{CrewView, entries, start_objects, IsTrackOfRule}
 
 -- the seats of the threads from t on, in order, each with no step
-abbrev pub AreSeats : TableId → ℕ → List (Seat (Unit {0}) View) → Type 0
-AreSeats id t [] = Unit {0}
-AreSeats id t (x ∷ xs) = ((x.table_id ≡ id) × (x.me ≡ (record { thread = t; steps = [] } ∷ [], []))) × AreSeats id (suc t) xs
+abbrev pub AreCrewSeats : TableId → ℕ → List (Seat (Unit {0}) CrewView) → Type 0
+AreCrewSeats id t [] = Unit {0}
+AreCrewSeats id t (x ∷ xs) = ((x.table_id ≡ id) × (x.me ≡ (record { thread = t; steps = [] } ∷ [], []))) × AreCrewSeats id (suc t) xs
 
 -- each of these tracks has the object steps of its thread
-abbrev pub AreTracks : Guest → List (ℕ × Shared) → View → Type 0
-AreTracks g steps [] = Unit {0}
-AreTracks g steps (k ∷ ks) = IsTrack (length g.entries) (start_objects g) steps k × AreTracks g steps ks
+abbrev pub AreCrewTracks : Guest → List (ℕ × Shared) → CrewView → Type 0
+AreCrewTracks g steps [] = Unit {0}
+AreCrewTracks g steps (k ∷ ks) = IsTrackOfRule (length g.entries) (start_objects g) steps k × AreCrewTracks g steps ks
 
 -- the threads have taken object steps in an order, each allowed after those before it, of which the view has those of its threads; these
 -- are the objects after them
-pub record IsEnd (g : Guest) (v : View) (objects : List Cell) : Type 0 where
+pub record IsCrewEnd (g : Guest) (v : CrewView) (objects : List Cell) : Type 0 where
   pub steps : List (ℕ × Shared)
   pub legal : IsLegal (thread_machine g.code) (length g.entries) (object_count g) (start_objects g) steps
   pub few : (t : ℕ) → entries (of_thread t steps) ≤ most_events
-  pub tracks : AreTracks g steps v
+  pub tracks : AreCrewTracks g steps v
   pub stand : (o : ℕ) → o < object_count g → StandsFor (length g.entries) (slice_index_or objects o empty)
       (objects_after (start_objects g) steps o)
 
 -- what is laid out before the first step: the objects' words are 0, and their contents the first words of the guest
-pub record IsLaid (g : Guest) (laid : List ℕ) : Type 0 where
+pub record IsCrewLaid (g : Guest) (laid : List ℕ) : Type 0 where
   pub size : length laid ≡ table_length (object_count g)
   pub free : (o : ℕ) → o < object_count g → slice_index laid (word_place o) ≡ 0
   pub contents : (o i : ℕ) → o < object_count g → i < most_object_words

@@ -7,24 +7,24 @@ use Rattle.ir_runs.specs.declared.access.Access.TheVariants.{Reading, Writing}
 use Rattle.ir_object.specs.Layout.{apart, word_place, content_place}
 use Rattle.ir_object.specs.Order.{inside_after}
 use Rattle.ir_object.specs.Word.{fields_of}
-use Rattle.ir_crew.specs.Rule.{View, shared_of, label_of}
+use Rattle.ir_crew.specs.Rule.{CrewView, shared_of, label_by_rule}
 use Rattle.ir_crew.specs.declared.deed.Deed.{Deed}
 use Rattle.ir_crew.specs.declared.deed.Deed.TheVariants.{Enter, Try, Leave, Get, Put}
 use Rattle.ir_crew.specs.declared.deed.ObjectStep.{ObjectStep}
 
 -- a seat of one thread
-abbrev pub IsAlone : View → Type 0
+abbrev pub IsAlone : CrewView → Type 0
 IsAlone [] = ⊥
 IsAlone (k ∷ []) = Unit {0}
 IsAlone (k ∷ l ∷ ks) = ⊥
 
 -- the object steps of a seat's thread
-abbrev pub history : View → List ObjectStep
+abbrev pub history : CrewView → List ObjectStep
 history [] = []
 history (k ∷ ks) = k.steps
 
 -- the view, and then this step of its thread
-abbrev pub did : View → ℕ → Deed → View
+abbrev pub did : CrewView → ℕ → Deed → CrewView
 did [] o d = []
 did (k ∷ ks) o d = record { thread = k.thread; steps = k.steps ++ record { object = o; deed = d } ∷ [] } ∷ ks
 
@@ -50,7 +50,7 @@ entered_at o v [] = v
 entered_at o v (k ∷ ks) = entered_at o (version_then o k v) ks
 
 abbrev pub M : Type 0
-M = Me (Unit {0}) View
+M = Me (Unit {0}) CrewView
 
 -- the object of a word, and the index of a word of contents
 abbrev pub object_of : ℕ → ℕ
@@ -63,10 +63,10 @@ index_of word = (word - content_place 0 0) % apart
 -- entry
 pub record IsSight (h : List ObjectStep) (o n : ℕ) : Type 0 where
   pub small : n < 2 ^ 63
-  pub version : inside_by o h ≡ Some Writing → (fields_of n).version ≡ entered_at o 0 (map label_of h)
+  pub version : inside_by o h ≡ Some Writing → (fields_of n).version ≡ entered_at o 0 (map label_by_rule h)
 
-abbrev pub looked : Step (Unit {0}) → M → ℕ → M → Type 0
-looked s me n w = (w ≡ me) × IsSight (history me.0) (object_of s.word) n
+abbrev pub looked_in_play : Step (Unit {0}) → M → ℕ → M → Type 0
+looked_in_play s me n w = (w ≡ me) × IsSight (history me.0) (object_of s.word) n
 
 -- the step was taken where the word was the one expected, and else none was
 abbrev pub tried : (ℕ → Deed) → Step (Unit {0}) → M → ℕ → M → Type 0
@@ -90,14 +90,14 @@ entered_write = tried write_entry
 abbrev pub entered_by_try : Step (Unit {0}) → M → ℕ → M → Type 0
 entered_by_try = tried try_entry
 
-abbrev pub left_by : Access → Step (Unit {0}) → M → ℕ → M → Type 0
-left_by a s me n w = (v : ℕ) × (w ≡ (did me.0 (object_of s.word) (Leave a v), me.1))
+abbrev pub left_by_play : Access → Step (Unit {0}) → M → ℕ → M → Type 0
+left_by_play a s me n w = (v : ℕ) × (w ≡ (did me.0 (object_of s.word) (Leave a v), me.1))
 
 abbrev pub left_reading : Step (Unit {0}) → M → ℕ → M → Type 0
-left_reading = left_by Reading
+left_reading = left_by_play Reading
 
 abbrev pub left_writing : Step (Unit {0}) → M → ℕ → M → Type 0
-left_writing = left_by Writing
+left_writing = left_by_play Writing
 
 abbrev pub got : Step (Unit {0}) → M → ℕ → M → Type 0
 got s me n w = (w ≡ (did me.0 (object_of s.word) (Get (index_of s.word) n), me.1)) × (n < 2 ^ 32)

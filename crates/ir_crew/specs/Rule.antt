@@ -19,8 +19,8 @@ use Rattle.ir_crew.specs.declared.deed.ObjectStep.{ObjectStep}
 use Rattle.ir_crew.specs.declared.deed.Track.{Track}
 
 -- what a seat knows: the object steps of its threads
-abbrev pub View : Type 0
-View = List Track
+abbrev pub CrewView : Type 0
+CrewView = List Track
 
 -- what the deed does to object o, and its answer; a try that entered is answered 1
 abbrev pub shared_by : ℕ → Deed → Shared
@@ -41,8 +41,8 @@ label_by o (Put i w) = Quiet
 abbrev pub shared_of : ObjectStep → Shared
 shared_of e = shared_by e.object e.deed
 
-abbrev pub label_of : ObjectStep → Label
-label_of e = label_by e.object e.deed
+abbrev pub label_by_rule : ObjectStep → Label
+label_by_rule e = label_by e.object e.deed
 
 -- 1 for an entry
 abbrev pub one_if_entry : Act → ℕ
@@ -76,34 +76,34 @@ pub record Represents (n : ℕ) (f : Fields) (b : Object) : Type 0 where
   pub inside : Counts n f b.inside
 
 -- the words are those of count objects
-pub record IsTable (n count : ℕ) (objects : ℕ → Object) (ws : List ℕ) : Type 0 where
+pub record IsCrewTable (n count : ℕ) (objects : ℕ → Object) (ws : List ℕ) : Type 0 where
   pub size : length ws ≡ table_length count
   pub words : (o : ℕ) → o < count → Represents n (fields_of (slice_index ws (word_place o))) (objects o)
   pub contents : (o i : ℕ) → o < count → i < most_object_words → slice_index ws (content_place o i) ≡ (objects o).words i
 
 -- the track has the object steps of its thread, one of n, in the order of all, with what they were answered
-pub record IsTrack (n : ℕ) (f : ℕ → Object) (steps : List (ℕ × Shared)) (k : Track) : Type 0 where
+pub record IsTrackOfRule (n : ℕ) (f : ℕ → Object) (steps : List (ℕ × Shared)) (k : Track) : Type 0 where
   pub thread : k.thread < n
   pub steps_are : of_thread k.thread steps ≡ map shared_of k.steps
-  pub labels_are : of_thread k.thread (order_labels f steps) ≡ map label_of k.steps
+  pub labels_are : of_thread k.thread (order_labels f steps) ≡ map label_by_rule k.steps
 
 -- the tracks of a seat are such, and it is the seat of their threads
-abbrev pub Fits : ℕ → (ℕ → Object) → List (ℕ × Shared) → (ℕ → ℕ) → ℕ → View → Type 0
-Fits n f steps seat id [] = Unit {0}
-Fits n f steps seat id (k ∷ ks) = (IsTrack n f steps k × (seat k.thread ≡ id)) × Fits n f steps seat id ks
+abbrev pub FitsTable : ℕ → (ℕ → Object) → List (ℕ × Shared) → (ℕ → ℕ) → ℕ → CrewView → Type 0
+FitsTable n f steps seat id [] = Unit {0}
+FitsTable n f steps seat id (k ∷ ks) = (IsTrackOfRule n f steps k × (seat k.thread ≡ id)) × FitsTable n f steps seat id ks
 
 -- there is an order of object steps, each allowed after those before it, of which each seat has those of its threads, and the words are the
 -- objects after them; no thread has more entries than events
-pub record Kept (g : Guest) (x : State (Unit {0}) View) : Type 0 where
+pub record KeptByRule (g : Guest) (x : State (Unit {0}) CrewView) : Type 0 where
   pub guest : IsGuest g
   pub steps : List (ℕ × Shared)
   pub seat : ℕ → ℕ
   pub legal : IsLegal (thread_machine g.code) (length g.entries) (object_count g) (start_objects g) steps
   pub few : (t : ℕ) → entries (of_thread t steps) ≤ most_events
-  pub fits : (id : ℕ) (v : View) → get_elem? x.views id ≡ some v → Fits (length g.entries) (start_objects g) steps seat id v
-  pub table : IsTable (length g.entries) (object_count g) (objects_after (start_objects g) steps) x.words
+  pub fits : (id : ℕ) (v : CrewView) → get_elem? x.views id ≡ some v → FitsTable (length g.entries) (start_objects g) steps seat id v
+  pub table : IsCrewTable (length g.entries) (object_count g) (objects_after (start_objects g) steps) x.words
 
 -- the tracks of n threads from t on, with no step
-abbrev pub tracks_from : ℕ → ℕ → View
-tracks_from t zero = []
-tracks_from t (suc n) = record { thread = t; steps = [] } ∷ tracks_from (suc t) n
+abbrev pub crew_tracks_from : ℕ → ℕ → CrewView
+crew_tracks_from t zero = []
+crew_tracks_from t (suc n) = record { thread = t; steps = [] } ∷ crew_tracks_from (suc t) n

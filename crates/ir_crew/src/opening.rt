@@ -6,8 +6,8 @@ ghost use mathlib.Core.Option.{some};
 ghost use lib.ListN.{get_elem?};
 ghost use Rattle.ir_image.specs.Guest.{object_count, most_object_words};
 ghost use Rattle.ir_object.specs.Layout.{word_place, content_place};
-ghost use Rattle.ir_crew.specs.Rule.{tracks_from};
-ghost use Rattle.ir_crew.specs.Ends.{AreSeats, IsEnd, IsLaid, IsObjectOf};
+ghost use Rattle.ir_crew.specs.Rule.{crew_tracks_from};
+ghost use Rattle.ir_crew.specs.Ends.{AreCrewSeats, IsCrewEnd, IsCrewLaid, IsObjectOf};
 
 use crate::plays::{Law, OffFirst};
 use crate::table::{Crew, CrewSeat};
@@ -18,7 +18,7 @@ use std::alloc::{AllocError, Global};
 
 // The words of the table before the first step: of each object its word, and its contents.
 fn lay(alloc: Global, image: &Image) -> Result<Vec<u64>, AllocError>
-    ensures { IfOk result (λ v. IsLaid image.now v.items) }
+    ensures { IfOk result (λ v. IsCrewLaid image.now v.items) }
 {
     let words = image.words();
     let each = image.object_words();
@@ -36,7 +36,7 @@ impl Crew {
     /// Out of memory.
     pub fn open(alloc: Global, image: &Image) -> Result<(Crew, Vec<CrewSeat>), AllocError>
         ensures key { IfOk result (λ r. r.0.table.shared.key ≡ image.now) }
-        ensures seats { IfOk result (λ r. AreSeats r.0.table.shared.table_id 0 r.1.items × (length r.1.items ≡ length image.now.entries)) }
+        ensures seats { IfOk result (λ r. AreCrewSeats r.0.table.shared.table_id 0 r.1.items × (length r.1.items ≡ length image.now.entries)) }
     {
         let threads = image.entries().len() as u8;
         let words = lay(alloc, image)?;
@@ -54,8 +54,8 @@ impl Crew {
         mut seat: CrewSeat,
     ) -> Result<Vec<CrewSeat>, AllocError>
         requires threads { 0 < threads }
-        requires seat { (seat.table_id ≡ self.now.table.shared.table_id) × (seat.me ≡ (tracks_from 0 threads, [])) }
-        ensures { IfOk result (λ v. AreSeats self.now.table.shared.table_id 0 v.items × (length v.items ≡ threads)) }
+        requires seat { (seat.table_id ≡ self.now.table.shared.table_id) × (seat.me ≡ (crew_tracks_from 0 threads, [])) }
+        ensures { IfOk result (λ v. AreCrewSeats self.now.table.shared.table_id 0 v.items × (length v.items ≡ threads)) }
     {
         let mut seats = Vec::with_capacity(alloc, threads as usize)?;
         for _thread in 1..threads {
@@ -108,7 +108,7 @@ impl Crew {
     pub fn close(self, seat: CrewSeat, objects: &mut [Object])
         requires seat { seat.table_id ≡ self.table.shared.table_id }
         requires room { length objects.old ≡ object_count self.table.shared.key }
-        ensures { IsEnd self.table.shared.key seat.me.0 objects.new }
+        ensures { IsCrewEnd self.table.shared.key seat.me.0 objects.new }
     {
         let Crew { table } = self;
         let closed = table.close_with(seat);

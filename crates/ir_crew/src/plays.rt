@@ -9,21 +9,21 @@ use std::collections::LinkedList;
 pub struct Law;
 
 impl TableRule<(), LinkedList<Track>, Image> for Law {
-    ghost use Rattle.ir_crew.specs.Rule.{Kept, tracks_from};
+    ghost use Rattle.ir_crew.specs.Rule.{KeptByRule, crew_tracks_from};
     ghost use Rattle.std.specs.Prelude.{length};
 
-    ghost holds = { Kept };
+    ghost holds = { KeptByRule };
 
-    ghost first = { λ g. tracks_from 0 (length g.entries) };
+    ghost first = { λ g. crew_tracks_from 0 (length g.entries) };
 }
 
 /// A look at an object's word.
 pub struct Look;
 
 impl Play<(), LinkedList<Track>> for Look {
-    ghost use Rattle.ir_crew.specs.Plays.{looked};
+    ghost use Rattle.ir_crew.specs.Plays.{looked_in_play};
 
-    ghost then = { looked };
+    ghost then = { looked_in_play };
 }
 
 /// An entry for reading, if the word is the one expected.

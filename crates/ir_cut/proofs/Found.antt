@@ -4,77 +4,77 @@ use Rattle.std.specs.List.{slice_index_or}
 use Rattle.ir_trace.specs.Recorded.{recorded_thread}
 use Rattle.ir_fit.specs.Fit.{FittedTrace}
 use Rattle.ir_fit.specs.Within.{IsFitted}
-use Rattle.ir_thread.proofs.CallerLemmas.{thread_machine_is_lawful}
-use Rattle.ir_runs.proofs.CallerLemmas.{state_invariant_at_start, least_cut_exact_at_thread, greatest_cut_exact_at_thread}
+use Rattle.ir_thread.proofs.CallerLemmas.{thread_machine_lawful}
+use Rattle.ir_runs.proofs.CallerLemmas.{state_invariant_start, least_exact_at_thread, greatest_exact_at_thread}
 use Rattle.ir_fit.proofs.CallerLemmas.{guest_start_is_start}
 use Rattle.ir_cut.specs.Positions.{machine_of, start_of, cut_of, EachRun, IsConsistentCut}
 use Rattle.ir_cut.specs.Searching.{Rising, Falling, NoneBelow, NoneAbove, AreFirst, AreRest, IsLeastCut, IsGreatestCut}
-use Rattle.ir_cut.proofs.Listing.{run_of_trace_is_listed, thread_index_of_leave_is_below_thread_count}
-use Rattle.ir_cut.proofs.Searched.{rising_at_start, rising_end_is_least, falling_at_start, falling_end_is_greatest}
-use Rattle.ir_cut.proofs.Stepping.{cut_position_is_indexed_number, cut_position_after_set_is_new_number, other_cut_position_after_set_is_unchanged}
+use Rattle.ir_cut.proofs.Listing.{run_of_trace_is_listed, leave_below_threads}
+use Rattle.ir_cut.proofs.Searched.{start_is_rising, rising_end_is_least, start_is_falling, falling_end_is_greatest}
+use Rattle.ir_cut.proofs.Stepping.{cut_of_is_indexed, cut_of_set_is_new, cut_of_set_elsewhere}
 
 -- the number that is kept of thread t, where it was copied, and those of the others
-pub position_of_thread_before_and_after_set : (ps xs : List ℕ) (t v w : ℕ) → xs ≡ ps → t < length ps → v ≡ slice_index_or xs t v → (cut_of (set xs t w) t ≡ w)
+pub cut_of_set_own : (ps xs : List ℕ) (t v w : ℕ) → xs ≡ ps → t < length ps → v ≡ slice_index_or xs t v → (cut_of (set xs t w) t ≡ w)
     × (cut_of ps t ≡ v)
-position_of_thread_before_and_after_set ps xs t v w is l read = (
-  cut_position_after_set_is_new_number xs t w (subst (λ z. t < length z) (sym is) l),
-  ap (λ z. cut_of z t) (sym is) ∙ cut_position_is_indexed_number xs t v (subst (λ z. t < length z) (sym is) l) read,
+cut_of_set_own ps xs t v w is l read = (
+  cut_of_set_is_new xs t w (subst (λ z. t < length z) (sym is) l),
+  ap (λ z. cut_of z t) (sym is) ∙ cut_of_is_indexed xs t v (subst (λ z. t < length z) (sym is) l) read,
 )
 
-pub position_of_other_thread_after_set : (ps xs : List ℕ) (t w u : ℕ) → xs ≡ ps → u ≢ t → cut_of (set xs t w) u ≡ cut_of ps u
-position_of_other_thread_after_set ps xs t w u is ne = other_cut_position_after_set_is_unchanged xs t w u ne ∙ ap (λ z. cut_of z u) is
+pub cut_of_set_other : (ps xs : List ℕ) (t w u : ℕ) → xs ≡ ps → u ≢ t → cut_of (set xs t w) u ≡ cut_of ps u
+cut_of_set_other ps xs t w u is ne = cut_of_set_elsewhere xs t w u ne ∙ ap (λ z. cut_of z u) is
 
-pub cut_is_least_if_rising_ends_with_none_below : (f : FittedTrace) → IsFitted f → (ps xs next qs next' : List ℕ) (t k v w : ℕ) → length ps ≡ length f.guest.entries
+pub rising_cut_is_least : (f : FittedTrace) → IsFitted f → (ps xs next qs next' : List ℕ) (t k v w : ℕ) → length ps ≡ length f.guest.entries
     → IsConsistentCut f ps → t < length f.guest.entries → k ≤ (recorded_thread f.recorded t).steps
     → xs ≡ ps → v ≡ slice_index_or xs t v → w ≡ max v k → length next ≡ length f.guest.entries
     → ((u : ℕ) → u < length f.guest.entries → AreFirst f ps u (cut_of next u))
     → ((os : List ℕ) (u j : ℕ) → EachRun f (Rising f os u j (set xs t w) next) → EachRun f (Rising f os u j qs next'))
     → length qs ≡ length (set xs t w) → ((u : ℕ) → u < length f.guest.entries → NoneBelow f qs next' u)
     → IsLeastCut f ps t k qs
-cut_is_least_if_rising_ends_with_none_below f fit ps xs next qs next' t k v w size con there steps copied read most sizes first rises same over = (
+rising_cut_is_least f fit ps xs next qs next' t k v w size con there steps copied read most sizes first rises same over = (
   same ∙ length-set xs t w ∙ ap length copied ∙ size,
   (λ run is.
       let inside : t < length ps = omega (arith, there, size) in
-      let own = position_of_thread_before_and_after_set ps xs t v w copied inside read in
+      let own = cut_of_set_own ps xs t v w copied inside read in
       rising_end_is_least f fit.run run is (run_of_trace_is_listed f fit.run run is) ps qs next' t k
-      (rises ps t k (λ run' is'. rising_at_start f run' is' (run_of_trace_is_listed f fit.run run' is') ps (set xs t w) next t k (con run' is').0
+      (rises ps t k (λ run' is'. start_is_rising f run' is' (run_of_trace_is_listed f fit.run run' is') ps (set xs t w) next t k (con run' is').0
       (con run' is').1 there steps
-      (own.0 ∙ most ∙ ap (λ z. max z k) (sym own.1)) (λ u ne. position_of_other_thread_after_set ps xs t w u copied ne) sizes first) run is) over),
+      (own.0 ∙ most ∙ ap (λ z. max z k) (sym own.1)) (λ u ne. cut_of_set_other ps xs t w u copied ne) sizes first) run is) over),
 )
 
-pub cut_is_greatest_if_falling_ends_with_none_above : (f : FittedTrace) → IsFitted f → (ps xs next qs next' : List ℕ) (t k v w : ℕ) → length ps ≡ length f.guest.entries
+pub falling_cut_is_greatest : (f : FittedTrace) → IsFitted f → (ps xs next qs next' : List ℕ) (t k v w : ℕ) → length ps ≡ length f.guest.entries
     → IsConsistentCut f ps → t < length f.guest.entries
     → xs ≡ ps → v ≡ slice_index_or xs t v → w ≡ min v k → ((u : ℕ) → u < length f.guest.entries → AreRest f ps u (cut_of next u))
     → ((os : List ℕ) (u j : ℕ) → EachRun f (Falling f os u j (set xs t w) next) → EachRun f (Falling f os u j qs next'))
     → length qs ≡ length (set xs t w) → ((u : ℕ) → u < length f.guest.entries → NoneAbove f qs next' u)
     → IsGreatestCut f ps t k qs
-cut_is_greatest_if_falling_ends_with_none_above f fit ps xs next qs next' t k v w size con there copied read least rest falls same over = (
+falling_cut_is_greatest f fit ps xs next qs next' t k v w size con there copied read least rest falls same over = (
   same ∙ length-set xs t w ∙ ap length copied ∙ size,
   (λ run is.
       let inside : t < length ps = omega (arith, there, size) in
-      let own = position_of_thread_before_and_after_set ps xs t v w copied inside read in
+      let own = cut_of_set_own ps xs t v w copied inside read in
       falling_end_is_greatest f fit.run run is (run_of_trace_is_listed f fit.run run is) ps qs next' t k (con run is).0
-      (falls ps t k (λ run' is'. falling_at_start f run' (run_of_trace_is_listed f fit.run run' is') ps (set xs t w) next t k (con run' is').1 there
-      (own.0 ∙ least ∙ ap (λ z. min z k) (sym own.1)) (λ u ne. position_of_other_thread_after_set ps xs t w u copied ne) rest (thread_index_of_leave_is_below_thread_count f fit.run)) run is) over),
+      (falls ps t k (λ run' is'. start_is_falling f run' (run_of_trace_is_listed f fit.run run' is') ps (set xs t w) next t k (con run' is').1 there
+      (own.0 ∙ least ∙ ap (λ z. min z k) (sym own.1)) (λ u ne. cut_of_set_other ps xs t w u copied ne) rest (leave_below_threads f fit.run)) run is) over),
 )
 
 -- ---- where the thread is in them
 
-pub least_cut_has_thread_at_position_if_start_not_above : (f : FittedTrace) → IsFitted f → (ps qs : List ℕ) (t k : ℕ) → IsConsistentCut f ps → t < length f.guest.entries
+pub least_cut_at_position : (f : FittedTrace) → IsFitted f → (ps qs : List ℕ) (t k : ℕ) → IsConsistentCut f ps → t < length f.guest.entries
     → k ≤ (recorded_thread f.recorded t).steps → IsLeastCut f ps t k qs → cut_of ps t ≤ k → cut_of qs t ≡ k
-least_cut_has_thread_at_position_if_start_not_above f fit ps qs t k con there steps least lo =
+least_cut_at_position f fit ps qs t k con there steps least lo =
     let run = fit.run.run in
     let is = fit.run.whole in
-    least_cut_exact_at_thread (machine_of f) (thread_machine_is_lawful f.guest.code) (start_of f)
-    (state_invariant_at_start (machine_of f) (start_of f) (guest_start_is_start f.guest f.recorded.budget f.recorded.profile)) run is.1.runs (cut_of ps) (cut_of qs) t k (con run is).0
+    least_exact_at_thread (machine_of f) (thread_machine_lawful f.guest.code) (start_of f)
+    (state_invariant_start (machine_of f) (start_of f) (guest_start_is_start f.guest f.recorded.budget f.recorded.profile)) run is.1.runs (cut_of ps) (cut_of qs) t k (con run is).0
     (con run is).1 lo
     (let a = is.1.steps t there in omega (arith, a, steps)) (least.1 run is)
 
-pub greatest_cut_has_thread_at_position_if_start_not_below : (f : FittedTrace) → IsFitted f → (ps qs : List ℕ) (t k : ℕ) → IsConsistentCut f ps → IsGreatestCut f ps t k qs
+pub greatest_cut_at_position : (f : FittedTrace) → IsFitted f → (ps qs : List ℕ) (t k : ℕ) → IsConsistentCut f ps → IsGreatestCut f ps t k qs
     → k ≤ cut_of ps t → cut_of qs t ≡ k
-greatest_cut_has_thread_at_position_if_start_not_below f fit ps qs t k con greatest hi =
+greatest_cut_at_position f fit ps qs t k con greatest hi =
     let run = fit.run.run in
     let is = fit.run.whole in
-    greatest_cut_exact_at_thread (machine_of f) (thread_machine_is_lawful f.guest.code) (start_of f)
-    (state_invariant_at_start (machine_of f) (start_of f) (guest_start_is_start f.guest f.recorded.budget f.recorded.profile)) run is.1.runs (cut_of ps) (cut_of qs) t k (con run is).0
+    greatest_exact_at_thread (machine_of f) (thread_machine_lawful f.guest.code) (start_of f)
+    (state_invariant_start (machine_of f) (start_of f) (guest_start_is_start f.guest f.recorded.budget f.recorded.profile)) run is.1.runs (cut_of ps) (cut_of qs) t k (con run is).0
     (con run is).1 hi (greatest.1 run is)

@@ -6,7 +6,7 @@ use Rattle.std.proofs.lemmas.List.{get_or_past}
 use Rattle.std.proofs.lemmas.Option.{slice_get_within, slice_get-get_or, get_or_from_slice_get}
 use Rattle.ir_log.specs.declared.event.Event.TheVariants.{Read}
 use Rattle.ir_fit.proofs.CallerLemmas as kept
-use Rattle.ir_fit.proofs.CallerLemmas.{length_of_placed_is_threads, emitting_thread_is_guest_thread, event_positions_are_as_many_as_events, step_at_event_position_emits_event, entry_step_is_of_event, step_of_leave_emits_leave, emitted_leave_is_placed}
+use Rattle.ir_fit.proofs.CallerLemmas.{length-placed_of, emitting_is_guest_thread, entries_count_events, event_position_emits, entry_step_is_of_event, leave_step_emits_leave, emitted_leave_is_placed}
 use Rattle.ir_cut.proofs.Again.{has_run_with_given_run_if_has_some_run}
 use Rattle.std.specs.Prelude.{slice_get}
 use Rattle.ir_runs.specs.Machine.{EnteredAt, LeftAt}
@@ -43,19 +43,19 @@ unfolding has_run_with_given_run_if_has_some_run
 run_of_trace_is_listed f h run is =
     let k : HasRun f = has_run_with_given_run_if_has_some_run f h run is in
     record {
-      sizes = λ t there. event_positions_are_as_many_as_events f k t there;
+      sizes = λ t there. entries_count_events f k t there;
       event = λ t e i x there at place.
           let inside = slice_get_within (recorded_thread f.recorded t).events e x at in
           subst (λ m. Emits (machine_of f) (start_of f) run t i (label_of m))
           (get_or_from_slice_get (recorded_thread f.recorded t).events e x x at)
           (subst (λ j. Emits (machine_of f) (start_of f) run t j (label_of (slice_index_or (recorded_thread f.recorded t).events e x)))
-          (get_or_from_slice_get (placed_at (placed_of f) t).entries e i 0 place) (step_at_event_position_emits_event f k t there e x inside));
+          (get_or_from_slice_get (placed_at (placed_of f) t).entries e i 0 place) (event_position_emits f k t there e x inside));
       entry = λ t i o a v l emitted.
-          let there = emitting_thread_is_guest_thread f k t i (EnteredAt o a v l) emitted in
+          let there = emitting_is_guest_thread f k t i (EnteredAt o a v l) emitted in
           let d : Event = Read 0 0 in
           let e = entry_step_is_of_event f k t i o a v l emitted in
           let inside = e.1 in
-          let size = event_positions_are_as_many_as_events f k t there in (
+          let size = entries_count_events f k t there in (
             e.0,
             slice_index_or (recorded_thread f.recorded t).events e.0 d,
             slice_get-get_or (placed_at (placed_of f) t).entries e.0 0
@@ -71,7 +71,7 @@ run_of_trace_is_listed f h run is =
       left = λ t e l there at.
           let inside = slice_get_within (placed_at (placed_of f) t).leaves e l at in
           subst (λ z. Emits (machine_of f) (start_of f) run t z.position (LeftAt z.object z.access z.version))
-          (get_or_from_slice_get (placed_at (placed_of f) t).leaves e l l at) (step_of_leave_emits_leave f k t there e l inside);
+          (get_or_from_slice_get (placed_at (placed_of f) t).leaves e l l at) (leave_step_emits_leave f k t there e l inside);
       leave = λ t i o a v emitted.
           let e = emitted_leave_is_placed f k t i o a v emitted in
           let d : Leave = record { position = i; object = o; access = a; version = v } in
@@ -84,12 +84,12 @@ run_of_trace_is_listed f h run is =
     }
 
 -- a leave is of a thread that there is
-pub thread_index_of_leave_is_below_thread_count : (f : FittedTrace) → HasRun f → (u e : ℕ) (l : Leave) → slice_get (placed_at (placed_of f) u).leaves e ≡ Some l
+pub leave_below_threads : (f : FittedTrace) → HasRun f → (u e : ℕ) (l : Leave) → slice_get (placed_at (placed_of f) u).leaves e ≡ Some l
     → u < length f.guest.entries
-thread_index_of_leave_is_below_thread_count f h u e l at = elim (cases_lt u (length f.guest.entries)) [
+leave_below_threads f h u e l at = elim (cases_lt u (length f.guest.entries)) [
   | inl less ↦ less
   | inr past ↦
-      let none : placed_at (placed_of f) u ≡ none_placed = get_or_past (placed_of f) u none_placed (let same = length_of_placed_is_threads f in omega (arith, past, same)) in
+      let none : placed_at (placed_of f) u ≡ none_placed = get_or_past (placed_of f) u none_placed (let same = length-placed_of f in omega (arith, past, same)) in
       absurd (some_is_none (subst (λ z. slice_get z.leaves e ≡ Some l) none at))
 ]
   where

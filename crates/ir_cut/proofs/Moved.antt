@@ -6,7 +6,7 @@ use Rattle.std.proofs.lemmas.Bool.{cases_eq, cases_lt}
 use Rattle.std.proofs.lemmas.Grind.{get_or_default_zero}
 use Rattle.std.proofs.lemmas.Option.{slice_get-get_or, get_or_from_slice_get}
 use Rattle.ir_cut.specs.Positions.{cut_of}
-use Rattle.ir_cut.specs.Moving.{ArePlaced, EachPlace, IsRaised, IsLowered}
+use Rattle.ir_cut.specs.Moving.{ArePlacedBetween, EachPlace, IsRaised, IsLowered}
 use Rattle.ir_fit.specs.declared.place.Place.{Place}
 
 -- ---- which places come first
@@ -27,18 +27,18 @@ each_place_step ps n p P is here h i q l e = elim (cases_lt i n) [
 
 -- ---- raised
 
-pub unchanged_cut_is_raised_for_no_places : (xs : List ℕ) (ps : List Place) → IsRaised xs xs ps 0
-unchanged_cut_is_raised_for_no_places xs ps = record {
+pub raised_for_no_places : (xs : List ℕ) (ps : List Place) → IsRaised xs xs ps 0
+raised_for_no_places xs ps = record {
   size = refl;
   above = λ u. le_refl (cut_of xs u);
   inside = each_of_no_places ps (λ p. p.position < cut_of xs p.thread);
   least = λ c h g u. h u;
 }
 
-pub is_raised_step_with_max_set : (old cur new : List ℕ) (ps : List Place) (n : ℕ) (p : Place) → IsRaised old cur ps n → slice_get ps n ≡ Some p
+pub raised_max_step : (old cur new : List ℕ) (ps : List Place) (n : ℕ) (p : Place) → IsRaised old cur ps n → slice_get ps n ≡ Some p
     → p.thread < length cur
     → new ≡ set cur p.thread (max (cut_of cur p.thread) (p.position + 1)) → IsRaised old new ps (n + 1)
-is_raised_step_with_max_set old cur new ps n p r is l e =
+raised_max_step old cur new ps n p r is l e =
     let own : cut_of new p.thread ≡ max (cut_of cur p.thread) (p.position + 1) = ap (λ z. cut_of z p.thread) e
     ∙ get_or-set_same cur p.thread (max (cut_of cur p.thread) (p.position + 1)) 0 l in
     let rest : (u : ℕ) → u ≢ p.thread → cut_of new u ≡ cut_of cur u = λ u ne. ap (λ z. cut_of z u) e
@@ -62,18 +62,18 @@ is_raised_step_with_max_set old cur new ps n p r is l e =
 
 -- ---- lowered
 
-pub unchanged_cut_is_lowered_for_no_places : (xs : List ℕ) (ps : List Place) → IsLowered xs xs ps 0
-unchanged_cut_is_lowered_for_no_places xs ps = record {
+pub lowered_for_no_places : (xs : List ℕ) (ps : List Place) → IsLowered xs xs ps 0
+lowered_for_no_places xs ps = record {
   size = refl;
   below = λ u. le_refl (cut_of xs u);
   outside = each_of_no_places ps (λ p. cut_of xs p.thread ≤ p.position);
   greatest = λ c h g u. h u;
 }
 
-pub is_lowered_step_with_min_set : (old cur new : List ℕ) (ps : List Place) (n : ℕ) (p : Place) → IsLowered old cur ps n → slice_get ps n ≡ Some p
+pub lowered_min_step : (old cur new : List ℕ) (ps : List Place) (n : ℕ) (p : Place) → IsLowered old cur ps n → slice_get ps n ≡ Some p
     → p.thread < length cur
     → new ≡ set cur p.thread (min (cut_of cur p.thread) p.position) → IsLowered old new ps (n + 1)
-is_lowered_step_with_min_set old cur new ps n p r is l e =
+lowered_min_step old cur new ps n p r is l e =
     let own : cut_of new p.thread ≡ min (cut_of cur p.thread) p.position = ap (λ z. cut_of z p.thread) e
     ∙ get_or-set_same cur p.thread (min (cut_of cur p.thread) p.position) 0 l in
     let rest : (u : ℕ) → u ≢ p.thread → cut_of new u ≡ cut_of cur u = λ u ne. ap (λ z. cut_of z u) e
@@ -98,49 +98,49 @@ is_lowered_step_with_min_set old cur new ps n p r is l e =
 -- ---- what the code reads
 
 -- a position that was read
-pub indexed_position_is_cut_position : (xs : List ℕ) (t v : ℕ) → t < length xs → v ≡ slice_index_or xs t v → v ≡ cut_of xs t
-indexed_position_is_cut_position xs t v l e = e ∙ get_or_default_zero xs t v l
+pub indexed_is_cut_position : (xs : List ℕ) (t v : ℕ) → t < length xs → v ≡ slice_index_or xs t v → v ≡ cut_of xs t
+indexed_is_cut_position xs t v l e = e ∙ get_or_default_zero xs t v l
 
 -- the place that comes next
 abbrev pub place_at : List Place → ℕ → Place
 place_at ps n = slice_index_or ps n (record { position = 0; version = 0; thread = 0 })
 
-pub thread_and_position_of_place_at_are_in_range_if_placed : (k : ℕ) (ps : List Place) (n : ℕ) → ArePlaced k ps → n < length ps → ((place_at ps n).thread < k)
+pub placed_thread_in_range : (k : ℕ) (ps : List Place) (n : ℕ) → ArePlacedBetween k ps → n < length ps → ((place_at ps n).thread < k)
     × ((place_at ps n).position + 1 < 2 ^ 64)
-thread_and_position_of_place_at_are_in_range_if_placed k ps n h l = h n (place_at ps n) l (slice_get-get_or ps n _ l)
+placed_thread_in_range k ps n h l = h n (place_at ps n) l (slice_get-get_or ps n _ l)
 
-pub is_raised_after_next_place : (old cur : List ℕ) (ps : List Place) (n v top : ℕ) → ArePlaced (length old) ps → IsRaised old cur ps n → n < length ps
+pub raised_next_place : (old cur : List ℕ) (ps : List Place) (n v top : ℕ) → ArePlacedBetween (length old) ps → IsRaised old cur ps n → n < length ps
     → v ≡ slice_index_or cur (place_at ps n).thread v
     → top ≡ max v ((place_at ps n).position + 1) → IsRaised old (set cur (place_at ps n).thread top) ps (n + 1)
-is_raised_after_next_place old cur ps n v top h r l e is =
-    let there : (place_at ps n).thread < length cur = (let a = (thread_and_position_of_place_at_are_in_range_if_placed (length old) ps n h l).0 in omega (arith, a, r.size)) in
-    is_raised_step_with_max_set old cur (set cur (place_at ps n).thread top) ps n (place_at ps n) r (slice_get-get_or ps n _ l) there
+raised_next_place old cur ps n v top h r l e is =
+    let there : (place_at ps n).thread < length cur = (let a = (placed_thread_in_range (length old) ps n h l).0 in omega (arith, a, r.size)) in
+    raised_max_step old cur (set cur (place_at ps n).thread top) ps n (place_at ps n) r (slice_get-get_or ps n _ l) there
     (ap (set cur (place_at ps n).thread) (is ∙ ap (λ z. max z ((place_at ps n).position + 1))
-    (indexed_position_is_cut_position cur (place_at ps n).thread v there e)))
+    (indexed_is_cut_position cur (place_at ps n).thread v there e)))
 
-pub is_lowered_after_next_place : (old cur : List ℕ) (ps : List Place) (n v low : ℕ) → ArePlaced (length old) ps → IsLowered old cur ps n → n < length ps
+pub lowered_next_place : (old cur : List ℕ) (ps : List Place) (n v low : ℕ) → ArePlacedBetween (length old) ps → IsLowered old cur ps n → n < length ps
     → v ≡ slice_index_or cur (place_at ps n).thread v
     → low ≡ min v (place_at ps n).position → IsLowered old (set cur (place_at ps n).thread low) ps (n + 1)
-is_lowered_after_next_place old cur ps n v low h r l e is =
-    let there : (place_at ps n).thread < length cur = (let a = (thread_and_position_of_place_at_are_in_range_if_placed (length old) ps n h l).0 in omega (arith, a, r.size)) in
-    is_lowered_step_with_min_set old cur (set cur (place_at ps n).thread low) ps n (place_at ps n) r (slice_get-get_or ps n _ l) there
+lowered_next_place old cur ps n v low h r l e is =
+    let there : (place_at ps n).thread < length cur = (let a = (placed_thread_in_range (length old) ps n h l).0 in omega (arith, a, r.size)) in
+    lowered_min_step old cur (set cur (place_at ps n).thread low) ps n (place_at ps n) r (slice_get-get_or ps n _ l) there
     (ap (set cur (place_at ps n).thread) (is ∙ ap (λ z. min z (place_at ps n).position)
-    (indexed_position_is_cut_position cur (place_at ps n).thread v there e)))
+    (indexed_is_cut_position cur (place_at ps n).thread v there e)))
 
 -- whether the next place is inside, and all that were before it
-pub places_inside_step : (xs : List ℕ) (ps : List Place) (n v : ℕ) → ArePlaced (length xs) ps → n < length ps
+pub places_inside_step : (xs : List ℕ) (ps : List Place) (n v : ℕ) → ArePlacedBetween (length xs) ps → n < length ps
     → v ≡ slice_index_or xs (place_at ps n).thread v → (place_at ps n).position < v
     → EachPlace ps n (λ p. p.position < cut_of xs p.thread) → EachPlace ps (n + 1) (λ p. p.position < cut_of xs p.thread)
 places_inside_step xs ps n v h l e less each =
-    let there = (thread_and_position_of_place_at_are_in_range_if_placed (length xs) ps n h l).0 in
+    let there = (placed_thread_in_range (length xs) ps n h l).0 in
     each_place_step ps n (place_at ps n) (λ p. p.position < cut_of xs p.thread) (slice_get-get_or ps n _ l)
-    (let same = indexed_position_is_cut_position xs (place_at ps n).thread v there e in omega (arith, less, same)) each
+    (let same = indexed_is_cut_position xs (place_at ps n).thread v there e in omega (arith, less, same)) each
 
-pub places_not_inside_if_place_outside : (xs : List ℕ) (ps : List Place) (n v : ℕ) → ArePlaced (length xs) ps → n < length ps
+pub outside_place_excludes : (xs : List ℕ) (ps : List Place) (n v : ℕ) → ArePlacedBetween (length xs) ps → n < length ps
     → v ≡ slice_index_or xs (place_at ps n).thread v → v ≤ (place_at ps n).position
     → EachPlace ps (length ps) (λ p. p.position < cut_of xs p.thread) → ⊥
-places_not_inside_if_place_outside xs ps n v h l e less each =
-    let there = (thread_and_position_of_place_at_are_in_range_if_placed (length xs) ps n h l).0 in
+outside_place_excludes xs ps n v h l e less each =
+    let there = (placed_thread_in_range (length xs) ps n h l).0 in
     let a : (place_at ps n).position < cut_of xs (place_at ps n).thread = each n (place_at ps n) l (slice_get-get_or ps n _ l) in
-    let same = indexed_position_is_cut_position xs (place_at ps n).thread v there e in
+    let same = indexed_is_cut_position xs (place_at ps n).thread v there e in
     omega (arith, a, less, same)

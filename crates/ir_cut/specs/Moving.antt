@@ -9,8 +9,8 @@ abbrev pub EachPlace : List Place → ℕ → (Place → Type 0) → Type 0
 EachPlace ps n P = (i : ℕ) (p : Place) → i < n → slice_get ps i ≡ Some p → P p
 
 -- the steps at the places are of threads that there are, and none is the last that can be counted
-abbrev pub ArePlaced : ℕ → List Place → Type 0
-ArePlaced n ps = EachPlace ps (length ps) (λ p. (p.thread < n) × (p.position + 1 < 2 ^ 64))
+abbrev pub ArePlacedBetween : ℕ → List Place → Type 0
+ArePlacedBetween n ps = EachPlace ps (length ps) (λ p. (p.thread < n) × (p.position + 1 < 2 ^ 64))
 
 -- the least positions at or above the old ones with the steps at the first n places inside
 pub record IsRaised (old new : List ℕ) (ps : List Place) (n : ℕ) : Type 0 where

@@ -100,8 +100,8 @@ pub record AreLeaves (f : FittedTrace) (next : List ℕ) : Type 0 where
   pub some : (t : ℕ) → t < length f.guest.entries → cut_of next t ≤ length (placed_at (placed_of f) t).leaves
 
 -- what the steps of thread t in the cut need is in it
-abbrev pub IsClosed : FittedTrace → List Step → Cut → ℕ → Type 0
-IsClosed f run c t = (i : ℕ) (k : Label) → Emits (machine_of f) (start_of f) run t i k → i < c t → AreInside f run (NeededBy k) c
+abbrev pub IsClosedCut : FittedTrace → List Step → Cut → ℕ → Type 0
+IsClosedCut f run c t = (i : ℕ) (k : Label) → Emits (machine_of f) (start_of f) run t i k → i < c t → AreInside f run (NeededBy k) c
 
 -- how many events of the threads come after those counted by next
 abbrev pub events_left : FittedTrace → List ℕ → ℕ

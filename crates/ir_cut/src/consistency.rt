@@ -4,7 +4,7 @@ ghost use Rattle.std.specs.Prelude.{◌≡◌, ◌<◌, ◌≤◌, ℕ, length, 
 ghost use Rattle.ir_trace.specs.Recorded.{recorded_thread};
 ghost use Rattle.ir_cut.specs.Positions.{EachRun, IsConsistentCut, cut_of};
 ghost use Rattle.ir_fit.specs.Within.{IsFitted};
-ghost use Rattle.ir_cut.specs.Searching.{IsClosed};
+ghost use Rattle.ir_cut.specs.Searching.{IsClosedCut};
 
 use crate::cut::Cut;
 use crate::logs::{log_of, steps_of};
@@ -16,7 +16,7 @@ fn is_closed(fitted: &Fitted, positions: &[u64], t: usize) -> bool
     requires fitted { IsFitted fitted.now }
     requires size { length positions.now ≡ length fitted.now.guest.entries }
     requires thread { t < length fitted.now.guest.entries }
-    ensures { IsTrue result ↔ EachRun fitted.now (λ run. IsClosed fitted.now run (cut_of positions.now) t) }
+    ensures { IsTrue result ↔ EachRun fitted.now (λ run. IsClosedCut fitted.now run (cut_of positions.now) t) }
 {
     let events = log_of(fitted, t);
     let places = fitted.entries(t);
@@ -36,7 +36,7 @@ fn is_within(fitted: &Fitted, positions: &[u64], t: usize) -> bool
     requires fitted { IsFitted fitted.now }
     requires size { length positions.now ≡ length fitted.now.guest.entries }
     requires thread { t < length fitted.now.guest.entries }
-    ensures { IsTrue result ↔ (cut_of positions.now t ≤ (recorded_thread fitted.now.recorded t).steps) × EachRun fitted.now (λ run. IsClosed fitted.now run (cut_of positions.now) t) }
+    ensures { IsTrue result ↔ (cut_of positions.now t ≤ (recorded_thread fitted.now.recorded t).steps) × EachRun fitted.now (λ run. IsClosedCut fitted.now run (cut_of positions.now) t) }
 {
     positions[t] <= steps_of(fitted, t) && is_closed(fitted, positions, t)
 }

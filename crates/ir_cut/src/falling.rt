@@ -80,7 +80,8 @@ fn take_leave(fitted: &Fitted, positions: &mut Vec<u64>, next: &mut Vec<usize>, 
     ensures size { length positions.new.items ≡ length positions.old.items }
     ensures each { AreLeaves fitted.now next.new.items }
     ensures fewer { leaves_left next.new.items < leaves_left next.old.items }
-    ensures falls { (ps : List ℕ) (u k : ℕ) → EachRun fitted.now (Falling fitted.now ps u k positions.old.items next.old.items) → EachRun fitted.now (Falling fitted.now ps u k positions.new.items next.new.items) }
+    ensures falls { (ps : List ℕ) (u k : ℕ) → EachRun fitted.now (Falling fitted.now ps u k positions.old.items next.old.items)
+        → EachRun fitted.now (Falling fitted.now ps u k positions.new.items next.new.items) }
 {
     let last = next[t] - 1;
     let leave = fitted.leaves(t)[last];
@@ -94,7 +95,8 @@ fn fall(fitted: &Fitted, positions: &mut Vec<u64>, next: &mut Vec<usize>)
     requires size { length positions.old.items ≡ length fitted.now.guest.entries }
     requires each { AreLeaves fitted.now next.old.items }
     ensures size { length positions.new.items ≡ length positions.old.items }
-    ensures falls { (ps : List ℕ) (u k : ℕ) → EachRun fitted.now (Falling fitted.now ps u k positions.old.items next.old.items) → EachRun fitted.now (Falling fitted.now ps u k positions.new.items next.new.items) }
+    ensures falls { (ps : List ℕ) (u k : ℕ) → EachRun fitted.now (Falling fitted.now ps u k positions.old.items next.old.items)
+        → EachRun fitted.now (Falling fitted.now ps u k positions.new.items next.new.items) }
     ensures over { (t : ℕ) → t < length fitted.now.guest.entries → NoneAbove fitted.now positions.new.items next.new.items t }
 {
     'leaves: while let Some(t) = thread_above(fitted, positions.as_slice(), next.as_slice()) {

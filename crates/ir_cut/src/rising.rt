@@ -66,7 +66,8 @@ fn take_event(fitted: &Fitted, positions: &mut Vec<u64>, next: &mut Vec<usize>, 
     ensures size { length positions.new.items ≡ length positions.old.items }
     ensures each { length next.new.items ≡ length next.old.items }
     ensures fewer { events_left fitted.now next.new.items < events_left fitted.now next.old.items }
-    ensures rises { (ps : List ℕ) (u k : ℕ) → EachRun fitted.now (Rising fitted.now ps u k positions.old.items next.old.items) → EachRun fitted.now (Rising fitted.now ps u k positions.new.items next.new.items) }
+    ensures rises { (ps : List ℕ) (u k : ℕ) → EachRun fitted.now (Rising fitted.now ps u k positions.old.items next.old.items)
+        → EachRun fitted.now (Rising fitted.now ps u k positions.new.items next.new.items) }
 {
     let i = next[t];
     let event = log_of(fitted, t)[i];
@@ -80,7 +81,8 @@ fn rise(fitted: &Fitted, positions: &mut Vec<u64>, next: &mut Vec<usize>)
     requires size { length positions.old.items ≡ length fitted.now.guest.entries }
     requires each { length next.old.items ≡ length fitted.now.guest.entries }
     ensures size { length positions.new.items ≡ length positions.old.items }
-    ensures rises { (ps : List ℕ) (u k : ℕ) → EachRun fitted.now (Rising fitted.now ps u k positions.old.items next.old.items) → EachRun fitted.now (Rising fitted.now ps u k positions.new.items next.new.items) }
+    ensures rises { (ps : List ℕ) (u k : ℕ) → EachRun fitted.now (Rising fitted.now ps u k positions.old.items next.old.items)
+        → EachRun fitted.now (Rising fitted.now ps u k positions.new.items next.new.items) }
     ensures over { (t : ℕ) → t < length fitted.now.guest.entries → NoneBelow fitted.now positions.new.items next.new.items t }
 {
     'events: while let Some(t) = thread_below(fitted, positions.as_slice(), next.as_slice()) {

@@ -9,9 +9,9 @@ use Rattle.ir_weave.specs.Standing.{Standing}
 use Rattle.ir_debug.specs.Debugging.{IsDebugging, IsDesk, AllKept}
 
 -- the facts of a trace are those of one that is equal
-pub is_desk_if_parts_are_valid_for_its_trace : (f : FittedTrace) (d : Desk) → d.fitted ≡ f → HasRun f → IsCutOf f d.at → AreWatchable d.points → AllKept f d.kept
+pub desk_by_parts : (f : FittedTrace) (d : Desk) → d.fitted ≡ f → HasRun f → IsCutOf f d.at → AreWatchable d.points → AllKept f d.kept
     → length d.kept ≤ most_kept + 1 → IsDesk d
-is_desk_if_parts_are_valid_for_its_trace f d same run cut points kept few = record {
+desk_by_parts f d same run cut points kept few = record {
   run = subst HasRun (sym same) run;
   size = subst (λ (g : FittedTrace). length d.at ≡ threads_of g) (sym same) cut.0;
   at = subst (λ (g : FittedTrace). IsConsistentCut g d.at) (sym same) cut.1;
@@ -21,12 +21,12 @@ is_desk_if_parts_are_valid_for_its_trace f d same run cut points kept few = reco
 }
 
 -- a debugger whose last answer was no move's, over the machine's cut, points and kept cuts as they were
-pub is_debugging_if_desk_is_not_fresh : (d next : Desk) (state : Standing) → next.fitted ≡ d.fitted → next.at ≡ d.at → next.points ≡ d.points → next.kept ≡ d.kept
+pub moved_is_debugging : (d next : Desk) (state : Standing) → next.fitted ≡ d.fitted → next.at ≡ d.at → next.points ≡ d.points → next.kept ≡ d.kept
     → next.fresh ≡ false → IsDesk d → IsDebugging (record { desk = next; state = state })
-is_debugging_if_desk_is_not_fresh d next state same at points kept spoken is =
+moved_is_debugging d next state same at points kept spoken is =
     let few : length next.kept ≤ most_kept + 1 = subst (λ ks. length ks ≤ most_kept + 1) (sym kept) is.few in
     record {
-      desk = is_desk_if_parts_are_valid_for_its_trace d.fitted next same is.run (subst (IsCutOf d.fitted) (sym at) (is.size, is.at)) (subst AreWatchable (sym points) is.points)
+      desk = desk_by_parts d.fitted next same is.run (subst (IsCutOf d.fitted) (sym at) (is.size, is.at)) (subst AreWatchable (sym points) is.points)
           (subst (AllKept d.fitted) (sym kept) is.kept) few;
       fresh = λ e. absurd (let no : false ≡ true = sym spoken ∙ e in cc no);
     }

@@ -11,23 +11,23 @@ use Rattle.ir_command.specs.declared.refusal.Refusal.{Refusal}
 use Rattle.ir_command.specs.declared.refusal.Refusal.TheVariants.{LineTooLong}
 use Rattle.ir_debug.specs.Machine.{Desk, RepliesBy, Replies, quits_by, quits}
 
-command_of_too_long_line_is_refused : (line : List ℕ) → most_line < length line → command_of line ≡ Err LineTooLong
+long_line_is_refused : (line : List ℕ) → most_line < length line → command_of line ≡ Err LineTooLong
 unfolding command_of
-command_of_too_long_line_is_refused line h = let e : nat_lt most_line (length line) ≡ true = lt-ltb most_line (length line) h in rw e refl
+long_line_is_refused line h = let e : nat_lt most_line (length line) ≡ true = lt-ltb most_line (length line) h in rw e refl
 
-command_of_long_prefix_is_command_of_line : (k : ℕ) (line : List ℕ) → most_line < k → command_of (take k line) ≡ command_of line
-command_of_long_prefix_is_command_of_line k line h =
+long_prefix_command : (k : ℕ) (line : List ℕ) → most_line < k → command_of (take k line) ≡ command_of line
+long_prefix_command k line h =
     elim (cases_lt k (length line)) [
-      | inl lt ↦ command_of_too_long_line_is_refused (take k line) (omega (arith, length-take k line)) ∙ sym (command_of_too_long_line_is_refused line (omega arith))
+      | inl lt ↦ long_line_is_refused (take k line) (omega (arith, length-take k line)) ∙ sym (long_line_is_refused line (omega arith))
       | inr le ↦ ap (λ l. command_of l) (take_all k line le)
     ]
 
-pub replies_to_line_if_to_kept_bytes : (d : Desk) (line text : List ℕ) (next : Desk) → Replies d (take most_kept_bytes line) text next → Replies d line text next
+pub replies_by_kept_bytes : (d : Desk) (line text : List ℕ) (next : Desk) → Replies d (take most_kept_bytes line) text next → Replies d line text next
 unfolding Replies
-replies_to_line_if_to_kept_bytes d line text next is =
+replies_by_kept_bytes d line text next is =
     let P : Result (Option Command) Refusal → Type 0 = λ a. EachRun d.fitted (λ run. RepliesBy a run d text next) in
-    subst P (command_of_long_prefix_is_command_of_line most_kept_bytes line (omega arith)) is
+    subst P (long_prefix_command most_kept_bytes line (omega arith)) is
 
-pub quits_of_kept_bytes_is_quits_of_line : (line : List ℕ) → quits (take most_kept_bytes line) ≡ quits line
+pub quits_by_kept_bytes : (line : List ℕ) → quits (take most_kept_bytes line) ≡ quits line
 unfolding quits
-quits_of_kept_bytes_is_quits_of_line line = ap quits_by (command_of_long_prefix_is_command_of_line most_kept_bytes line (omega arith))
+quits_by_kept_bytes line = ap quits_by (long_prefix_command most_kept_bytes line (omega arith))

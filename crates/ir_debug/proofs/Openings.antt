@@ -22,9 +22,9 @@ use Rattle.ir_debug.specs.declared.ended.SessionErr.TheVariants as err
 
 -- ---- before a line is read
 
-unchanged_input_consumes_empty_text : (a : Option (List ℕ)) → Consumes a a []
-unchanged_input_consumes_empty_text None = tt
-unchanged_input_consumes_empty_text (Some xs) = refl
+unchanged_consumes_none : (a : Option (List ℕ)) → Consumes a a []
+unchanged_consumes_none None = tt
+unchanged_consumes_none (Some xs) = refl
 
 lines_of_empty_input : lines_of [] ≡ []
 unfolding split_lines
@@ -34,49 +34,49 @@ rest_of_empty_input : (split_lines []).rest ≡ []
 unfolding split_lines
 rest_of_empty_input = refl
 
-through_of_no_lines_is_no_lines : (lines : List (List ℕ)) → lines ≡ [] → through quits lines ≡ lines
+through_no_lines : (lines : List (List ℕ)) → lines ≡ [] → through quits lines ≡ lines
 unfolding through
-through_of_no_lines_is_no_lines [] e = refl
-through_of_no_lines_is_no_lines (l ∷ ls) e = absurd cc
+through_no_lines [] e = refl
+through_no_lines (l ∷ ls) e = absurd cc
 
-session_text_of_no_lines_is_opening_text : (o : Opening) → SessionText o [] (opening_text o) o
+session_text_no_lines : (o : Opening) → SessionText o [] (opening_text o) o
 unfolding LinesAnswered
-session_text_of_no_lines_is_opening_text (ImageRefused e) = (refl, refl)
-session_text_of_no_lines_is_opening_text (TraceRefused e) = (refl, refl)
-session_text_of_no_lines_is_opening_text (Unfit v) = (refl, refl)
-session_text_of_no_lines_is_opening_text (Ready d) = ([], d, (refl, refl), sym (append-nil (opening_text (Ready d))), refl)
+session_text_no_lines (ImageRefused e) = (refl, refl)
+session_text_no_lines (TraceRefused e) = (refl, refl)
+session_text_no_lines (Unfit v) = (refl, refl)
+session_text_no_lines (Ready d) = ([], d, (refl, refl), sym (append-nil (opening_text (Ready d))), refl)
 
 -- the writer failed in the opening lines
-pub answered_in_part_of_opening_prefix : (image trace : List ℕ) (o : Opening) (limit : ℕ) (a w0 w1 : Option (List ℕ)) → Opens image trace o
+pub opening_answered_part : (image trace : List ℕ) (o : Opening) (limit : ℕ) (a w0 w1 : Option (List ℕ)) → Opens image trace o
     → AppendsPrefix w0 w1 (opening_text o) → ReadsUpTo limit a a (AnsweredInPart image trace a w0 w1)
-answered_in_part_of_opening_prefix image trace o limit a w0 w1 opens prefix = record {
+opening_answered_part image trace o limit a w0 w1 opens prefix = record {
   consumed = [];
-  taken = unchanged_input_consumes_empty_text a;
+  taken = unchanged_consumes_none a;
   within = omega arith;
   holds = record {
-    goes = through_of_no_lines_is_no_lines (lines_of []) lines_of_empty_input;
+    goes = through_no_lines (lines_of []) lines_of_empty_input;
     ended = λ some. absurd (some rest_of_empty_input);
     wrote = inl (
       lines_of_empty_input,
-      record { opening = o; opens = opens; text = opening_text o; last = o; says = session_text_of_no_lines_is_opening_text o; took = prefix },
+      record { opening = o; opens = opens; text = opening_text o; last = o; says = session_text_no_lines o; took = prefix },
     );
   };
 }
 
 -- ---- where no machine is ready
 
-pub reads_up_to_unchanged_input_if_holds_of_empty : (limit : ℕ) (a : Option (List ℕ)) (P : List ℕ → Type 0) → P [] → ReadsUpTo limit a a P
-reads_up_to_unchanged_input_if_holds_of_empty limit a P p = record { consumed = []; taken = unchanged_input_consumes_empty_text a; within = omega arith; holds = p }
+pub reads_up_to_unchanged : (limit : ℕ) (a : Option (List ℕ)) (P : List ℕ → Type 0) → P [] → ReadsUpTo limit a a P
+reads_up_to_unchanged limit a P p = record { consumed = []; taken = unchanged_consumes_none a; within = omega arith; holds = p }
 
 pub if_some_if_each_holds : (a : Option (List ℕ)) (P : List ℕ → Type 0) → ((input : List ℕ) → P input) → IfSome a P
 if_some_if_each_holds None P p = tt
 if_some_if_each_holds (Some xs) P p = p xs
 
 -- the opening lines are the text, whatever the lines
-pub session_of_refused_opening : (image trace : List ℕ) (o p : Opening) (limit : ℕ) (result : Result Ended SessionErr) (w0 w1 : Option (List ℕ)) → o ≡ p
+pub refused_session : (image trace : List ℕ) (o p : Opening) (limit : ℕ) (result : Result Ended SessionErr) (w0 w1 : Option (List ℕ)) → o ≡ p
     → ((lines : List (List ℕ)) → SessionText p lines (opening_text p) p) → ((input : List ℕ) → result ≡ ending_of p limit input)
     → Opens image trace o → Appends w0 w1 (opening_text o) → (input : List ℕ) → Session image trace limit result w0 w1 input
-session_of_refused_opening image trace o p limit result w0 w1 is says ending opens grown input = record {
+refused_session image trace o p limit result w0 w1 is says ending opens grown input = record {
   transcript = record {
     opening = p;
     opens = subst (Opens image trace) is opens;
@@ -103,21 +103,21 @@ pub if_some_of_implied : (a : Option (List ℕ)) (P Q : List ℕ → Type 0) →
 if_some_of_implied None P Q go p = tt
 if_some_of_implied (Some xs) P Q go p = go xs p
 
-pub if_served_by_implied_end : (r : Result Served Fault) (P Q : Type 0) → (P → Q) → IfEnded r P → IfServed (ended_by r) Q
-if_served_by_implied_end (Ok served.Quit) P Q go p = go p
-if_served_by_implied_end (Ok served.InputEnd) P Q go p = go p
-if_served_by_implied_end (Err fault.Read) P Q go p = tt
-if_served_by_implied_end (Err fault.Write) P Q go p = tt
-if_served_by_implied_end (Err fault.TooLong) P Q go p = go p
+pub if_served_implied_end : (r : Result Served Fault) (P Q : Type 0) → (P → Q) → IfEnded r P → IfServed (ended_by r) Q
+if_served_implied_end (Ok served.Quit) P Q go p = go p
+if_served_implied_end (Ok served.InputEnd) P Q go p = go p
+if_served_implied_end (Err fault.Read) P Q go p = tt
+if_served_implied_end (Err fault.Write) P Q go p = tt
+if_served_implied_end (Err fault.TooLong) P Q go p = go p
 
 -- what was opened, and its opening lines, where a debugger is ready
-pub opens_ready_desk_if_opening_is_ready : (image trace : List ℕ) (o : Opened) (d : Debugging) → o ≡ opened.Ready d → Opens image trace (opening_of o)
+pub opens_ready_desk : (image trace : List ℕ) (o : Opened) (d : Debugging) → o ≡ opened.Ready d → Opens image trace (opening_of o)
     → Opens image trace (Ready d.desk)
-opens_ready_desk_if_opening_is_ready image trace o d is = subst (λ (x : Opened). Opens image trace (opening_of x)) is
+opens_ready_desk image trace o d is = subst (λ (x : Opened). Opens image trace (opening_of x)) is
 
-pub appends_opening_text_of_ready_desk_if_opening_is_ready : (o : Opened) (d : Debugging) (w0 w1 : Option (List ℕ)) → o ≡ opened.Ready d
+pub appends_ready_opening : (o : Opened) (d : Debugging) (w0 w1 : Option (List ℕ)) → o ≡ opened.Ready d
     → Appends w0 w1 (opening_text (opening_of o)) → Appends w0 w1 (opening_text (Ready d.desk))
-appends_opening_text_of_ready_desk_if_opening_is_ready o d w0 w1 is = subst (λ (x : Opened). Appends w0 w1 (opening_text (opening_of x))) is
+appends_ready_opening o d w0 w1 is = subst (λ (x : Opened). Appends w0 w1 (opening_text (opening_of x))) is
 
 -- all answers after the opening lines
 abbrev pub transcript_if_lines_answered : (image trace : List ℕ) (d : Desk) (lines : List (List ℕ)) (w0 w1 w2 : Option (List ℕ)) → Opens image trace (Ready d)
@@ -133,17 +133,17 @@ transcript_if_lines_answered image trace d lines w0 w1 w2 opens begun wrote = re
 }
 
 -- the same, and the machine that has answered them is ready
-pub ready_transcript_if_lines_answered : (image trace : List ℕ) (d : Desk) (lines : List (List ℕ)) (w0 w1 w2 : Option (List ℕ)) → Opens image trace (Ready d)
+pub ready_transcript : (image trace : List ℕ) (d : Desk) (lines : List (List ℕ)) (w0 w1 w2 : Option (List ℕ)) → Opens image trace (Ready d)
     → Appends w0 w1 (opening_text (Ready d)) → Wrote Replies d lines w1 w2
     → Transcript image trace lines (λ text last. Appends w0 w2 text × ((desk : Desk) × (last ≡ Ready desk)))
-ready_transcript_if_lines_answered image trace d lines w0 w1 w2 opens begun wrote =
+ready_transcript image trace d lines w0 w1 w2 opens begun wrote =
     let all = transcript_if_lines_answered image trace d lines w0 w1 w2 opens begun wrote in
     record { opening = all.opening; opens = all.opens; text = all.text; last = all.last; says = all.says; took = (all.took, (wrote.last, refl)) }
 
 -- a part of them
-pub writes_in_part_if_lines_answered_in_part : (image trace : List ℕ) (d : Desk) (lines : List (List ℕ)) (w0 w1 w2 : Option (List ℕ)) → Opens image trace (Ready d)
+pub part_answered_is_written : (image trace : List ℕ) (d : Desk) (lines : List (List ℕ)) (w0 w1 w2 : Option (List ℕ)) → Opens image trace (Ready d)
     → Appends w0 w1 (opening_text (Ready d)) → WroteInPart Replies d lines w1 w2 → WritesInPart image trace lines w0 w2
-writes_in_part_if_lines_answered_in_part image trace d lines w0 w1 w2 opens begun wrote =
+part_answered_is_written image trace d lines w0 w1 w2 opens begun wrote =
     let all = transcript_if_lines_answered image trace d wrote.before w0 w1 wrote.between opens begun wrote.all in
     inr (
       wrote.before,
@@ -167,25 +167,25 @@ session_of_served_lines image trace d limit r w0 w1 w2 input opens begun leads =
   ending = ap ended_by leads.ending;
 }
 
-pub read_fault_if_ended_by_read : (r : Result Served Fault) → ended_by r ≡ Err err.Read → r ≡ Err fault.Read
-read_fault_if_ended_by_read (Ok served.Quit) e = absurd cc
-read_fault_if_ended_by_read (Ok served.InputEnd) e = absurd cc
-read_fault_if_ended_by_read (Err fault.Read) e = refl
-read_fault_if_ended_by_read (Err fault.Write) e = absurd cc
-read_fault_if_ended_by_read (Err fault.TooLong) e = absurd cc
+pub read_end_is_read_fault : (r : Result Served Fault) → ended_by r ≡ Err err.Read → r ≡ Err fault.Read
+read_end_is_read_fault (Ok served.Quit) e = absurd cc
+read_end_is_read_fault (Ok served.InputEnd) e = absurd cc
+read_end_is_read_fault (Err fault.Read) e = refl
+read_end_is_read_fault (Err fault.Write) e = absurd cc
+read_end_is_read_fault (Err fault.TooLong) e = absurd cc
 
-pub write_fault_if_ended_by_write : (r : Result Served Fault) → ended_by r ≡ Err err.Write → r ≡ Err fault.Write
-write_fault_if_ended_by_write (Ok served.Quit) e = absurd cc
-write_fault_if_ended_by_write (Ok served.InputEnd) e = absurd cc
-write_fault_if_ended_by_write (Err fault.Read) e = absurd cc
-write_fault_if_ended_by_write (Err fault.Write) e = refl
-write_fault_if_ended_by_write (Err fault.TooLong) e = absurd cc
+pub write_end_is_fault : (r : Result Served Fault) → ended_by r ≡ Err err.Write → r ≡ Err fault.Write
+write_end_is_fault (Ok served.Quit) e = absurd cc
+write_end_is_fault (Ok served.InputEnd) e = absurd cc
+write_end_is_fault (Err fault.Read) e = absurd cc
+write_end_is_fault (Err fault.Write) e = refl
+write_end_is_fault (Err fault.TooLong) e = absurd cc
 
 -- what a session says of its input, from what was said of the lines, for F that says it of the bytes that were read or of all
-pub served_session_if_ended_lines_lead : (F : (List ℕ → Type 0) → Type 0) → ((P Q : List ℕ → Type 0) → ((input : List ℕ) → P input → Q input) → F P → F Q)
+pub lines_lead_to_session : (F : (List ℕ → Type 0) → Type 0) → ((P Q : List ℕ → Type 0) → ((input : List ℕ) → P input → Q input) → F P → F Q)
     → (image trace : List ℕ) (d : Desk) (limit : ℕ) (result : Result Ended SessionErr) (r : Result Served Fault) (w0 w1 w2 : Option (List ℕ))
     → result ≡ ended_by r → Opens image trace (Ready d) → Appends w0 w1 (opening_text (Ready d))
     → IfEnded r (F (LeadsTo Replies quits d limit r w1 w2)) → IfServed result (F (Session image trace limit result w0 w2))
-served_session_if_ended_lines_lead F more image trace d limit result r w0 w1 w2 ended opens begun leads =
+lines_lead_to_session F more image trace d limit result r w0 w1 w2 ended opens begun leads =
     subst (λ (x : Result Ended SessionErr). IfServed x (F (Session image trace limit x w0 w2))) (sym ended)
-    (if_served_by_implied_end r _ _ (more _ _ (λ input leads. session_of_served_lines image trace d limit r w0 w1 w2 input opens begun leads)) leads)
+    (if_served_implied_end r _ _ (more _ _ (λ input leads. session_of_served_lines image trace d limit r w0 w1 w2 input opens begun leads)) leads)

@@ -27,46 +27,46 @@ pub record PassesTests (d : Desk) (c : Command) : Type 0 where
   pub address : has_address d.fitted.guest c ≡ true
   pub place : has_place d c ≡ true
 
-five_tests_true_if_not_refused : (a b n c p : Bool)
+not_refused_tests : (a b n c p : Bool)
     → (if not a then Some NoSuchThread else if not b then Some NoSuchObject else if not n then Some NoSuchNumber else
     if not c then Some BadAddress else if not p then Some Full else None) ≡ None
     → (a ≡ true) × (b ≡ true) × (n ≡ true) × (c ≡ true) × (p ≡ true)
-five_tests_true_if_not_refused true true true true true e = (refl, refl, refl, refl, refl)
-five_tests_true_if_not_refused true true true true false e = absurd cc
-five_tests_true_if_not_refused true true true false p e = absurd cc
-five_tests_true_if_not_refused true true false c p e = absurd cc
-five_tests_true_if_not_refused true false n c p e = absurd cc
-five_tests_true_if_not_refused false b n c p e = absurd cc
+not_refused_tests true true true true true e = (refl, refl, refl, refl, refl)
+not_refused_tests true true true true false e = absurd cc
+not_refused_tests true true true false p e = absurd cc
+not_refused_tests true true false c p e = absurd cc
+not_refused_tests true false n c p e = absurd cc
+not_refused_tests false b n c p e = absurd cc
 
-pub permitted_command_passes_tests : (d : Desk) (c : Command) → refusal_of d c ≡ None → PassesTests d c
+pub permitted_passes_tests : (d : Desk) (c : Command) → refusal_of d c ≡ None → PassesTests d c
 unfolding refusal_of
-permitted_command_passes_tests d c none =
-    let t = five_tests_true_if_not_refused (if_some (thread_named c) (λ t. nat_lt t (threads_of d.fitted)))
+permitted_passes_tests d c none =
+    let t = not_refused_tests (if_some (thread_named c) (λ t. nat_lt t (threads_of d.fitted)))
     (if_some (object_named c) (λ o. nat_lt o (object_count d.fitted.guest))) (has_number d c) (has_address d.fitted.guest c)
     (has_place d c) none in
     record { thread = t.0; object = t.1; number = t.2; address = t.3; place = t.4 }
 
-named_number_below_count : (n : ℕ) (named : Option ℕ) (x : ℕ) → if_some named (λ y. nat_lt y n) ≡ true → named ≡ Some x → x < n
-named_number_below_count n (Some y) x test is = ltb-true x n (ap (λ z. if_some z (λ w. nat_lt w n)) (sym is) ∙ test)
-named_number_below_count n None x test is = absurd cc
+named_number_below : (n : ℕ) (named : Option ℕ) (x : ℕ) → if_some named (λ y. nat_lt y n) ≡ true → named ≡ Some x → x < n
+named_number_below n (Some y) x test is = ltb-true x n (ap (λ z. if_some z (λ w. nat_lt w n)) (sym is) ∙ test)
+named_number_below n None x test is = absurd cc
 
 -- the thread is one of the guest's
 pub named_thread_exists : (d : Desk) (c : Command) (t : ℕ) → refusal_of d c ≡ None → thread_named c ≡ Some t → t < threads_of d.fitted
-named_thread_exists d c t none is = named_number_below_count (threads_of d.fitted) (thread_named c) t (permitted_command_passes_tests d c none).thread is
+named_thread_exists d c t none is = named_number_below (threads_of d.fitted) (thread_named c) t (permitted_passes_tests d c none).thread is
 
 -- the object too
 pub named_object_exists : (d : Desk) (c : Command) (o : ℕ) → refusal_of d c ≡ None → object_named c ≡ Some o → o < object_count d.fitted.guest
-named_object_exists d c o none is = named_number_below_count (object_count d.fitted.guest) (object_named c) o (permitted_command_passes_tests d c none).object is
+named_object_exists d c o none is = named_number_below (object_count d.fitted.guest) (object_named c) o (permitted_passes_tests d c none).object is
 
-property_by_either_disjunct : (a b : Bool) (P : Type 0) → (a ≡ true → P) → (b ≡ true → P) → a || b ≡ true → P
-property_by_either_disjunct true b P p q e = p refl
-property_by_either_disjunct false b P p q e = q e
+by_either_disjunct : (a b : Bool) (P : Type 0) → (a ≡ true → P) → (b ≡ true → P) → a || b ≡ true → P
+by_either_disjunct true b P p q e = p refl
+by_either_disjunct false b P p q e = q e
 
 -- the addresses of code and private memory are low
-pub address_in_guest_is_at_most_two_to_31 : (g : Guest) (size address : ℕ) → length g.code ≤ 16384
+pub guest_address_bound : (g : Guest) (size address : ℕ) → length g.code ≤ 16384
     → lies_in_code g size address || lies_in_memory size address ≡ true → address ≤ 2 ^ 31
-address_in_guest_is_at_most_two_to_31 g size address short =
-    property_by_either_disjunct (lies_in_code g size address) (lies_in_memory size address) (address ≤ 2 ^ 31)
+guest_address_bound g size address short =
+    by_either_disjunct (lies_in_code g size address) (lies_in_memory size address) (address ≤ 2 ^ 31)
     (λ e. let le = leb-true (address + size) (code_start + 4 * length g.code)
     (right_of_true_and (nat_le code_start address) (nat_le (address + size) (code_start + 4 * length g.code)) e) in
     omega (arith, le, short))
@@ -76,23 +76,23 @@ address_in_guest_is_at_most_two_to_31 g size address short =
 
 -- ---- kept cuts
 
-pub number_of_permitted_load_is_kept : (d : Desk) (n : ℕ) → refusal_of d (command.Keeping (Load n)) ≡ None → is_some (kept_cut d.kept n) ≡ true
-number_of_permitted_load_is_kept d n none = (permitted_command_passes_tests d (command.Keeping (Load n)) none).number
+pub permitted_load_is_kept : (d : Desk) (n : ℕ) → refusal_of d (command.Keeping (Load n)) ≡ None → is_some (kept_cut d.kept n) ≡ true
+permitted_load_is_kept d n none = (permitted_passes_tests d (command.Keeping (Load n)) none).number
 
-both_below_if_conjunction_is_true : (i m j n : ℕ) → nat_lt i m && nat_lt j n ≡ true → (i < m) × (j < n)
-both_below_if_conjunction_is_true i m j n e = (ltb-true i m (left_of_true_and (nat_lt i m) (nat_lt j n) e), ltb-true j n (right_of_true_and (nat_lt i m) (nat_lt j n) e))
+and_below_parts : (i m j n : ℕ) → nat_lt i m && nat_lt j n ≡ true → (i < m) × (j < n)
+and_below_parts i m j n e = (ltb-true i m (left_of_true_and (nat_lt i m) (nat_lt j n) e), ltb-true j n (right_of_true_and (nat_lt i m) (nat_lt j n) e))
 
 -- there is place for one more, and a number
-pub kept_cuts_have_room_if_keep_permitted : (d : Desk) → refusal_of d (command.Keeping Keep) ≡ None → (length d.kept < most_kept + 1) × (d.last_kept < most_number)
-kept_cuts_have_room_if_keep_permitted d none = both_below_if_conjunction_is_true _ _ _ _ (permitted_command_passes_tests d (command.Keeping Keep) none).place
+pub permitted_keep_has_room : (d : Desk) → refusal_of d (command.Keeping Keep) ≡ None → (length d.kept < most_kept + 1) × (d.last_kept < most_number)
+permitted_keep_has_room d none = and_below_parts _ _ _ _ (permitted_passes_tests d (command.Keeping Keep) none).place
 
 -- ---- points
 
-pub points_have_room_if_set_permitted : (d : Desk) (p : Point) → refusal_of d (command.Set p) ≡ None → (length d.points < most_points) × (d.last_point < most_number)
-points_have_room_if_set_permitted d p none = both_below_if_conjunction_is_true _ _ _ _ (permitted_command_passes_tests d (command.Set p) none).place
+pub permitted_set_has_room : (d : Desk) (p : Point) → refusal_of d (command.Set p) ≡ None → (length d.points < most_points) × (d.last_point < most_number)
+permitted_set_has_room d p none = and_below_parts _ _ _ _ (permitted_passes_tests d (command.Set p) none).place
 
-aligned_address_is_memory_word : (address : ℕ) → (address % 4 == 0) && lies_in_memory 4 address ≡ true → IsMemoryWord address
-aligned_address_is_memory_word address test =
+aligned_is_memory_word : (address : ℕ) → (address % 4 == 0) && lies_in_memory 4 address ≡ true → IsMemoryWord address
+aligned_is_memory_word address test =
     let whole = left_of_true_and (address % 4 == 0) (lies_in_memory 4 address) test in
     let inside = right_of_true_and (address % 4 == 0) (lies_in_memory 4 address) test in
     let low = leb-true memory_start address
@@ -102,7 +102,7 @@ aligned_address_is_memory_word address test =
     record { aligned = grind (arith, nat_tests, whole); low = low; high = omega (arith, high) }
 
 -- the word that it watches is one of private memory
-pub permitted_point_is_watchable : (d : Desk) (p : Point) → refusal_of d (command.Set p) ≡ None → IsWatchable p
-permitted_point_is_watchable d (Break t address) none = tt
-permitted_point_is_watchable d (Watch t address) none = λ low. aligned_address_is_memory_word address (permitted_command_passes_tests d (command.Set (Watch t address)) none).address
-permitted_point_is_watchable d (WatchObject object) none = tt
+pub permitted_is_watchable : (d : Desk) (p : Point) → refusal_of d (command.Set p) ≡ None → IsWatchable p
+permitted_is_watchable d (Break t address) none = tt
+permitted_is_watchable d (Watch t address) none = λ low. aligned_is_memory_word address (permitted_passes_tests d (command.Set (Watch t address)) none).address
+permitted_is_watchable d (WatchObject object) none = tt

@@ -14,13 +14,13 @@ use Rattle.ir_stream.proofs.CallerLemmas.{IsSessionAt, feed_failed, finish_ended
 use Rattle.ir_debug.specs.declared.ended.Ended.TheVariants as ended
 use Rattle.ir_debug.specs.Machine.{Desk, Replies, quits}
 use Rattle.ir_debug.specs.Session.{ReadsThrough, ended_by}
-use Rattle.ir_debug.proofs.LongLines.{replies_to_line_if_to_kept_bytes, quits_of_kept_bytes_is_quits_of_line}
+use Rattle.ir_debug.proofs.LongLines.{replies_by_kept_bytes, quits_by_kept_bytes}
 use Rattle.ir_debug.proofs.Openings.{reads_up_to_of_implied}
 
 -- an answer that was written whole is a prefix of itself
-replied_prefix_if_replied : {S : Type 0} (R : Replying S) (s next : S) (line : List ℕ) (old new : Option (List ℕ)) → Replied R s line next old new
+replied_is_prefix : {S : Type 0} (R : Replying S) (s next : S) (line : List ℕ) (old new : Option (List ℕ)) → Replied R s line next old new
     → RepliedPrefix R s line old new
-replied_prefix_if_replied R s next line old new p = record {
+replied_is_prefix R s next line old new p = record {
   text = p.text;
   next = next;
   is = p.is;
@@ -28,11 +28,11 @@ replied_prefix_if_replied R s next line old new p = record {
 }
 
 -- the same of the answer to what an input ended in
-replied_prefix_if_last_line_is_replied : {S : Type 0} (R : Replying S) (s : S) (line : List ℕ) (old new : Option (List ℕ)) → (line ≡ [] → ⊥)
+last_replied_is_prefix : {S : Type 0} (R : Replying S) (s : S) (line : List ℕ) (old new : Option (List ℕ)) → (line ≡ [] → ⊥)
     → Wrote R s (last_line line) old new → RepliedPrefix R s line old new
 unfolding LinesAnswered
-replied_prefix_if_last_line_is_replied R s [] old new some p = absurd (some refl)
-replied_prefix_if_last_line_is_replied R s (b ∷ line) old new some p = record {
+last_replied_is_prefix R s [] old new some p = absurd (some refl)
+last_replied_is_prefix R s (b ∷ line) old new some p = record {
   text = p.answered.0;
   next = p.answered.1;
   is = p.answered.3;
@@ -44,10 +44,10 @@ replied_prefix_if_last_line_is_replied R s (b ∷ line) old new some p = record 
   };
 }
 
-nonempty_if_last_line_quits : (line : List ℕ) → Quit ≡ served_after (some_quits quits (last_line line)) → line ≡ [] → ⊥
+quitting_end_nonempty : (line : List ℕ) → Quit ≡ served_after (some_quits quits (last_line line)) → line ≡ [] → ⊥
 unfolding some_quits
-nonempty_if_last_line_quits [] e none = absurd cc
-nonempty_if_last_line_quits (b ∷ line) e none = absurd cc
+quitting_end_nonempty [] e none = absurd cc
+quitting_end_nonempty (b ∷ line) e none = absurd cc
 
 module _ (s0 : Desk) (input w0 left left' written : Option (List ℕ)) (s : Desk) (line : List ℕ) (n : ℕ)
     (at : IsSessionAt Replies quits s0 input w0 left written s line n) (limit : ℕ) (below : n < limit) where
@@ -55,8 +55,8 @@ module _ (s0 : Desk) (input w0 left left' written : Option (List ℕ)) (s : Desk
   pub read_through_line_that_quits : (next : Desk) (written' : Option (List ℕ)) → Consumes left left' (10 ∷ []) → Replied Replies s line next written written'
       → ReadsUpTo limit input left' (ReadsThrough ended.Quit left')
   read_through_line_that_quits next written' took p = reads_up_to_of_implied limit input left' _ (ReadsThrough ended.Quit left') (λ consumed h. (h.0, h.1))
-      (feed_failed Replies quits replies_to_line_if_to_kept_bytes quits_of_kept_bytes_is_quits_of_line s0 input w0 left left' written s line n at limit below written' took
-      (replied_prefix_if_replied Replies s next line written written' p))
+      (feed_failed Replies quits replies_by_kept_bytes quits_by_kept_bytes s0 input w0 left left' written s line n at limit below written' took
+      (replied_is_prefix Replies s next line written written' p))
 
   -- the input ended, and what it ended in was answered
   pub read_through_end : Consumes left left' [] → IsAtEnd left' → (result : Result Served Fault) (written' : Option (List ℕ))
@@ -64,13 +64,13 @@ module _ (s0 : Desk) (input w0 left left' written : Option (List ℕ)) (s : Desk
       → IfOk result (λ e. e ≡ served_after (some_quits quits (last_line line)))
       → IfOk (ended_by result) (λ e. ReadsUpTo limit input left' (ReadsThrough e left'))
   read_through_end took gone (Ok Quit) written' p served =
-      let some : line ≡ [] → ⊥ = nonempty_if_last_line_quits line served in
+      let some : line ≡ [] → ⊥ = quitting_end_nonempty line served in
       reads_up_to_of_implied limit input left' _ (ReadsThrough ended.Quit left') (λ consumed h. (h.0, h.1))
-      (finish_failed Replies quits replies_to_line_if_to_kept_bytes quits_of_kept_bytes_is_quits_of_line s0 input w0 left left' written s line n at limit below took (Err Write) written' gone refl some
-      (replied_prefix_if_last_line_is_replied Replies s line written written' some p))
+      (finish_failed Replies quits replies_by_kept_bytes quits_by_kept_bytes s0 input w0 left left' written s line n at limit below took (Err Write) written' gone refl some
+      (last_replied_is_prefix Replies s line written written' some p))
   read_through_end took gone (Ok InputEnd) written' p served = reads_up_to_of_implied limit input left' _ (ReadsThrough ended.InputEnd left')
       (λ consumed h. gone)
-      (finish_ended Replies quits replies_to_line_if_to_kept_bytes quits_of_kept_bytes_is_quits_of_line s0 input w0 left left' written s line n at limit below took (Ok InputEnd) written' p served tt)
+      (finish_ended Replies quits replies_by_kept_bytes quits_by_kept_bytes s0 input w0 left left' written s line n at limit below took (Ok InputEnd) written' p served tt)
   read_through_end took gone (Err Read) written' p served = tt
   read_through_end took gone (Err Write) written' p served = tt
   read_through_end took gone (Err TooLong) written' p served = tt

@@ -22,19 +22,19 @@ answer_text_is_reply asked line old new answer P is a t = λ run of.
     subst (λ (x : Result (Option Command) Refusal). RepliesBy x run old.desk t.0 new.desk) is
     (subst (λ (text : List ℕ). RepliesBy asked run old.desk text new.desk) (sym (t.1 run at)) (a.answers run of))
 
-pub appended_answer_is_reply : (asked : Result (Option Command) Refusal) (line : List ℕ) (old new : Debugging) (answer : Answer) (w w' : Option (List ℕ))
+pub appended_is_replied : (asked : Result (Option Command) Refusal) (line : List ℕ) (old new : Debugging) (answer : Answer) (w w' : Option (List ℕ))
     → asked ≡ command_of line → IsAnswer asked old new answer → IsText new answer (Appends w w')
     → Replied Replies old.desk line new.desk w w'
-appended_answer_is_reply asked line old new answer w w' is a t = record {
+appended_is_replied asked line old new answer w w' is a t = record {
   text = t.0;
   is = answer_text_is_reply asked line old new answer (Appends w w') is a t;
   grown = t.2;
 }
 
-pub appended_prefix_is_reply_prefix : (asked : Result (Option Command) Refusal) (line : List ℕ) (old new : Debugging) (answer : Answer)
+pub appended_prefix_replied : (asked : Result (Option Command) Refusal) (line : List ℕ) (old new : Debugging) (answer : Answer)
     (w w' : Option (List ℕ)) → asked ≡ command_of line → IsAnswer asked old new answer → IsText new answer (AppendsPrefix w w')
     → RepliedPrefix Replies old.desk line w w'
-appended_prefix_is_reply_prefix asked line old new answer w w' is a t = record {
+appended_prefix_replied asked line old new answer w w' is a t = record {
   text = t.0;
   next = new.desk;
   is = answer_text_is_reply asked line old new answer (AppendsPrefix w w') is a t;
@@ -42,10 +42,10 @@ appended_prefix_is_reply_prefix asked line old new answer w w' is a t = record {
 }
 
 -- a line without words has no answer
-pub line_without_command_is_replied_nothing : (asked : Result (Option Command) Refusal) (line : List ℕ) (old new : Debugging) (w : Option (List ℕ))
+pub no_command_no_reply : (asked : Result (Option Command) Refusal) (line : List ℕ) (old new : Debugging) (w : Option (List ℕ))
     → asked ≡ command_of line → asked ≡ Ok None → new ≡ old → Replied Replies old.desk line new.desk w w
 unfolding Replies
-line_without_command_is_replied_nothing asked line old new w is none same = record {
+no_command_no_reply asked line old new w is none same = record {
   text = [];
   is = λ run of. subst (λ (x : Result (Option Command) Refusal). RepliesBy x run old.desk [] new.desk) is
       (subst (λ (x : Result (Option Command) Refusal). RepliesBy x run old.desk [] new.desk) (sym none)

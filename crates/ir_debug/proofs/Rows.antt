@@ -28,7 +28,7 @@ command_asked c = Ok (Some c)
 abbrev command_refused : Refusal → AskedCommand
 command_refused r = Err r
 
-command_of_line_examples : (command_of (codes "jump") ≡ command_refused UnknownCommand)
+command_of_examples : (command_of (codes "jump") ≡ command_refused UnknownCommand)
     × (command_of (codes "break 0 0x1001c") ≡ command_asked (Set (Break 0 0x1001c)))
     × (command_of (codes "step 0") ≡ command_refused BadArgument)
     × (command_of (codes "step 0 4294967296") ≡ command_refused BadArgument)
@@ -40,15 +40,15 @@ command_of_line_examples : (command_of (codes "jump") ≡ command_refused Unknow
     × (command_of (codes "quit 1") ≡ command_refused BadArgument)
     × (command_of (codes "goto 1 0xFFFFFFFFFFFFFFFF\r") ≡ command_asked (Move (Goto 1 0xFFFFFFFFFFFFFFFF)))
 unfolding command_of command_named words_of number_of
-command_of_line_examples = (refl, refl, refl, refl, refl, refl, refl, refl, refl, refl, refl)
+command_of_examples = (refl, refl, refl, refl, refl, refl, refl, refl, refl, refl, refl)
 
-command_of_1024_blanks_is_none : (b : ℕ) → command_of (replicate 1024 32) ≡ Ok None
+blanks_are_no_command : (b : ℕ) → command_of (replicate 1024 32) ≡ Ok None
 unfolding command_of words_of
-command_of_1024_blanks_is_none b = refl
+blanks_are_no_command b = refl
 
-command_of_1025_blanks_is_line_too_long : command_of (replicate 1025 32) ≡ command_refused LineTooLong
+blanks_too_long : command_of (replicate 1025 32) ≡ command_refused LineTooLong
 unfolding command_of
-command_of_1025_blanks_is_line_too_long = refl
+blanks_too_long = refl
 
 -- ---- refusals: two threads at one entry, one object, 18 words of code
 
@@ -58,7 +58,7 @@ guest_of_two_threads = record { form = Small; entries = 0x10000 ∷ 0x10000 ∷ 
 abbrev desk_of_two_threads : Desk
 desk_of_two_threads = desk_of (record { guest = guest_of_two_threads; recorded = record { objects = 1; budget = 1000; profile = One; threads = [] } })
 
-refusal_of_command_examples : (refusal_of desk_of_two_threads (Move (Step 2 1)) ≡ Some NoSuchThread)
+refusal_of_examples : (refusal_of desk_of_two_threads (Move (Step 2 1)) ≡ Some NoSuchThread)
     × (refusal_of desk_of_two_threads (Show (Object 1)) ≡ Some NoSuchObject)
     × (refusal_of desk_of_two_threads (Show (Memory 0 4294967295 256)) ≡ Some BadAddress)
     × (refusal_of desk_of_two_threads (Show (Memory 0 0x10047 1)) ≡ None)
@@ -69,11 +69,11 @@ refusal_of_command_examples : (refusal_of desk_of_two_threads (Move (Step 2 1)) 
     × (refusal_of desk_of_two_threads (Move End) ≡ None)
     × (refusal_of desk_of_two_threads (Quit) ≡ None)
 unfolding refusal_of
-refusal_of_command_examples = (refl, refl, refl, refl, refl, refl, refl, refl, refl, refl)
+refusal_of_examples = (refl, refl, refl, refl, refl, refl, refl, refl, refl, refl)
 
-may_lack_of_show_examples : (may_lack desk_of_two_threads (Show (Registers 0)) ≡ false)
+may_lack_examples : (may_lack desk_of_two_threads (Show (Registers 0)) ≡ false)
     × (may_lack desk_of_two_threads (Show (Next 0)) ≡ true)
-may_lack_of_show_examples = (refl, refl)
+may_lack_examples = (refl, refl)
 
 -- ---- answers
 
@@ -92,5 +92,5 @@ moved_text_examples : (moved_text trace_of_nine_steps (Step 0 1) (9 ∷ []) ≡ 
 unfolding digits
 moved_text_examples = (refl, refl, refl, refl)
 
-last_cut_of_nine_step_trace_is_9 : last_cut trace_of_nine_steps ≡ 9 ∷ []
-last_cut_of_nine_step_trace_is_9 = refl
+last_cut_example : last_cut trace_of_nine_steps ≡ 9 ∷ []
+last_cut_example = refl

@@ -5,7 +5,7 @@ use Rattle.ir_runs.specs.Run.{Step}
 use Rattle.ir_fit.specs.Fit.{FittedTrace, HasRun}
 use Rattle.ir_cut.specs.Positions.{EachRun, IsConsistentCut, cut_of, machine_of, start_of, threads_of, last_of}
 use Rattle.ir_hits.specs.Watchable.{AreWatchable}
-use Rattle.ir_weave.specs.Standing.{Standing, StandsAt}
+use Rattle.ir_weave.specs.Standing.{Standing, StandsAtCut}
 use Rattle.ir_timeline.specs.Hand.{IsCutOf}
 use Rattle.ir_command.specs.declared.command.Command.{Command}
 use Rattle.ir_command.specs.declared.command.Command.TheVariants as command
@@ -45,7 +45,7 @@ pub record Debugging : Type 0 where
 
 -- the guest at the small machine's cut
 abbrev pub IsThere : Debugging → Type 0
-IsThere d = StandsAt d.desk.fitted (cut_of d.desk.at) d.state
+IsThere d = StandsAtCut d.desk.fitted (cut_of d.desk.at) d.state
 
 pub record IsDebugging (d : Debugging) : Type 0 where
   pub desk : IsDesk d.desk
@@ -101,8 +101,8 @@ abbrev pub points_without : List Numbered → ℕ → List Numbered
 points_without points n = filter (λ p. not (p.number == n)) points
 
 -- all kept cuts but that of a number
-abbrev pub without : List desk.Kept → ℕ → List desk.Kept
-without kept n = filter (λ k. not (k.number == n)) kept
+abbrev pub without_cut : List desk.Kept → ℕ → List desk.Kept
+without_cut kept n = filter (λ k. not (k.number == n)) kept
 
 -- the last number that a point or a kept cut may be given
 abbrev pub most_number : ℕ

@@ -1,5 +1,7 @@
 -- The small machine: a guest with its trace and a position of each thread, and what it answers to each command, for each run with the trace.
-use Rattle.std.specs.Prelude.{◌==◌, ℕ, ◌+◌, not, Bool, true, false, List, [], ◌∷◌, ◌++◌, find, is_some, Option, option_map, ◌&&◌, ◌||◌, ◌*◌, ◌%◌, nat_le, nat_lt, length, Some, None, if◌then◌else◌, ◌≡◌, ◌-◌, min, take, ◌⊎◌, codes, decimal, Result, Ok, Err, ◌≢◌, unwrap_or, flat_map}
+use Rattle.std.specs.Prelude.{◌==◌, ℕ, ◌+◌, not, Bool, true, false, List, [], ◌∷◌, ◌++◌, find, is_some, Option, option_map, ◌&&◌, ◌||◌, ◌*◌}
+use Rattle.std.specs.Prelude.{◌%◌, nat_le, nat_lt, length, Some, None, if◌then◌else◌, ◌≡◌, ◌-◌, min, take, ◌⊎◌, codes, decimal, Result, Ok}
+use Rattle.std.specs.Prelude.{Err, ◌≢◌, unwrap_or, flat_map}
 use Rattle.std.specs.List.{filter}
 use Rattle.ir_fit.specs.Fit.{FittedTrace, HasRun, IsRefused}
 use Rattle.ir_command.specs.Commands.{most_small, command_of}

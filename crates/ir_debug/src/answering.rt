@@ -24,7 +24,7 @@ use ir_stream::{DeviceErr, Sink, append, write_all};
 use ir_text::{Text, put_hit, put_number, put_positions, put_stop, write_number, write_refusal};
 
 // Puts at the end where all threads are.
-#[tactic(auto, using(ir_image::proofs::CallerLemmas::guest_threads_at_most_limit))]
+#[tactic(auto, using(ir_image::proofs::CallerLemmas::guest_threads_within))]
 fn put_cut(text: &mut Text, debugger: &Debugger)
     requires { array_vec_len text.old ≡ 0 }
     ensures text { text.new.items ≡ text.old.items ++ positions_text debugger.now.desk.at }
@@ -126,7 +126,7 @@ fn write_kept<W: Sink>(kept: &[KeptCut], writer: &mut W) -> Result<(), DeviceErr
     Ok(())
 }
 
-#[tactic(auto, using(ir_image::proofs::CallerLemmas::guest_threads_at_most_limit))]
+#[tactic(auto, using(ir_image::proofs::CallerLemmas::guest_threads_within))]
 fn write_cuts<W: Sink>(debugger: &Debugger, writer: &mut W) -> Result<(), DeviceErr>
     ensures { WritesText W.written W.broken writer.old writer.new (flat_map kept_line debugger.now.desk.kept) result }
 {

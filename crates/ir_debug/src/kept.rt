@@ -2,7 +2,7 @@
 
 ghost use Rattle.std.specs.Prelude.{◌≡◌, None, Some, MatchOption};
 ghost use Rattle.ir_debug.specs.Machine.{Kept, kept_cut};
-ghost use Rattle.ir_debug.specs.Debugging.{without};
+ghost use Rattle.ir_debug.specs.Debugging.{without_cut};
 
 use ir_cut::Cut;
 use std::marker::Model;
@@ -57,7 +57,7 @@ pub fn kept_cut(kept: &[KeptCut], number: u32) -> Option<&Cut>
 
 // Keeps the cut of this number no longer.
 pub fn forget(kept: &mut Vec<KeptCut>, number: u32)
-    ensures { kept.new.items ≡ without kept.old.items number }
+    ensures { kept.new.items ≡ without_cut kept.old.items number }
 {
     kept.retain(|each| each.number() != number);
 }

@@ -24,9 +24,9 @@ own_or_among_first_step places n c t p h at own = λ k q less is. elim (cases_eq
 ]
 
 -- all of them are
-pub has_others_readers_if_all_among_first : (r : Recorded) (o v : ℕ) (places : List Place) (n : ℕ) (c : ℕ → ℕ) (t : ℕ) → AreReaders r o v places
+pub all_among_has_readers : (r : Recorded) (o v : ℕ) (places : List Place) (n : ℕ) (c : ℕ → ℕ) (t : ℕ) → AreReaders r o v places
     → AreOwnOrAmongFirst places n c t → length places ≤ n → HasOthersReaders r c t o v
-has_others_readers_if_all_among_first r o v places n c t are h all = λ u j other read.
+all_among_has_readers r o v places n c t are h all = λ u j other read.
     let at = are.complete u j read in
     let inside = slice_get_within places at.number at.place at.there in
     let less = h at.number at.place (omega (arith, inside, all)) at.there (λ e. other (sym at.thread ∙ e)) in
@@ -35,6 +35,6 @@ has_others_readers_if_all_among_first r o v places n c t are h all = λ u j othe
     omega (arith, less, thread, event)
 
 -- one of them isn't
-pub lacks_others_readers_unless_all_among_first : (r : Recorded) (o v : ℕ) (places : List Place) (k : ℕ) (p : Place) (c : ℕ → ℕ) (t : ℕ) → AreReaders r o v places
+pub lacks_others_readers : (r : Recorded) (o v : ℕ) (places : List Place) (k : ℕ) (p : Place) (c : ℕ → ℕ) (t : ℕ) → AreReaders r o v places
     → slice_get places k ≡ Some p → (IsOwnOrAmongFirst c t p → ⊥) → HasOthersReaders r c t o v → ⊥
-lacks_others_readers_unless_all_among_first r o v places k p c t are at none h = none (λ other. h p.thread p.event other (are.sound k p at))
+lacks_others_readers r o v places k p c t are at none h = none (λ other. h p.thread p.event other (are.sound k p at))

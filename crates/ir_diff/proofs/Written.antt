@@ -13,6 +13,6 @@ if_err_weaker (Ok x) P Q more p = tt
 if_err_weaker (Err e) P Q more p = more e p
 
 -- why bytes were refused that were opened
-pub bytes_are_refused_for_opened_refusal : (read : Result Recorded TraceErr) (opened : Opened) (why : Refusal) → opened ≡ variant.Refused why → IsOpened read opened
+pub opened_refusal_is_for : (read : Result Recorded TraceErr) (opened : Opened) (why : Refusal) → opened ≡ variant.Refused why → IsOpened read opened
     → IsRefusedFor read why
-bytes_are_refused_for_opened_refusal read opened why is h = subst (IsOpened read) is h
+opened_refusal_is_for read opened why is h = subst (IsOpened read) is h

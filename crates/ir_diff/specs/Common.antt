@@ -64,5 +64,5 @@ HasNeeds r c t (Write object version readers) = HasOthersMaker r c t object vers
 HasNeeds r c t (Try object) = ⊤
 
 -- thread t is ready where the part ends: all that its next event needs is in it
-abbrev pub IsReady : Recorded → (ℕ → ℕ) → ℕ → Type 0
-IsReady r c t = (e : Event) → event_at r t (c t) ≡ Some e → HasNeeds r c t e
+abbrev pub IsThreadReady : Recorded → (ℕ → ℕ) → ℕ → Type 0
+IsThreadReady r c t = (e : Event) → event_at r t (c t) ≡ Some e → HasNeeds r c t e

@@ -14,7 +14,7 @@ use Rattle.ir_past.specs.Past.{event_at, IsMadeBy}
 use Rattle.ir_past.specs.Naming.{maker_text}
 use Rattle.ir_past.specs.Answers.{AreCoherent, IsRefusal}
 use Rattle.ir_past.specs.declared.place.Place.{Place}
-use Rattle.ir_diff.specs.Common.{Tells, AreCommon, IsReady}
+use Rattle.ir_diff.specs.Common.{Tells, AreCommon, IsThreadReady}
 
 -- the line of the common part: how many events of each thread are in it
 abbrev pub common_line : List ℕ → List ℕ
@@ -25,8 +25,8 @@ abbrev pub budget_line : ℕ → ℕ → List ℕ
 budget_line one two = if one == two then [] else codes "budget " ++ (decimal one ++ (codes " and " ++ (decimal two ++ 10 ∷ [])))
 
 -- the line where the headers differ: 1 in the threads, 2 in the objects
-abbrev pub header_line : ℕ → List ℕ
-header_line cause = codes "header differs " ++ (decimal cause ++ 10 ∷ [])
+abbrev pub differing_header_line : ℕ → List ℕ
+differing_header_line cause = codes "header differs " ++ (decimal cause ++ 10 ∷ [])
 
 -- the line of a thread that is the same
 abbrev pub same_line : ℕ → List ℕ
@@ -55,9 +55,9 @@ abbrev pub end_text : RecordedThread → List ℕ
 end_text t = codes "end " ++ (decimal (end_number t.end) ++ (codes " code " ++ (decimal (end_code t.end) ++ (codes " steps " ++ decimal t.steps))))
 
 -- what trace r has of thread t from event n on: that event, or the thread's end
-abbrev pub IsNext : Recorded → ℕ → Option Event → List ℕ → Type 0
-IsNext r t (Some e) text = (by : List ℕ) × NamesMaker r e by × (text ≡ event_text (label_of e) ++ by)
-IsNext r t None text = text ≡ end_text (recorded_thread r t)
+abbrev pub IsNextLine : Recorded → ℕ → Option Event → List ℕ → Type 0
+IsNextLine r t (Some e) text = (by : List ℕ) × NamesMaker r e by × (text ≡ event_text (label_of e) ++ by)
+IsNextLine r t None text = text ≡ end_text (recorded_thread r t)
 
 -- the line of what a trace has there, by the number of the trace
 abbrev pub next_line : ℕ → List ℕ → List ℕ
@@ -74,12 +74,12 @@ pub record IsSame (one two : RecordedThread) (c : ℕ) : Type 0 where
 pub record IsParting (a b : Recorded) (part : ℕ → ℕ) (t : ℕ) (text : List ℕ) : Type 0 where
   pub ready_first : Bool
   pub ready_second : Bool
-  pub tells_first : Tells ready_first (IsReady a part t)
-  pub tells_second : Tells ready_second (IsReady b part t)
+  pub tells_first : Tells ready_first (IsThreadReady a part t)
+  pub tells_second : Tells ready_second (IsThreadReady b part t)
   pub first : List ℕ
   pub second : List ℕ
-  pub next_first : IsNext a t (event_at a t (part t)) first
-  pub next_second : IsNext b t (event_at b t (part t)) second
+  pub next_first : IsNextLine a t (event_at a t (part t)) first
+  pub next_second : IsNextLine b t (event_at b t (part t)) second
   pub lines : text ≡ differs_line t (part t) (ready_text ready_first ready_second) ++ (next_line 1 first ++ next_line 2 second)
 
 -- the lines of thread t
@@ -100,8 +100,8 @@ pub record IsDiff (a b : Recorded) (text : List ℕ) : Type 0 where
 -- the answer about two coherent traces: their headers differ, or what they have in common
 abbrev pub IsPairAnswer : Recorded → Recorded → ExitStatus → List ℕ → Type 0
 IsPairAnswer a b answered text =
-    ((length a.threads ≢ length b.threads) × (answered ≡ status.NotFit) × (text ≡ header_line 1))
-    ⊎ ((length a.threads ≡ length b.threads) × (a.objects ≢ b.objects) × (answered ≡ status.NotFit) × (text ≡ header_line 2))
+    ((length a.threads ≢ length b.threads) × (answered ≡ status.NotFit) × (text ≡ differing_header_line 1))
+    ⊎ ((length a.threads ≡ length b.threads) × (a.objects ≢ b.objects) × (answered ≡ status.NotFit) × (text ≡ differing_header_line 2))
     ⊎ ((length a.threads ≡ length b.threads) × (a.objects ≡ b.objects) × (answered ≡ status.Done) × IsDiff a b text)
 
 -- the same of the first of two traces, and of bytes

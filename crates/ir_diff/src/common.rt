@@ -5,7 +5,7 @@ ghost use Rattle.ir_thread.specs.State.{most_events};
 ghost use Rattle.ir_trace.specs.Recorded.{Recorded};
 ghost use Rattle.ir_past.specs.Answers.{AreCoherent};
 ghost use Rattle.ir_diff.specs.Common.{Tells, HasMaker, IsMade, CanJoin, AreCommon};
-ghost use Rattle.ir_diff.specs.Progress.{counts_of, AreMakersOf, IsBuilt, left_over};
+ghost use Rattle.ir_diff.specs.Progress.{counts_of_part, AreMakersOf, IsBuiltTable, left_over};
 
 use crate::counted::{is_counted, next_event};
 use ir_log::Event;
@@ -15,7 +15,7 @@ use std::alloc::{AllocError, Global};
 
 // Whether the maker of a version is among the first events.
 fn has_maker(makers: &Makers, part: &[u32], object: u8, version: u32) -> bool
-    ensures { (a : Recorded) → AreMakersOf a makers.now → Tells result (HasMaker a (counts_of part.now) object version) }
+    ensures { (a : Recorded) → AreMakersOf a makers.now → Tells result (HasMaker a (counts_of_part part.now) object version) }
 {
     if version == 0 {
         return true;
@@ -28,7 +28,7 @@ fn has_maker(makers: &Makers, part: &[u32], object: u8, version: u32) -> bool
 
 // Whether the version that an event enters has its maker among the first events.
 fn is_made(makers: &Makers, part: &[u32], event: Event) -> bool
-    ensures { (a : Recorded) → AreMakersOf a makers.now → Tells result (IsMade a (counts_of part.now) event) }
+    ensures { (a : Recorded) → AreMakersOf a makers.now → Tells result (IsMade a (counts_of_part part.now) event) }
 {
     match event {
         Event::Read { object, version } => has_maker(makers, part, object, version),
@@ -48,8 +48,8 @@ fn can_follow(a: &Trace, b: &Trace, makers: &Makers, part: &[u32], thread: usize
     requires second { thread < length b.now.threads }
     requires size { thread < length part.now }
     requires makers { AreMakersOf a.now makers.now }
-    ensures tells { Tells result (CanJoin a.now b.now (counts_of part.now) thread) }
-    ensures few { result ≡ true → counts_of part.now thread < most_events }
+    ensures tells { Tells result (CanJoin a.now b.now (counts_of_part part.now) thread) }
+    ensures few { result ≡ true → counts_of_part part.now thread < most_events }
 {
     let Some(event) = next_event(a, part, thread) else {
         return false;
@@ -64,10 +64,10 @@ fn can_follow(a: &Trace, b: &Trace, makers: &Makers, part: &[u32], thread: usize
 fn pass(a: &Trace, b: &Trace, makers: &Makers, part: &mut [u32]) -> bool
     requires same { length a.now.threads ≡ length b.now.threads }
     requires makers { AreMakersOf a.now makers.now }
-    requires built { IsBuilt a.now b.now part.old }
-    ensures built { IsBuilt a.now b.now part.new }
+    requires built { IsBuiltTable a.now b.now part.old }
+    ensures built { IsBuiltTable a.now b.now part.new }
     ensures less { result ≡ true → left_over a.now part.new < left_over a.now part.old }
-    ensures rests { result ≡ false → (t : ℕ) → CanJoin a.now b.now (counts_of part.new) t → ⊥ }
+    ensures rests { result ≡ false → (t : ℕ) → CanJoin a.now b.now (counts_of_part part.new) t → ⊥ }
 {
     let mut moved = false;
     for thread in 0..part.len() {

@@ -2,7 +2,7 @@
 
 ghost use Rattle.std.specs.Prelude.{◌≡◌, IfOk};
 ghost use Rattle.std.specs.String.{string_bytes};
-ghost use Rattle.ir_diff.specs.Lines.{common_line, budget_line, header_line, same_line, differs_line, ready_text, end_text};
+ghost use Rattle.ir_diff.specs.Lines.{common_line, budget_line, differing_header_line, same_line, differs_line, ready_text, end_text};
 
 use ir_trace::ThreadTrace;
 use std::alloc::{AllocError, Global};
@@ -31,7 +31,7 @@ pub fn budget_line(alloc: Global, one: u64, two: u64) -> Result<String, AllocErr
 
 /// The line of headers that differ.
 pub fn header_line(alloc: Global, cause: u8) -> Result<String, AllocError>
-    ensures { IfOk result (λ s. string_bytes s ≡ header_line cause) }
+    ensures { IfOk result (λ s. string_bytes s ≡ differing_header_line cause) }
 {
     format!(in alloc; "header differs {cause}\n")
 }

@@ -2,8 +2,8 @@
 
 ghost use Rattle.std.specs.Prelude.{◌≡◌, ◌≢◌, ◌<◌, ℕ, length, IfOk};
 ghost use Rattle.ir_trace.specs.Recorded.{Recorded};
-ghost use Rattle.ir_diff.specs.Common.{Tells, HasOthersMaker, HasOthersReaders, HasNeeds, IsReady};
-ghost use Rattle.ir_diff.specs.Progress.{counts_of, AreMakersOf};
+ghost use Rattle.ir_diff.specs.Common.{Tells, HasOthersMaker, HasOthersReaders, HasNeeds, IsThreadReady};
+ghost use Rattle.ir_diff.specs.Progress.{counts_of_part, AreMakersOf};
 
 use crate::counted::{is_counted, next_event};
 use ir_log::Event;
@@ -13,14 +13,14 @@ use std::alloc::{AllocError, Global};
 
 // Whether an event is of this thread, or among the first events.
 fn is_there(part: &[u32], thread: u8, place: Place) -> bool
-    ensures { Tells result (place.thread ≢ thread → place.event < counts_of part.now place.thread) }
+    ensures { Tells result (place.thread ≢ thread → place.event < counts_of_part part.now place.thread) }
 {
     place.thread == thread || is_counted(part, place)
 }
 
 // Whether what made a version is there.
 fn has_maker(makers: &Makers, part: &[u32], thread: u8, object: u8, version: u32) -> bool
-    ensures { (r : Recorded) → AreMakersOf r makers.now → Tells result (HasOthersMaker r (counts_of part.now) thread object version) }
+    ensures { (r : Recorded) → AreMakersOf r makers.now → Tells result (HasOthersMaker r (counts_of_part part.now) thread object version) }
 {
     if version == 0 {
         return true;
@@ -40,7 +40,7 @@ fn has_readers(
     object: u8,
     version: u32,
 ) -> Result<bool, AllocError>
-    ensures { IfOk result (λ there. Tells there (HasOthersReaders trace.now (counts_of part.now) thread object version)) }
+    ensures { IfOk result (λ there. Tells there (HasOthersReaders trace.now (counts_of_part part.now) thread object version)) }
 {
     let readers = readers_of(alloc, trace, object, version)?;
     for place in &readers {
@@ -61,7 +61,7 @@ fn has_needs(
     event: Event,
 ) -> Result<bool, AllocError>
     requires { AreMakersOf trace.now makers.now }
-    ensures { IfOk result (λ there. Tells there (HasNeeds trace.now (counts_of part.now) thread event)) }
+    ensures { IfOk result (λ there. Tells there (HasNeeds trace.now (counts_of_part part.now) thread event)) }
 {
     match event {
         Event::Answer(..) => Ok(true),
@@ -96,7 +96,7 @@ pub fn is_ready(
     requires thread { thread < length trace.now.threads }
     requires size { thread < length part.now }
     requires makers { AreMakersOf trace.now makers.now }
-    ensures { IfOk result (λ ready. Tells ready (IsReady trace.now (counts_of part.now) thread)) }
+    ensures { IfOk result (λ ready. Tells ready (IsThreadReady trace.now (counts_of_part part.now) thread)) }
 {
     match next_event(trace, part, thread as usize) {
         None => Ok(true),

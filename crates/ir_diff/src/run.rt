@@ -7,7 +7,7 @@ ghost use Rattle.ir_files.specs.Writers.{writer_of, Reports, fault_text};
 ghost use Rattle.ir_files.specs.declared.exit_status.ExitStatus.TheVariants as status;
 ghost use Rattle.ir_past.specs.Answers.{AreCoherent, Answered, NotAnswered, Stops, fault_words};
 ghost use Rattle.ir_past.specs.declared.past_err.PastErr.{PastErr};
-ghost use Rattle.ir_diff.specs.Lines.{header_line, IsDiff, IsPairAnswer, IsSecondAnswer, IsDiffAnswer};
+ghost use Rattle.ir_diff.specs.Lines.{differing_header_line, IsDiff, IsPairAnswer, IsSecondAnswer, IsDiffAnswer};
 
 use crate::common::common_part;
 use crate::lines::header_line;
@@ -46,9 +46,9 @@ fn compared(alloc: Global, a: &Trace, b: &Trace) -> Result<Vec<u8>, AllocError>
 fn put_header<O: Sink>(alloc: Global, cause: u8, out: &mut O) -> Result<ExitStatus, PastErr>
     requires { O.broken out.old ≡ false }
     ensures status { IfOk result (λ answered. answered ≡ status.NotFit) }
-    ensures ok { OnOk result (Appends (O.written out.old) (O.written out.new) (header_line cause)) }
+    ensures ok { OnOk result (Appends (O.written out.old) (O.written out.new) (differing_header_line cause)) }
     ensures works { OnOk result (O.broken out.new ≡ false) }
-    ensures fails { IfErr result (λ e. Stops e (writer_of (O.written out.old) (O.written out.new) (O.broken out.new)) (header_line cause)) }
+    ensures fails { IfErr result (λ e. Stops e (writer_of (O.written out.old) (O.written out.new) (O.broken out.new)) (differing_header_line cause)) }
 {
     let line = header_line(alloc, cause)?;
     write_all(out, line.as_bytes())?;

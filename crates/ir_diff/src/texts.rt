@@ -9,8 +9,8 @@ ghost use Rattle.ir_trace.specs.Recorded.{trace_of};
 ghost use Rattle.ir_past.specs.Past.{event_at, IsMadeBy};
 ghost use Rattle.ir_past.specs.Naming.{maker_text};
 ghost use Rattle.ir_diff.specs.Common.{Tells, AreCommon};
-ghost use Rattle.ir_diff.specs.Progress.{counts_of, AreMakersOf};
-ghost use Rattle.ir_diff.specs.Lines.{NamesMaker, IsNext, next_line, IsSame, IsParting, IsThreadText, IsDiff};
+ghost use Rattle.ir_diff.specs.Progress.{counts_of_part, AreMakersOf};
+ghost use Rattle.ir_diff.specs.Lines.{NamesMaker, IsNextLine, next_line, IsSame, IsParting, IsThreadText, IsDiff};
 
 use crate::counted::next_event;
 use crate::lines::{budget_line, common_line, differs_line, end_text, same_line};
@@ -69,7 +69,7 @@ fn maker_of(alloc: Global, side: Side<'_>, event: Event) -> Result<String, Alloc
 // An event of a trace, and what made the version that it enters.
 fn event_part(alloc: Global, side: Side<'_>, event: Event) -> Result<Vec<u8>, AllocError>
     requires { AreMakersOf side.trace.now side.makers.now }
-    ensures { IfOk result (λ v. (t i : ℕ) → event_at side.entry.trace.now t i ≡ Some event → IsNext side.entry.trace.now t (Some event) v.items) }
+    ensures { IfOk result (λ v. (t i : ℕ) → event_at side.entry.trace.now t i ≡ Some event → IsNextLine side.entry.trace.now t (Some event) v.items) }
 {
     let mut text = Text::new();
     put_event_text(&mut text, event);
@@ -83,7 +83,7 @@ fn next_part(alloc: Global, side: Side<'_>, part: &[u32], thread: u8) -> Result<
     requires makers { AreMakersOf side.trace.now side.makers.now }
     requires thread { thread < length side.trace.now.threads }
     requires size { thread < length part.now }
-    ensures { IfOk result (λ v. IsNext side.entry.trace.now thread (event_at side.entry.trace.now thread (counts_of part.now thread)) v.items) }
+    ensures { IfOk result (λ v. IsNextLine side.entry.trace.now thread (event_at side.entry.trace.now thread (counts_of_part part.now thread)) v.items) }
 {
     match next_event(side.trace, part, thread as usize) {
         Some(event) => event_part(alloc, side, event),
@@ -105,7 +105,10 @@ fn next_line(
     requires makers { AreMakersOf side.trace.now side.makers.now }
     requires thread { thread < length side.trace.now.threads }
     requires size { thread < length part.now }
-    ensures { IfOk result (λ v. (text : List ℕ) × IsNext side.entry.trace.now thread (event_at side.entry.trace.now thread (counts_of part.now thread)) text × (v.items ≡ next_line number text)) }
+    ensures { IfOk result
+        (λ v. (text : List ℕ)
+        × IsNextLine side.entry.trace.now thread (event_at side.entry.trace.now thread (counts_of_part part.now thread)) text
+        × (v.items ≡ next_line number text)) }
 {
     let mut line = Vec::from_slice(alloc, format!(in alloc; "{number} ")?.as_bytes())?;
     line.extend_from_slice(&next_part(alloc, side, part, thread)?)?;
@@ -136,7 +139,7 @@ fn parting(
     requires thread { thread < length part.now }
     requires in_first { thread < length a.trace.now.threads }
     requires in_second { thread < length b.trace.now.threads }
-    ensures { IfOk result (λ v. IsParting a.entry.trace.now b.entry.trace.now (counts_of part.now) thread v.items) }
+    ensures { IfOk result (λ v. IsParting a.entry.trace.now b.entry.trace.now (counts_of_part part.now) thread v.items) }
 {
     let first = is_ready(alloc, a.trace, a.makers, part, thread)?;
     let second = is_ready(alloc, b.trace, b.makers, part, thread)?;
@@ -160,7 +163,7 @@ fn thread_text(
     requires thread { thread < length part.now }
     requires in_first { thread < length a.trace.now.threads }
     requires in_second { thread < length b.trace.now.threads }
-    ensures { IfOk result (λ v. IsThreadText a.entry.trace.now b.entry.trace.now (counts_of part.now) thread v.items) }
+    ensures { IfOk result (λ v. IsThreadText a.entry.trace.now b.entry.trace.now (counts_of_part part.now) thread v.items) }
 {
     let number = thread as usize;
     if is_same(
@@ -178,7 +181,7 @@ fn thread_text(
 ///
 /// # Errors
 /// Out of memory.
-#[tactic(auto, using(ir_trace::proofs::CallerLemmas::recorded_threads_at_most_limit))]
+#[tactic(auto, using(ir_trace::proofs::CallerLemmas::recorded_threads_within))]
 pub fn diff_text(
     alloc: Global,
     a: Side<'_>,

@@ -51,10 +51,10 @@ instruction_text pc Ecall = codes "ecall"
 instruction_text pc Ebreak = codes "ebreak"
 
 -- the text of a word that is the code of this instruction, or of none
-abbrev pub text_by : ℕ → ℕ → Option Inst → List ℕ
-text_by pc word (Some i) = instruction_text pc i
-text_by pc word None = codes ".word" ++ 32 ∷ (codes "0x" ++ hex 8 word)
+abbrev pub operand_text_by : ℕ → ℕ → Option Inst → List ℕ
+operand_text_by pc word (Some i) = instruction_text pc i
+operand_text_by pc word None = codes ".word" ++ 32 ∷ (codes "0x" ++ hex 8 word)
 
 -- the text of a word at pc
 abbrev pub text_of : ℕ → ℕ → List ℕ
-text_of pc word = text_by pc word (instruction_of word)
+text_of pc word = operand_text_by pc word (instruction_of word)

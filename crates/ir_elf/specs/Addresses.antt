@@ -3,11 +3,11 @@ use Rattle.std.specs.Prelude.{ℕ, ◌+◌, ◌-◌, ◌*◌, ◌≤◌, ◌<◌
 use Rattle.byteorder.specs.Endian.{little_number}
 use Rattle.ir_image.specs.Guest.{code_start, memory_start, memory_size}
 use Rattle.ir_elf.specs.Layout.{table_start, table_size}
-use Rattle.ir_elf.specs.Segments.{Segment, address_of, end_of}
+use Rattle.ir_elf.specs.Segments.{Segment, segment_address, segment_end}
 
 -- the byte of a segment at an address, if the segment has this address: the file's, or 0 where only memory has it
 abbrev pub byte_in : Segment → ℕ → Option ℕ
-byte_in s a = if nat_le (address_of s) a && nat_lt a (end_of s) then Some (get_or s.bytes (a - address_of s) 0) else None
+byte_in s a = if nat_le (segment_address s) a && nat_lt a (segment_end s) then Some (get_or s.bytes (a - segment_address s) 0) else None
 
 -- a number, or else another
 abbrev pub or_other : Option ℕ → Option ℕ → Option ℕ
@@ -25,13 +25,13 @@ or_zero (Some b) = b
 or_zero None = 0
 
 -- the byte at an address: 0 where no segment has it
-abbrev pub byte_at : List Segment → ℕ → ℕ
-byte_at segments a = or_zero (byte_of segments a)
+abbrev pub elf_byte : List Segment → ℕ → ℕ
+elf_byte segments a = or_zero (byte_of segments a)
 
 -- the word of the four bytes from an address on
-abbrev pub word_at : List Segment → ℕ → ℕ
-word_at segments a =
-    little_number 4 (byte_at segments a ∷ byte_at segments (a + 1) ∷ byte_at segments (a + 2) ∷ byte_at segments (a + 3) ∷ [])
+abbrev pub elf_word : List Segment → ℕ → ℕ
+elf_word segments a =
+    little_number 4 (elf_byte segments a ∷ elf_byte segments (a + 1) ∷ elf_byte segments (a + 2) ∷ elf_byte segments (a + 3) ∷ [])
 
 -- an address in code of `words` words, in private memory, or in the table
 abbrev pub IsInParts : ℕ → ℕ → Type 0

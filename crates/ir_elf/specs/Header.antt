@@ -82,8 +82,8 @@ headers_place_at file = identified file >>= λ kind. kind_known kind >>= λ rest
 
 -- a program header: its kind, where its bytes are in the file, its address, a physical address, how many bytes it has in the file and in
 -- memory, its flags, an alignment. The physical address and the alignment aren't read
-unfoldable pub header_at : Reader Header Refusal
-header_at bytes = do
+unfoldable pub elf_header_at : Reader Header Refusal
+elf_header_at bytes = do
   kind ← number_at Short 4 bytes
   place ← number_at Short 4 kind.1
   address ← number_at Short 4 place.1

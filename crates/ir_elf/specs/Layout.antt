@@ -13,10 +13,10 @@ abbrev pub table_size : ℕ
 table_size = 4168
 
 -- the address of the first byte of a part
-abbrev pub start_of : Part → ℕ
-start_of Code = code_start
-start_of Memory = memory_start
-start_of Table = table_start
+abbrev pub layout_start : Part → ℕ
+layout_start Code = code_start
+layout_start Memory = memory_start
+layout_start Table = table_start
 
 -- the most bytes of a part
 abbrev pub size_of : Part → ℕ

@@ -53,9 +53,9 @@ abbrev pub bytes_in : Part → Segment → ℕ
 bytes_in part s = if is_same s.part part then s.size else 0
 
 -- how many bytes of memory the segments of a part have together, with `total` more, at most 2^32 - 1
-abbrev pub bytes_from : ℕ → Part → List Segment → ℕ
-bytes_from total part [] = total
-bytes_from total part (s ∷ ss) = bytes_from (min (total + bytes_in part s) (2 ^ 32 - 1)) part ss
+abbrev pub memory_bytes_from : ℕ → Part → List Segment → ℕ
+memory_bytes_from total part [] = total
+memory_bytes_from total part (s ∷ ss) = memory_bytes_from (min (total + bytes_in part s) (2 ^ 32 - 1)) part ss
 
 -- the bytes of the first segment of the table
 abbrev pub table_of : List Segment → Option (List ℕ)

@@ -5,9 +5,9 @@ use Rattle.ir_image.specs.Guest.{Guest}
 use Rattle.ir_elf.specs.declared.part.Part.TheVariants.{Code, Memory}
 use Rattle.ir_elf.specs.declared.refusal.Refusal.{Refusal}
 use Rattle.ir_elf.specs.declared.refusal.Refusal.TheVariants.{NoCode, NoTable}
-use Rattle.ir_elf.specs.Refusal.{unless}
+use Rattle.ir_elf.specs.Refusal.{refusal_unless}
 use Rattle.ir_elf.specs.Segments.{Segment, segments_at}
-use Rattle.ir_elf.specs.Memory.{memory_of, size_in, held_in, greatest, bytes_from, table_of, words_in}
+use Rattle.ir_elf.specs.Memory.{memory_of, size_in, held_in, greatest, memory_bytes_from, table_of, words_in}
 use Rattle.ir_elf.specs.Table.{TableParts, table_at}
 
 -- the code's part of memory
@@ -29,7 +29,7 @@ table_found code None = Err NoTable
 
 -- the guest of segments
 unfoldable pub guest_of : List Segment → Result Guest Refusal
-guest_of segments = unless (nat_lt 0 (code_words segments)) NoCode (table_found (code_words segments) (table_of segments) >>= λ t. Ok (record {
+guest_of segments = refusal_unless (nat_lt 0 (code_words segments)) NoCode (table_found (code_words segments) (table_of segments) >>= λ t. Ok (record {
   form = t.form;
   entries = t.entries;
   code = words_in (take (4 * code_words segments) (code_memory segments));
@@ -43,7 +43,7 @@ elf_guest_at file = segments_at file >>= λ segments. guest_of segments
 
 -- how many bytes of variables each thread of the guest of segments has for itself: those of private memory, without the stack, which no segment has
 abbrev pub own_bytes : List Segment → ℕ
-own_bytes segments = bytes_from 0 Memory segments
+own_bytes segments = memory_bytes_from 0 Memory segments
 
 -- the same of a file's guest
 unfoldable pub own_bytes_at : List ℕ → Result ℕ Refusal

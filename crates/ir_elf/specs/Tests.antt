@@ -9,10 +9,10 @@ use Rattle.ir_elf.specs.declared.part.Part.TheVariants.{Code, Memory, Table}
 use Rattle.ir_elf.specs.declared.refusal.Refusal.{Refusal}
 use Rattle.ir_elf.specs.declared.refusal.Refusal.TheVariants as refusal
 use Rattle.ir_elf.specs.declared.header.Header.{Header}
-use Rattle.ir_elf.specs.Layout.{start_of}
-use Rattle.ir_elf.specs.Segments.{Segment, end_of, is_within, is_placed, is_protected, is_refused, is_loaded}
+use Rattle.ir_elf.specs.Layout.{layout_start}
+use Rattle.ir_elf.specs.Segments.{Segment, segment_end, is_within_segment, is_placed, is_protected, is_refused, is_loaded}
 use Rattle.ir_elf.specs.Memory.{table_of}
-use Rattle.ir_elf.specs.Table.{form_of, are_objects}
+use Rattle.ir_elf.specs.Table.{table_form, are_objects}
 use Rattle.ir_elf.specs.Reading.{code_words}
 
 -- a test, and the refusal where it fails
@@ -34,22 +34,22 @@ abbrev pub is_whole : List ℕ → ℕ → ℕ → Bool
 is_whole bytes place size = nat_le (place + size) (length bytes)
 
 -- the number of `size` bytes from a place on
-abbrev pub number_in : List ℕ → ℕ → ℕ → ℕ
-number_in bytes place size = little_number size (drop place bytes)
+abbrev pub field_number : List ℕ → ℕ → ℕ → ℕ
+field_number bytes place size = little_number size (drop place bytes)
 
 -- a field is whole, and its number passes
 abbrev pub field : Refusal → List ℕ → ℕ → ℕ → (ℕ → Bool) → Refusal → List Test → List Test
-field missing bytes place size passes r others = test (is_whole bytes place size) missing (test (passes (number_in bytes place size)) r others)
+field missing bytes place size passes r others = test (is_whole bytes place size) missing (test (passes (field_number bytes place size)) r others)
 
 -- ---- the header of the file
 
 -- where the program headers begin
 abbrev pub headers_place : List ℕ → ℕ
-headers_place file = number_in file 28 4
+headers_place file = field_number file 28 4
 
 -- how many program headers there are
 abbrev pub headers_number : List ℕ → ℕ
-headers_number file = number_in file 44 2
+headers_number file = field_number file 44 2
 
 -- the header of the file, and all program headers are there
 abbrev pub header_tests : List ℕ → List Test → List Test
@@ -72,12 +72,12 @@ header_tests file others =
 -- the program header at a place
 abbrev pub header_in : List ℕ → ℕ → Header
 header_in file place = record {
-  kind = number_in file place 4;
-  place = number_in file (place + 4) 4;
-  address = number_in file (place + 8) 4;
-  length = number_in file (place + 16) 4;
-  size = number_in file (place + 20) 4;
-  flags = number_in file (place + 24) 4;
+  kind = field_number file place 4;
+  place = field_number file (place + 4) 4;
+  address = field_number file (place + 8) 4;
+  length = field_number file (place + 16) 4;
+  size = field_number file (place + 20) 4;
+  flags = field_number file (place + 24) 4;
 }
 
 -- n program headers from a place on
@@ -87,13 +87,13 @@ headers_in file place (suc n) = header_in file place ∷ headers_in file (place 
 
 -- the part that a segment is within, if it is within one
 abbrev pub part_in : Header → Part
-part_in h = if is_within Code h.address h.size then Code else if is_within Memory h.address h.size then Memory else Table
+part_in h = if is_within_segment Code h.address h.size then Code else if is_within_segment Memory h.address h.size then Memory else Table
 
 -- what is loaded by a header
 abbrev pub segment_in : List ℕ → Header → Segment
 segment_in file h = record {
   part = part_in h;
-  place = h.address - start_of (part_in h);
+  place = h.address - layout_start (part_in h);
   size = h.size;
   bytes = take h.length (drop h.place file);
 }
@@ -108,7 +108,7 @@ abbrev pub loaded_tests : List ℕ → ℕ → Header → List Test → List Tes
 loaded_tests file last h others =
     test (is_whole file h.place h.length) refusal.Short
     (test (nat_le h.length h.size) refusal.Outside
-    (test (is_within (part_in h) h.address h.size && is_placed (part_in h) h) refusal.Outside
+    (test (is_within_segment (part_in h) h.address h.size && is_placed (part_in h) h) refusal.Outside
     (test (nat_le last h.address) refusal.Order
     (test (is_protected (part_in h) h.flags) refusal.Writable others))))
 
@@ -117,7 +117,7 @@ abbrev pub segment_tests : List ℕ → ℕ → List Header → List Test → Li
 segment_tests file last [] others = others
 segment_tests file last (h ∷ hs) others =
     test (not (is_refused h.kind)) refusal.Dynamic
-    (if is_loaded h then loaded_tests file last h (segment_tests file (end_of (segment_in file h)) hs others)
+    (if is_loaded h then loaded_tests file last h (segment_tests file (segment_end (segment_in file h)) hs others)
     else segment_tests file last hs others)
 
 -- ---- the table
@@ -130,15 +130,15 @@ entry_tests table code place (suc n) others =
 
 -- the form of a table
 abbrev pub form_in : List ℕ → ImageForm
-form_in table = form_of (number_in table 0 4)
+form_in table = table_form (field_number table 0 4)
 
 -- the table of a guest with `code` words of code
 abbrev pub table_tests : ℕ → List ℕ → List Test
 table_tests code table =
     field refusal.Table table 0 4 (λ n. nat_le 1 n && nat_le n 2) refusal.Table
     (field refusal.Table table 4 4 (λ n. nat_le 1 n && nat_le n (limits_of (form_in table)).threads) refusal.Table
-    (entry_tests table code 8 (number_in table 4 4)
-    (test (are_objects (form_in table) (length (drop (8 + 4 * number_in table 4 4) table))) refusal.Table [])))
+    (entry_tests table code 8 (field_number table 4 4)
+    (test (are_objects (form_in table) (length (drop (8 + 4 * field_number table 4 4) table))) refusal.Table [])))
 
 -- the tests of the table, if there is one
 abbrev pub found_tests : ℕ → Option (List ℕ) → List Test

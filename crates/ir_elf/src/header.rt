@@ -4,7 +4,7 @@ ghost use Rattle.std.specs.Prelude.{◌≡◌};
 ghost use Rattle.ir_bytes.specs.Reading.{field_at};
 ghost use Rattle.ir_bytes.specs.Format.{IsRead, fixed};
 ghost use Rattle.ir_elf.specs.declared.refusal.Refusal.TheVariants.{Short};
-ghost use Rattle.ir_elf.specs.Header.{identified, kind_known, headers_found, headers_place_at, header_at, number_field};
+ghost use Rattle.ir_elf.specs.Header.{identified, kind_known, headers_found, headers_place_at, elf_header_at, number_field};
 
 use crate::refusal::Refusal;
 use ir_bytes::{byte, bytes, fixed_half, fixed_word, half, word};
@@ -113,7 +113,7 @@ pub fn headers_place(file: &[u8]) -> Result<HeadersPlace, Refusal>
 /// A program header, and the bytes after it.
 #[tactic(auto, unfolding(crate::specs::Header::header_at))]
 pub fn next_header(rest: &[u8]) -> Result<(Header, &[u8]), Refusal>
-    ensures { IsRead (λ x. (x.0, x.1.now)) result (header_at rest.now) }
+    ensures { IsRead (λ x. (x.0, x.1.now)) result (elf_header_at rest.now) }
 {
     let (kind, rest) = word(rest, Refusal::Short)?;
     let (place, rest) = word(rest, Refusal::Short)?;

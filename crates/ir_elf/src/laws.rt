@@ -11,16 +11,16 @@ ghost use Rattle.ir_elf.specs.Table.{table_encoding};
 ghost use Rattle.ir_elf.specs.Tests.{first_failed, elf_tests, IsElfGuest};
 ghost use Rattle.ir_elf.specs.Segments.{Segment, segments_at};
 ghost use Rattle.ir_elf.specs.Reading.{elf_guest_at};
-ghost use Rattle.ir_elf.specs.Addresses.{byte_of, byte_at, word_at, IsInParts};
+ghost use Rattle.ir_elf.specs.Addresses.{byte_of, elf_byte, elf_word, IsInParts};
 
 /// Each word of the code is that of the four bytes that the segments have at its address, 0 where they have none.
-#[tactic(auto, using(crate::proofs::Contents::guest_code_word_is_word_at))]
+#[tactic(auto, using(crate::proofs::Contents::guest_code_is_word_at))]
 pub fn code_is_segments()
     ensures { (file : List ℕ) (segments : List Segment) (g : Guest) (k : ℕ) →
         segments_at file ≡ Ok segments →
         elf_guest_at file ≡ Ok g →
         k < length g.code →
-        slice_index g.code k ≡ word_at segments (code_start + 4 * k) }
+        slice_index g.code k ≡ elf_word segments (code_start + 4 * k) }
 {}
 
 /// Each byte that private memory begins with is the byte that the segments have at its address, 0 where they have none;
@@ -31,7 +31,7 @@ pub fn memory_is_segments()
         segments_at file ≡ Ok segments →
         elf_guest_at file ≡ Ok g →
         i < memory_size →
-        slice_index g.bytes i ≡ byte_at segments (memory_start + i) }
+        slice_index g.bytes i ≡ elf_byte segments (memory_start + i) }
     ensures nowhere_else { (file : List ℕ) (segments : List Segment) (g : Guest) (a b : ℕ) →
         segments_at file ≡ Ok segments →
         elf_guest_at file ≡ Ok g →

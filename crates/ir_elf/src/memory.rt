@@ -4,7 +4,7 @@ ghost use Rattle.std.specs.Prelude.{◌≡◌, ◌≤◌, ◌+◌, ◌%◌, leng
 ghost use Rattle.ir_elf.specs.declared.part.Part.TheVariants.{Code, Table};
 ghost use Rattle.ir_elf.specs.Layout.{size_of};
 ghost use Rattle.ir_elf.specs.Segments.{seen};
-ghost use Rattle.ir_elf.specs.Memory.{over, memory_of, size_in, held_in, greatest, bytes_in, bytes_from, table_of, words_in};
+ghost use Rattle.ir_elf.specs.Memory.{over, memory_of, size_in, held_in, greatest, bytes_in, memory_bytes_from, table_of, words_in};
 
 use crate::part::Part;
 use crate::segment::Segment;
@@ -70,7 +70,7 @@ fn bytes_in(part: Part, segment: Segment<'_>) -> u32
 
 /// How many bytes of memory the segments of a part have together.
 pub fn bytes_of_part(part: Part, segments: &[Segment<'_>]) -> u32
-    ensures { result ≡ bytes_from 0 part (map seen segments.now) }
+    ensures { result ≡ memory_bytes_from 0 part (map seen segments.now) }
 {
     let mut total = 0u32;
     'segments: for segment in segments {

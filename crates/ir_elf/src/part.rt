@@ -1,7 +1,7 @@
 //! The parts of a guest, and where each begins.
 
 ghost use Rattle.std.specs.Prelude.{◌≡◌, ◌≤◌};
-ghost use Rattle.ir_elf.specs.Layout.{start_of, size_of};
+ghost use Rattle.ir_elf.specs.Layout.{layout_start, size_of};
 
 use ir_image::{CODE_START, MEMORY_SIZE, MEMORY_START, MOST_CODE_WORDS};
 
@@ -25,7 +25,7 @@ pub const TABLE_SIZE: u32 = 4168;
 impl Part {
     /// The address of its first byte.
     pub fn start(self) -> u32
-        ensures { result ≡ start_of self }
+        ensures { result ≡ layout_start self }
     {
         match self {
             Part::Code => CODE_START,

@@ -4,7 +4,7 @@ ghost use Rattle.std.specs.Prelude.{◌≡◌, ◌≤◌, ◌*◌, length, map, 
 ghost use Rattle.std.specs.List.{AllByRecursion};
 ghost use Rattle.ir_image.specs.Guest.{most_code_words, memory_size};
 ghost use Rattle.ir_image.specs.Bounds.{IsByte, IsWord};
-ghost use Rattle.ir_elf.specs.Refusal.{Gives};
+ghost use Rattle.ir_elf.specs.Refusal.{YieldsOrRefuses};
 ghost use Rattle.ir_elf.specs.Segments.{seen};
 ghost use Rattle.ir_elf.specs.Reading.{code_memory, code_words, data_bytes, guest_of, elf_guest_at, own_bytes, own_bytes_at};
 
@@ -41,7 +41,9 @@ fn are_bytes(bytes: &[u8])
 // The parts of the guest of segments.
 #[tactic(auto, unfolding(crate::specs::Reading::guest_of))]
 fn parts_of(alloc: Global, segments: &[Segment<'_>]) -> Result<Parts, ElfErr>
-    ensures exact { Gives (λ p. record { form = p.form; entries = p.entries.items; code = p.code.items; bytes = p.bytes.items; words = p.words.items }) result (guest_of (map seen segments.now)) }
+    ensures exact { YieldsOrRefuses
+        (λ p. record { form = p.form; entries = p.entries.items; code = p.code.items; bytes = p.bytes.items; words = p.words.items }) result
+        (guest_of (map seen segments.now)) }
     ensures short_code { IfOk result (λ _. code_words (map seen segments.now) ≤ most_code_words) }
     ensures short_data { IfOk result (λ _. data_bytes (map seen segments.now) ≤ memory_size) }
     ensures whole { IfOk result (λ _. length (code_memory (map seen segments.now)) ≡ 4 * most_code_words) }
@@ -73,7 +75,7 @@ fn parts_of(alloc: Global, segments: &[Segment<'_>]) -> Result<Parts, ElfErr>
 
 // The image of the guest of segments.
 fn image_of(alloc: Global, segments: &[Segment<'_>]) -> Result<Image, ElfErr>
-    ensures { Gives (λ i. i) result (guest_of (map seen segments.now)) }
+    ensures { YieldsOrRefuses (λ i. i) result (guest_of (map seen segments.now)) }
 {
     let Parts {
         form,
@@ -99,7 +101,7 @@ fn image_of(alloc: Global, segments: &[Segment<'_>]) -> Result<Image, ElfErr>
 /// in turn; then the table. Or out of memory.
 #[tactic(auto, unfolding(crate::specs::Reading::elf_guest_at))]
 pub fn read_elf(alloc: Global, file: &[u8]) -> Result<Image, ElfErr>
-    ensures { Gives (λ image. image) result (elf_guest_at file.now) }
+    ensures { YieldsOrRefuses (λ image. image) result (elf_guest_at file.now) }
 {
     let segments = segments(alloc, file)?;
     image_of(alloc, segments.as_slice())
@@ -111,7 +113,7 @@ pub fn read_elf(alloc: Global, file: &[u8]) -> Result<Image, ElfErr>
 /// As of `read_elf`, for the segments; or out of memory.
 #[tactic(auto, unfolding(crate::specs::Reading::own_bytes_at))]
 pub fn own_bytes(alloc: Global, file: &[u8]) -> Result<u32, ElfErr>
-    ensures { Gives (λ n. n) result (own_bytes_at file.now) }
+    ensures { YieldsOrRefuses (λ n. n) result (own_bytes_at file.now) }
 {
     let segments = segments(alloc, file)?;
     Ok(bytes_of_part(Part::Memory, segments.as_slice()))

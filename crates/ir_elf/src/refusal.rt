@@ -1,7 +1,7 @@
 //! Why an ELF file is no guest.
 
 ghost use Rattle.std.specs.Prelude.{◌≡◌};
-ghost use Rattle.ir_elf.specs.Refusal.{refusal_number, refusal_words};
+ghost use Rattle.ir_elf.specs.Refusal.{elf_refusal_number, refusal_words};
 
 use std::{error, fmt};
 
@@ -41,7 +41,7 @@ pub enum Refusal {
 impl Refusal {
     /// The number of the refusal, 1 to 14 in the order above.
     pub fn number(self) -> u8
-        ensures { result ≡ refusal_number self }
+        ensures { result ≡ elf_refusal_number self }
     {
         match self {
             Refusal::Short => 1,

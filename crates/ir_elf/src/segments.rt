@@ -3,10 +3,11 @@
 ghost use Rattle.std.specs.Prelude.{◌≡◌, ◌≤◌, ◌+◌, map, length, option_map, IfOk};
 ghost use Rattle.ir_bytes.specs.Reading.{fields_at};
 ghost use Rattle.ir_bytes.specs.Format.{IsRead};
-ghost use Rattle.ir_elf.specs.Layout.{start_of, size_of};
-ghost use Rattle.ir_elf.specs.Refusal.{Gives};
-ghost use Rattle.ir_elf.specs.Header.{header_at};
-ghost use Rattle.ir_elf.specs.Segments.{seen, end_of, is_within, part_of, bytes_from, is_refused, is_loaded, is_placed, is_protected, segment_at, loaded_at, segments_from, segments_at};
+ghost use Rattle.ir_elf.specs.Layout.{layout_start, size_of};
+ghost use Rattle.ir_elf.specs.Refusal.{YieldsOrRefuses};
+ghost use Rattle.ir_elf.specs.Header.{elf_header_at};
+ghost use Rattle.ir_elf.specs.Segments.{seen, segment_end, is_within_segment, part_of, segment_bytes_from, is_refused, is_loaded};
+ghost use Rattle.ir_elf.specs.Segments.{is_placed, is_protected, segment_at, loaded_at, segments_from, segments_at};
 
 use crate::elf_err::ElfErr;
 use crate::header::{Header, headers_place, next_header};
@@ -26,7 +27,7 @@ const THREAD_LOCAL: u32 = 7;
 
 // Whether `size` bytes from an address are within a part.
 fn is_within(part: Part, address: u32, size: u32) -> bool
-    ensures { result ≡ is_within part address size }
+    ensures { result ≡ is_within_segment part address size }
 {
     let (start, most) = (part.start(), part.size());
     start <= address && size <= most && address - start <= most - size
@@ -55,8 +56,8 @@ fn is_protected(part: Part, flags: u32) -> bool
 // The part in which a segment is.
 fn part_of(header: Header) -> Result<Part, Refusal>
     ensures exact { IsRead (λ x. x) result (part_of header) }
-    ensures start { IfOk result (λ p. start_of p ≤ header.address) }
-    ensures within { IfOk result (λ p. header.address + header.size ≤ start_of p + size_of p) }
+    ensures start { IfOk result (λ p. layout_start p ≤ header.address) }
+    ensures within { IfOk result (λ p. header.address + header.size ≤ layout_start p + size_of p) }
     ensures held { IfOk result (λ p. header.length ≤ header.size) }
 {
     if header.length > header.size {
@@ -81,7 +82,7 @@ fn part_of(header: Header) -> Result<Part, Refusal>
 // `count` bytes from a place of the file on.
 #[tactic(auto, unfolding(crate::specs::Segments::bytes_from))]
 fn bytes_from(place: u32, count: u32, file: &[u8]) -> Result<&[u8], Refusal>
-    ensures exact { IsRead (λ x. x.now) result (bytes_from place count file.now) }
+    ensures exact { IsRead (λ x. x.now) result (segment_bytes_from place count file.now) }
     ensures count { IfOk result (λ x. length x.now ≡ count) }
 {
     let (_, rest) = bytes(place as usize, file, Refusal::Short)?;
@@ -123,14 +124,14 @@ fn loaded<'a>(file: &'a [u8], last: u32, header: Header) -> Result<Option<Segmen
 
 // The address after the last of a segment.
 fn end(segment: Segment<'_>) -> u32
-    ensures { result ≡ end_of (seen segment.entry) }
+    ensures { result ≡ segment_end (seen segment.entry) }
 {
     segment.part.start() + segment.place + segment.size
 }
 
 // `count` headers, and the bytes after them.
 fn headers(alloc: Global, count: u16, bytes: &[u8]) -> Result<(Vec<Header>, &[u8]), ElfErr>
-    ensures { Gives (λ x. (x.0.items, x.1.now)) result (fields_at header_at count bytes.now) }
+    ensures { YieldsOrRefuses (λ x. (x.0.items, x.1.now)) result (fields_at elf_header_at count bytes.now) }
 {
     let mut headers = Vec::new(alloc);
     let mut rest = bytes;
@@ -148,7 +149,7 @@ fn segments_of<'a>(
     file: &'a [u8],
     headers: &[Header],
 ) -> Result<Vec<Segment<'a>>, ElfErr>
-    ensures { Gives (λ v. map seen v.items) result (segments_from file.now 0 headers.now) }
+    ensures { YieldsOrRefuses (λ v. map seen v.items) result (segments_from file.now 0 headers.now) }
 {
     let mut segments = Vec::new(alloc);
     let mut last = 0;
@@ -164,7 +165,7 @@ fn segments_of<'a>(
 /// The segments of a file in their order.
 #[tactic(auto, unfolding(crate::specs::Segments::segments_at))]
 pub fn segments<'a>(alloc: Global, file: &'a [u8]) -> Result<Vec<Segment<'a>>, ElfErr>
-    ensures { Gives (λ v. map seen v.items) result (segments_at file.now) }
+    ensures { YieldsOrRefuses (λ v. map seen v.items) result (segments_at file.now) }
 {
     let found = headers_place(file)?;
     let (_, rest) = bytes(found.place as usize, file, Refusal::Short)?;

@@ -5,8 +5,8 @@ ghost use Rattle.ir_bytes.specs.Reading.{field_at, fields_at};
 ghost use Rattle.ir_bytes.specs.Format.{IsRead};
 ghost use Rattle.ir_image.specs.Guest.{limits_of, most_code_words};
 ghost use Rattle.ir_elf.specs.declared.refusal.Refusal.TheVariants.{Table};
-ghost use Rattle.ir_elf.specs.Refusal.{Gives};
-ghost use Rattle.ir_elf.specs.Table.{form_field, form_of, threads_field, entry_at, are_objects, table_at};
+ghost use Rattle.ir_elf.specs.Refusal.{YieldsOrRefuses};
+ghost use Rattle.ir_elf.specs.Table.{form_field, table_form, threads_field, table_entry_at, are_objects, table_at};
 
 use crate::elf_err::ElfErr;
 use crate::memory::words_of;
@@ -38,7 +38,7 @@ fn form(bytes: &[u8]) -> Result<(u32, &[u8]), Refusal>
 
 // The form of a number.
 fn form_of(number: u32) -> ImageForm
-    ensures { result ≡ form_of number }
+    ensures { result ≡ table_form number }
 {
     if number == 2 {
         ImageForm::Large
@@ -67,7 +67,7 @@ fn threads(form: ImageForm, bytes: &[u8]) -> Result<(u32, &[u8]), Refusal>
 #[tactic(auto, unfolding(ir_bytes::specs::Reading::field_at))]
 fn entry(code: u32, bytes: &[u8]) -> Result<(u32, &[u8]), Refusal>
     requires { code ≤ most_code_words }
-    ensures { IsRead (λ x. (x.0, x.1.now)) result (entry_at code bytes.now) }
+    ensures { IsRead (λ x. (x.0, x.1.now)) result (table_entry_at code bytes.now) }
 {
     let (entry, rest) = word(bytes, Refusal::Table)?;
     if entry % 4 == 0 && entry >= CODE_START && entry < CODE_START + 4 * code {
@@ -80,7 +80,7 @@ fn entry(code: u32, bytes: &[u8]) -> Result<(u32, &[u8]), Refusal>
 // `count` entries, and the bytes after them.
 fn entries(alloc: Global, count: u32, code: u32, bytes: &[u8]) -> Result<(Vec<u32>, &[u8]), ElfErr>
     requires { code ≤ most_code_words }
-    ensures { Gives (λ x. (x.0.items, x.1.now)) result (fields_at (entry_at code) count bytes.now) }
+    ensures { YieldsOrRefuses (λ x. (x.0.items, x.1.now)) result (fields_at (table_entry_at code) count bytes.now) }
 {
     let mut entries = Vec::new(alloc);
     let mut rest = bytes;
@@ -105,7 +105,7 @@ fn are_objects(form: ImageForm, count: usize) -> bool
 #[tactic(auto, unfolding(crate::specs::Table::table_at))]
 pub fn table(alloc: Global, code: u32, bytes: &[u8]) -> Result<TableParts, ElfErr>
     requires { code ≤ most_code_words }
-    ensures { Gives (λ t. record { form = t.form; entries = t.entries.items; words = t.words.items }) result (table_at code bytes.now) }
+    ensures { YieldsOrRefuses (λ t. record { form = t.form; entries = t.entries.items; words = t.words.items }) result (table_at code bytes.now) }
 {
     let (number, rest) = form(bytes)?;
     let form = form_of(number);

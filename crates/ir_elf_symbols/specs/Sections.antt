@@ -4,26 +4,26 @@ use Rattle.std.specs.List.{slice_index_or}
 use Rattle.ir_elf_symbols.specs.declared.section.Section.{Section}
 
 -- the byte at a place, the two bytes from there on as a number, and the four
-abbrev pub byte_at : List ℕ → ℕ → ℕ
-byte_at file place = slice_index_or file place 0
+abbrev pub section_byte : List ℕ → ℕ → ℕ
+section_byte file place = slice_index_or file place 0
 
 abbrev pub half_at : List ℕ → ℕ → ℕ
-half_at file place = byte_at file place + 2 ^ 8 * byte_at file (place + 1)
+half_at file place = section_byte file place + 2 ^ 8 * section_byte file (place + 1)
 
-abbrev pub word_at : List ℕ → ℕ → ℕ
-word_at file place = half_at file place + 2 ^ 16 * half_at file (place + 2)
+abbrev pub section_word : List ℕ → ℕ → ℕ
+section_word file place = half_at file place + 2 ^ 16 * half_at file (place + 2)
 
 -- where the header of section k begins
-abbrev pub header_of : List ℕ → ℕ → ℕ
-header_of file k = word_at file 32 + 40 * k
+abbrev pub section_header_of : List ℕ → ℕ → ℕ
+section_header_of file k = section_word file 32 + 40 * k
 
 -- section k: its kind, where its bytes are in the file, how many they are, and the number of the section that belongs to it
 abbrev pub section_at : List ℕ → ℕ → Section
 section_at file k = record {
-  kind = word_at file (header_of file k + 4);
-  place = word_at file (header_of file k + 16);
-  size = word_at file (header_of file k + 20);
-  link = word_at file (header_of file k + 24);
+  kind = section_word file (section_header_of file k + 4);
+  place = section_word file (section_header_of file k + 16);
+  size = section_word file (section_header_of file k + 20);
+  link = section_word file (section_header_of file k + 24);
 }
 
 -- how many sections there are, if their headers have 40 bytes

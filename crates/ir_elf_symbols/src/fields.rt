@@ -1,7 +1,7 @@
 //! Numbers and sections of an ELF file of 32 bits, little-endian.
 
 ghost use Rattle.std.specs.Prelude.{◌≡◌, ◌<◌, ◌≤◌, ◌+◌, ◌^◌, None};
-ghost use Rattle.ir_elf_symbols.specs.Sections.{byte_at, half_at, word_at, section_at, section_count, if_table, first_table, symbol_table};
+ghost use Rattle.ir_elf_symbols.specs.Sections.{section_byte, half_at, section_word, section_at, section_count, if_table, first_table, symbol_table};
 
 use crate::section::Section;
 
@@ -12,7 +12,7 @@ const HEADER: usize = 40;
 
 /// The byte at a place; 0 past the end.
 pub fn byte_at(file: &[u8], place: usize) -> u8
-    ensures { result ≡ byte_at file.now place }
+    ensures { result ≡ section_byte file.now place }
 {
     match file.get(place) {
         Some(byte) => *byte,
@@ -33,7 +33,7 @@ pub fn half_at(file: &[u8], place: usize) -> u32
 /// The number that the four bytes at a place encode.
 pub fn word_at(file: &[u8], place: usize) -> u32
     requires { place < 2 ^ 39 }
-    ensures { result ≡ word_at file.now place }
+    ensures { result ≡ section_word file.now place }
 {
     let (low, high) = (half_at(file, place), half_at(file, place + 2));
     low + 65536 * high

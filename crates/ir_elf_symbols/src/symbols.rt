@@ -2,7 +2,7 @@
 
 ghost use Rattle.std.specs.Prelude.{◌≡◌, ◌<◌, ◌≤◌, ◌+◌, ◌*◌, ◌^◌, ◌++◌, ◌==◌, position, length, IfOk, OnOk};
 ghost use Rattle.ir_symbols.specs.Tables.{IsSortOf};
-ghost use Rattle.ir_elf_symbols.specs.Symbols.{text_at, is_made, names_place, kind_of, symbol_by, symbol_at, listed, first_symbols, symbols_in, elf_symbols};
+ghost use Rattle.ir_elf_symbols.specs.Symbols.{text_at, is_made, names_place, kind_of, elf_symbol_by, symbol_at, listed_symbols, first_symbols, symbols_in, elf_symbols};
 
 use crate::fields::{byte_at, half_at, section_at, symbol_table, word_at};
 use crate::section::Section;
@@ -60,7 +60,7 @@ fn symbol_by(
     section: u32,
     name: &[u8],
 ) -> Result<Option<Symbol>, AllocError>
-    ensures { IfOk result (λ symbol. symbol ≡ symbol_by address info section name.now) }
+    ensures { IfOk result (λ symbol. symbol ≡ elf_symbol_by address info section name.now) }
 {
     if names_place(info, section) && !is_made(name) {
         Symbol::new(alloc, address, kind_of(info), name)
@@ -89,7 +89,7 @@ fn symbol_at(
 
 // Puts a symbol at the end, if there is one.
 fn push_if(symbols: &mut Vec<Symbol>, symbol: Option<Symbol>) -> Result<(), AllocError>
-    ensures { OnOk result (symbols.new.items ≡ symbols.old.items ++ listed symbol) }
+    ensures { OnOk result (symbols.new.items ≡ symbols.old.items ++ listed_symbols symbol) }
 {
     match symbol {
         Some(symbol) => {

@@ -12,12 +12,12 @@ abbrev pub entries_of : FittedTrace → ℕ → List ℕ
 entries_of f t = (placed_at (placed_of f) t).entries
 
 -- how many steps thread t takes before the one that logs its event i
-abbrev pub entry_of : FittedTrace → ℕ → ℕ → ℕ
-entry_of f t i = slice_index (entries_of f t) i
+abbrev pub event_entry : FittedTrace → ℕ → ℕ → ℕ
+event_entry f t i = slice_index (entries_of f t) i
 
 -- the pc of thread t of the run before the step that logs its event i
 abbrev pub pc_of : FittedTrace → List Step → ℕ → ℕ → ℕ
-pc_of f run t i = (thread_at f run t (entry_of f t i)).core.pc
+pc_of f run t i = (thread_at f run t (event_entry f t i)).core.pc
 
 -- a pc for each event of thread t: that of its step in each run with the trace
 pub record AreThreadPcs (f : FittedTrace) (t : ℕ) (pcs : List ℕ) : Type 0 where

@@ -7,7 +7,7 @@ use Rattle.ir_fit.specs.Fit.{FittedTrace}
 use Rattle.ir_symbols.specs.Symbols.{Symbol}
 use Rattle.ir_symbols.specs.Names.{name_text}
 use Rattle.ir_events.specs.declared.logged.Logged.{Logged}
-use Rattle.ir_events.specs.Events.{entry_of}
+use Rattle.ir_events.specs.Events.{event_entry}
 use Rattle.ir_events.specs.Lines.{event_line}
 
 -- the line of an event, with the name of its pc if it has one
@@ -16,7 +16,7 @@ named_line symbols l = event_line l (unwrap_or (name_text symbols l.pc) [])
 
 -- event i of thread t of a fitted trace whose pcs are in these lists
 abbrev pub logged_at : FittedTrace → List (List ℕ) → ℕ → ℕ → Event → Logged
-logged_at f lists t i e = record { thread = t; number = i; step = entry_of f t i; pc = slice_index (slice_index_or lists t []) i; event = e }
+logged_at f lists t i e = record { thread = t; number = i; step = event_entry f t i; pc = slice_index (slice_index_or lists t []) i; event = e }
 
 -- its line, if there is such an event
 abbrev pub event_line_if : FittedTrace → List (List ℕ) → List Symbol → ℕ → ℕ → Option Event → List ℕ

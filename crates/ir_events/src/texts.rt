@@ -39,7 +39,7 @@ fn push_line(
 }
 
 // An event of thread t, with its step and its pc.
-#[tactic(auto, using(ir_fit::proofs::CallerLemmas::event_positions_are_as_many_as_events))]
+#[tactic(auto, using(ir_fit::proofs::CallerLemmas::entries_count_events))]
 fn logged_at(fitted: &Fitted, pcs: &EventPcs, t: usize, number: usize) -> Logged
     requires thread { t < length fitted.now.guest.entries }
     requires event { number < length (recorded_thread fitted.now.recorded t).events }

@@ -3,8 +3,8 @@
 ghost use Rattle.std.specs.Prelude.{◌≡◌, ◌<◌, ◌≤◌, true, false, length, slice_index_or, IfOk};
 ghost use Rattle.ir_flat.specs.Flat.{idle};
 ghost use Rattle.ir_weave.specs.Standing.{flat_in, positions};
-ghost use Rattle.ir_weave.specs.Stepping.{Rests};
-ghost use Rattle.ir_events.specs.Walk.{AreEnds, IsOnWay, IsFurther, IsListed};
+ghost use Rattle.ir_weave.specs.Stepping.{RestsAtTarget};
+ghost use Rattle.ir_events.specs.Walk.{AreEnds, IsOnWalk, IsFurther, IsListedEvent};
 
 use crate::lists::ThreadPcs;
 use ir_cut::Cut;
@@ -24,15 +24,15 @@ fn thread_of(state: &State, t: usize) -> &Thread
 
 // Takes thread t on by itself, at most to its position k. Whether it is there.
 fn go_to(fitted: &Fitted, state: State, t: usize, ends: &Cut, k: u64) -> (State, bool)
-    requires way { IsOnWay fitted.now ends.now state }
+    requires way { IsOnWalk fitted.now ends.now state }
     requires ends { AreEnds fitted.now ends.now }
     requires thread { t < length fitted.now.guest.entries }
     requires ahead { positions (flat_in fitted.now state) t ≤ k }
-    ensures way { IsOnWay fitted.now ends.now result.0 }
+    ensures way { IsOnWalk fitted.now ends.now result.0 }
     ensures further { IsFurther fitted.now t state result.0 }
     ensures within { positions (flat_in fitted.now result.0) t ≤ k }
     ensures there { result.1 ≡ true → positions (flat_in fitted.now result.0) t ≡ k }
-    ensures rests { result.1 ≡ false → Rests fitted.now ends.now (flat_in fitted.now result.0) t }
+    ensures rests { result.1 ≡ false → RestsAtTarget fitted.now ends.now (flat_in fitted.now result.0) t }
 {
     let most = k - thread_of(&state, t).steps();
     let (state, taken) = advance_alone(fitted, state, t, ends, most, &OpenGate);
@@ -47,14 +47,14 @@ pub fn visit_thread(
     ends: &Cut,
     list: &mut ThreadPcs,
 ) -> Result<State, AllocError>
-    requires way { IsOnWay fitted.now ends.now state }
+    requires way { IsOnWalk fitted.now ends.now state }
     requires ends { AreEnds fitted.now ends.now }
     requires thread { t < length fitted.now.guest.entries }
-    requires listed { IsListed fitted.now t (positions (flat_in fitted.now state) t) list.old }
-    ensures way { IfOk result (IsOnWay fitted.now ends.now) }
+    requires listed { IsListedEvent fitted.now t (positions (flat_in fitted.now state) t) list.old }
+    ensures way { IfOk result (IsOnWalk fitted.now ends.now) }
     ensures further { IfOk result (IsFurther fitted.now t state) }
-    ensures listed { IfOk result (λ s. IsListed fitted.now t (positions (flat_in fitted.now s) t) list.new) }
-    ensures rests { IfOk result (λ s. Rests fitted.now ends.now (flat_in fitted.now s) t) }
+    ensures listed { IfOk result (λ s. IsListedEvent fitted.now t (positions (flat_in fitted.now s) t) list.new) }
+    ensures rests { IfOk result (λ s. RestsAtTarget fitted.now ends.now (flat_in fitted.now s) t) }
 {
     let mut state = state;
     let entries = fitted.entries(t);

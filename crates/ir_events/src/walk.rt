@@ -4,7 +4,7 @@ ghost use Rattle.std.specs.Prelude.{◌≡◌, ◌<◌, ◌≤◌, ℕ, [], true
 ghost use Rattle.ir_flat.specs.Flat.{idle};
 ghost use Rattle.ir_cut.specs.Positions.{cut_of};
 ghost use Rattle.ir_events.specs.Events.{ArePcs};
-ghost use Rattle.ir_events.specs.Walk.{AreEnds, IsOnWay, AreListed, IsPass};
+ghost use Rattle.ir_events.specs.Walk.{AreEnds, IsOnWalk, AreEventsListed, IsWalkPass};
 
 use crate::lists::{EventPcs, ThreadPcs};
 use crate::visit::visit_thread;
@@ -63,13 +63,13 @@ fn pass(
     ends: &Cut,
     lists: &mut [ThreadPcs],
 ) -> Result<State, AllocError>
-    requires way { IsOnWay fitted.now ends.now state }
+    requires way { IsOnWalk fitted.now ends.now state }
     requires ends { AreEnds fitted.now ends.now }
     requires size { length lists.old ≡ length fitted.now.guest.entries }
-    requires listed { AreListed fitted.now state lists.old }
+    requires listed { AreEventsListed fitted.now state lists.old }
     ensures size { length lists.new ≡ length lists.old }
-    ensures passed { IfOk result (IsPass fitted.now ends.now (length lists.old) state) }
-    ensures listed { IfOk result (λ s. AreListed fitted.now s lists.new) }
+    ensures passed { IfOk result (IsWalkPass fitted.now ends.now (length lists.old) state) }
+    ensures listed { IfOk result (λ s. AreEventsListed fitted.now s lists.new) }
 {
     let mut state = state;
     for t in 0..lists.len() {
@@ -85,10 +85,10 @@ fn walk(
     ends: &Cut,
     lists: &mut [ThreadPcs],
 ) -> Result<(), AllocError>
-    requires way { IsOnWay fitted.now ends.now state }
+    requires way { IsOnWalk fitted.now ends.now state }
     requires ends { AreEnds fitted.now ends.now }
     requires size { length lists.old ≡ length fitted.now.guest.entries }
-    requires listed { AreListed fitted.now state lists.old }
+    requires listed { AreEventsListed fitted.now state lists.old }
     ensures { OnOk result (ArePcs fitted.now lists.new) }
 {
     let mut state = state;

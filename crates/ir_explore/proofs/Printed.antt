@@ -5,8 +5,7 @@ use Rattle.std.specs.Io.KnownBytes.{Appends}
 use Rattle.std.proofs.KnownBytes.{Appends-nil}
 use Rattle.std.proofs.lemmas.Option.{slice_get-get_or}
 use Rattle.ir_search.specs.Following.{Stay}
-use Rattle.ir_search.proofs.CallerLemmas.{index_of_element_is_below_length}
-use Rattle.ir_files.proofs.CallerLemmas.{appends_prefix_after_whole_text}
+use Rattle.ir_search.proofs.CallerLemmas.{slice_get_some_below}
 use Rattle.ir_stream.specs.Answers.{AppendsPrefix}
 use Rattle.ir_graph.specs.Setup.{Setup}
 use Rattle.ir_outcomes.specs.declared.shown.Shown.{Shown}
@@ -16,13 +15,14 @@ use Rattle.ir_image.specs.Guest.{Guest}
 use Rattle.ir_outcomes.specs.Explored.{AreExplored, IsExplored}
 use Rattle.ir_outcomes.specs.declared.explored.Explored.{Explored}
 use Rattle.ir_outcomes.specs.declared.exploring.Exploring.{Exploring}
-use Rattle.ir_outcomes.proofs.CallerLemmas.{are_explored_before_first_level}
+use Rattle.ir_outcomes.proofs.CallerLemmas.{explored_before_first}
 use Rattle.ir_explore.specs.Faults.{StopsPrinting}
 use Rattle.ir_explore.specs.Printed.{HasPrinted}
 use Rattle.ir_explore.specs.Texts.{Objects, objects_of, AreTexts, TellsPart, AreKnown, known_of, IsEnding, IsAnswerAbout}
 use Rattle.ir_explore.specs.declared.fault.ExploreFault.TheVariants.{NoMem, Write}
 use Rattle.ir_explore.specs.Plan.{ExplorePlan, setup_of}
-use Rattle.ir_explore.proofs.Joined.{texts_of_no_outcome_are_empty, texts_kept_among_more_outcomes}
+use Rattle.ir_explore.proofs.Joined.{no_outcome_no_texts, texts_kept_among_more}
+use Rattle.ir_stream.proofs.CallerLemmas.{prefix_after_whole}
 
 -- before the first outcome nothing is printed
 pub empty_text_is_part : (setup : Setup) → TellsPart setup []
@@ -30,15 +30,15 @@ empty_text_is_part setup = record {
   flats = [];
   outcomes = [];
   levels = 0;
-  explored = are_explored_before_first_level setup [];
-  texts = texts_of_no_outcome_are_empty (objects_of setup.guest) [] [];
+  explored = explored_before_first setup [];
+  texts = no_outcome_no_texts (objects_of setup.guest) [] [];
 }
 
 -- the lines of the outcomes that a search has found
-pub printed_outcomes_are_part : (setup : Setup) (o : Objects) (e : Exploring) (text : List ℕ) → o ≡ objects_of setup.guest
+pub printed_are_part : (setup : Setup) (o : Objects) (e : Exploring) (text : List ℕ) → o ≡ objects_of setup.guest
     → AreExplored setup e.states.graph.flats.items e.list.levels e.list.outcomes.items
     → HasPrinted o e (length e.list.outcomes.items) text → TellsPart setup text
-printed_outcomes_are_part setup o e text same explored printed = record {
+printed_are_part setup o e text same explored printed = record {
   flats = e.states.graph.flats.items;
   outcomes = e.list.outcomes.items;
   levels = e.list.levels;
@@ -47,38 +47,38 @@ printed_outcomes_are_part setup o e text same explored printed = record {
 }
 
 -- out of memory before anything is printed
-pub out_of_memory_before_first_line_stops_printing : (guest : Guest) (plan : ExplorePlan) (w : Writer) → w.before ≡ w.after → StopsPrinting NoMem guest plan w
-out_of_memory_before_first_line_stops_printing guest plan w same =
+pub no_memory_stops_first : (guest : Guest) (plan : ExplorePlan) (w : Writer) → w.before ≡ w.after → StopsPrinting NoMem guest plan w
+no_memory_stops_first guest plan w same =
     inl ([], empty_text_is_part (setup_of guest plan), subst (λ z. Took (record w { after = z }) []) same (Appends-nil w.before))
 
 -- the writer fails in a whole answer
-pub failed_writer_in_answer_stops_printing : (guest : Guest) (plan : ExplorePlan) (answered : ExitStatus) (text : List ℕ) (w : Writer) → IsAnswerAbout guest plan answered text
+pub failed_writer_stops : (guest : Guest) (plan : ExplorePlan) (answered : ExitStatus) (text : List ℕ) (w : Writer) → IsAnswerAbout guest plan answered text
     → Failed w text → StopsPrinting Write guest plan w
-failed_writer_in_answer_stops_printing guest plan answered text w answer failed = inr (refl, answered, text, answer, failed)
+failed_writer_stops guest plan answered text w answer failed = inr (refl, answered, text, answer, failed)
 
 -- a list whose elements stay is no longer than what it becomes
-pub length_is_at_most_that_of_list_where_it_stays : {A : Type 0} (xs ys : List A) → Stay xs ys → length xs ≤ length ys
-length_is_at_most_that_of_list_where_it_stays [] ys stay = omega arith
-length_is_at_most_that_of_list_where_it_stays (x ∷ xs) ys stay =
+pub kept_length_le : {A : Type 0} (xs ys : List A) → Stay xs ys → length xs ≤ length ys
+kept_length_le [] ys stay = omega arith
+kept_length_le (x ∷ xs) ys stay =
     let at = slice_get-get_or (x ∷ xs) (length xs) x (omega arith) in
-    let less = index_of_element_is_below_length ys (length xs) (get_or (x ∷ xs) (length xs) x) (stay (length xs) (get_or (x ∷ xs) (length xs) x) at) in
+    let less = slice_get_some_below ys (length xs) (get_or (x ∷ xs) (length xs) x) (stay (length xs) (get_or (x ∷ xs) (length xs) x) at) in
     omega (arith, less)
 
 -- what was printed, among the outcomes that were found since
-pub printed_kept_among_more_outcomes : (o : Objects) (e e' : Exploring) (many : ℕ) (text : List ℕ) → many ≡ length e.list.outcomes.items
+pub printed_among_more : (o : Objects) (e e' : Exploring) (many : ℕ) (text : List ℕ) → many ≡ length e.list.outcomes.items
     → ((i : ℕ) (x : Shown) → slice_get e.list.outcomes.items i ≡ Some x → x.node < length e.states.graph.flats.items)
     → Stay e.states.graph.flats.items e'.states.graph.flats.items → Stay e.list.outcomes.items e'.list.outcomes.items
     → HasPrinted o e (length e.list.outcomes.items) text → HasPrinted o e' many text
-printed_kept_among_more_outcomes o e e' many text is nodes stay stays printed =
+printed_among_more o e e' many text is nodes stay stays printed =
     subst (λ n. HasPrinted o e' n text) (sym is)
-    (texts_kept_among_more_outcomes o e.states.graph.flats.items e'.states.graph.flats.items e.list.outcomes.items e'.list.outcomes.items
+    (texts_kept_among_more o e.states.graph.flats.items e'.states.graph.flats.items e.list.outcomes.items e'.list.outcomes.items
     (length e.list.outcomes.items) text printed (omega arith) nodes stay stays)
 
 -- the writer fails in what comes after what it took
 pub failed_after_taken_text : (w : Writer) (mid : Option (List ℕ)) (done text : List ℕ) → Appends w.before mid done → AppendsPrefix mid w.after text
     → w.failed ≡ true → Failed w (done ++ text)
 failed_after_taken_text w mid done text took prefix broken =
-    (appends_prefix_after_whole_text {A = ℕ} {E = ℕ} (Err 0) w.before mid w.after done text took prefix, broken)
+    (prefix_after_whole {A = ℕ} {E = ℕ} (Err 0) w.before mid w.after done text took prefix, broken)
 
 -- what is known of a guest once it is explored
 pub explored_is_known : (guest : Guest) (plan : ExplorePlan) (e : Explored) → IsExplored (setup_of guest plan) plan.bounds plan.switches e
@@ -99,11 +99,11 @@ explored_is_known guest plan e is = record {
 }
 
 -- the lines of all outcomes and then how the search ended are the answer
-pub printed_lines_and_ending_are_answer : (guest : Guest) (plan : ExplorePlan) (o : Objects) (s : Exploring) (e : Explored) (lines last : List ℕ)
+pub lines_and_end_answer : (guest : Guest) (plan : ExplorePlan) (o : Objects) (s : Exploring) (e : Explored) (lines last : List ℕ)
     (answered : ExitStatus) → o ≡ objects_of guest → e.states.graph.flats.items ≡ s.states.graph.flats.items
     → e.outcomes.items ≡ s.list.outcomes.items → IsExplored (setup_of guest plan) plan.bounds plan.switches e
     → HasPrinted o s (length s.list.outcomes.items) lines → IsEnding (known_of e) answered last → IsAnswerAbout guest plan answered (lines ++ last)
-printed_lines_and_ending_are_answer guest plan o s e lines last answered same flats outcomes is printed ending = inl (
+lines_and_end_answer guest plan o s e lines last answered same flats outcomes is printed ending = inl (
   known_of e,
   explored_is_known guest plan e is,
   record {

@@ -26,18 +26,19 @@ use Rattle.ir_runs.specs.Bounds.{IsIdle}
 use Rattle.ir_runs.specs.Machine.{Machine, Label, Quiet, Answer, EnteredAt, FailedTry, LeftAt}
 use Rattle.ir_runs.specs.Run.{State, Step, IsRun, IsWhole, after, end, trail, events, log}
 use Rattle.ir_runs.specs.declared.env_kind.EnvKind.TheVariants.{Clock, Random, Input}
-use Rattle.ir_runs.proofs.CallerLemmas.{step_below_idle_keeps_idle, thread_after_step_of_other, trail_of_cons_other_thread}
+use Rattle.ir_runs.proofs.CallerLemmas.{idle_stays_idle, thread_after_other, trail_cons_other}
 use Rattle.ir_world.specs.Sources.{Source, source, given, Gave, untimed, from_sources, IsAnsweredFrom, origin_of, seed_of}
 use Rattle.ir_search_laws.specs.Sources.{Gives}
-use Rattle.ir_store.specs.Table.{no_source}
+use Rattle.ir_state_store.specs.Table.{no_source}
 use Rattle.ir_thread.specs.State.{ThreadState, thread_machine}
 use Rattle.ir_thread.specs.declared.profile.Profile.{Profile}
 use Rattle.ir_trace.specs.Recorded.{Recorded, recorded_thread, trace_of}
 use Rattle.ir_graph.specs.Times.{HasTime, HasTimedRun}
-use Rattle.ir_seen.specs.Seen.{IsSpoilt}
+use Rattle.ir_likeness.specs.Seen.{IsSpoilt}
 use Rattle.ir_search_laws.specs.Views.{IsUnspoilt}
-use Rattle.ir_explore.specs.Recorded.{IsUntimed, AreUntimed, AreUncut, IsOfOutcome, IsUncutRecording, RecordingsHaveOutcomes, RecordingsAreListed, RecordingsAreUntimed, UntimedRecordingsAreListed, RecordingsNeverFulfil}
-use Rattle.ir_explore.proofs.Untimed.{GivesUntilTime, gives_until_time_if_given, events_are_untimed_or_have_time, has_timed_run_if_log_has_time}
+use Rattle.ir_explore.specs.Recorded.{IsUntimed, AreUntimed, AreUncut, IsOfOutcome, IsUncutRecording, RecordingsHaveOutcomes}
+use Rattle.ir_explore.specs.Recorded.{RecordingsAreListed, RecordingsAreUntimed, UntimedRecordingsAreListed, RecordingsNeverFulfil}
+use Rattle.ir_explore.proofs.Untimed.{GivesUntilTime, until_time_given, untimed_or_have_time, log_time_timed_run}
 
 -- ---- threads that the guest doesn't have
 
@@ -46,21 +47,21 @@ no_step_of_thread_above : {T : Type 0} (m : Machine T) (s : State T) (n : ℕ) �
     → (trail m s run t ≡ []) × ((end m s run).now t ≡ s.now t)
 no_step_of_thread_above m s n is_idle [] ok t l = (refl, refl)
 no_step_of_thread_above m s n is_idle (e ∷ run) ok t l =
-    let g = step_below_idle_keeps_idle m s n is_idle e ok.0 in
+    let g = idle_stays_idle m s n is_idle e ok.0 in
     let rest = no_step_of_thread_above m (after m s e) n g.1 run ok.1 t l in
     let other : t ≢ e.0 = λ q. absurd (omega (arith, q, l, g.0)) in
-    (trail_of_cons_other_thread m s e run t other ∙ rest.0, rest.1 ∙ thread_after_step_of_other m s e t other)
+    (trail_cons_other m s e run t other ∙ rest.0, rest.1 ∙ thread_after_other m s e t other)
 
 -- ---- answers
 
 -- a log whose answers a source gave, in turn, is answered by the source
-log_is_answered_if_source_gave_it : (s : Source) (es : List Label) (left : Source) → Gave s (answers_in es) left → Gives given s es
-log_is_answered_if_source_gave_it s [] left h = tt
-log_is_answered_if_source_gave_it s (Quiet ∷ es) left h = log_is_answered_if_source_gave_it s es left h
-log_is_answered_if_source_gave_it s (Answer k v ∷ es) left h = (h.0, log_is_answered_if_source_gave_it (given k s).1 es left h.1)
-log_is_answered_if_source_gave_it s (EnteredAt o a v l ∷ es) left h = log_is_answered_if_source_gave_it s es left h
-log_is_answered_if_source_gave_it s (FailedTry o ∷ es) left h = log_is_answered_if_source_gave_it s es left h
-log_is_answered_if_source_gave_it s (LeftAt o a v ∷ es) left h = log_is_answered_if_source_gave_it s es left h
+gave_answers_log : (s : Source) (es : List Label) (left : Source) → Gave s (answers_in es) left → Gives given s es
+gave_answers_log s [] left h = tt
+gave_answers_log s (Quiet ∷ es) left h = gave_answers_log s es left h
+gave_answers_log s (Answer k v ∷ es) left h = (h.0, gave_answers_log (given k s).1 es left h.1)
+gave_answers_log s (EnteredAt o a v l ∷ es) left h = gave_answers_log s es left h
+gave_answers_log s (FailedTry o ∷ es) left h = gave_answers_log s es left h
+gave_answers_log s (LeftAt o a v ∷ es) left h = gave_answers_log s es left h
 
 -- where no call for the time was answered, all answers come from the source
 untimed_answers_are_all : (es : List Event) → AllByRecursion IsUntimed es → untimed (answers_in (map label_of es)) ≡ answers_in (map label_of es)
@@ -72,10 +73,10 @@ untimed_answers_are_all (event.Read o v ∷ es) h = untimed_answers_are_all es h
 untimed_answers_are_all (event.Write o v r ∷ es) h = untimed_answers_are_all es h.1
 untimed_answers_are_all (event.Try o ∷ es) h = untimed_answers_are_all es h.1
 
-answers_from_sources_are_all : (counted : Bool) (es : List Event) → AllByRecursion IsUntimed es
+from_sources_all : (counted : Bool) (es : List Event) → AllByRecursion IsUntimed es
     → from_sources counted (answers_in (map label_of es)) ≡ answers_in (map label_of es)
-answers_from_sources_are_all true es h = refl
-answers_from_sources_are_all false es h = untimed_answers_are_all es h
+from_sources_all true es h = refl
+from_sources_all false es h = untimed_answers_are_all es h
 
 -- the answers that were kept of a thread are those in its log
 kept_answers_are_in_log : (guest : Guest) (budget : ℕ) (profile : Profile) (run : List Step) (answers : List (List AnsweredCall)) (t : ℕ) → t < length guest.entries
@@ -96,9 +97,9 @@ abbrev number_of : Option (ℕ × ℕ) → ℕ
 number_of None = 0
 number_of (Some e) = e.0
 
-thread_of_missing_number_is_idle : (guest : Guest) (budget : ℕ) (profile : Profile) (t : ℕ) → length guest.entries ≤ t
+missing_thread_is_idle : (guest : Guest) (budget : ℕ) (profile : Profile) (t : ℕ) → length guest.entries ≤ t
     → thread_of (start_flat guest budget profile) t ≡ idle
-thread_of_missing_number_is_idle guest budget profile t l = get_or_past (start_flat guest budget profile).threads t idle
+missing_thread_is_idle guest budget profile t l = get_or_past (start_flat guest budget profile).threads t idle
     (let e = length_of_start_threads guest budget profile 0 (length guest.entries) in omega (arith, e, l))
 
 -- ---- a run that was recorded counts
@@ -128,7 +129,7 @@ module _ (setup : Setup) (budget : ℕ) (counted : Bool) (run : List Step) (trac
       | inl a ↦ (uncut t l).0 (ap number_of (sym (w.ends t l) ∙ a))
       | inr a ↦ (uncut t l).1 (ap number_of (sym (w.ends t l) ∙ a))
     ]
-    | inr g ↦ let ends : m.ended ((end m s run).now t) ≡ m.ended idle = ap m.ended ((still t g).1 ∙ thread_of_missing_number_is_idle setup.guest budget setup.profile t g) in
+    | inr g ↦ let ends : m.ended ((end m s run).now t) ≡ m.ended idle = ap m.ended ((still t g).1 ∙ missing_thread_is_idle setup.guest budget setup.profile t g) in
         elim spoilt [
           | inl a ↦ let e : 2 ≡ 13 = ap number_of (sym ends ∙ a) in absurd (omega (arith, e))
           | inr a ↦ let e : 2 ≡ 14 = ap number_of (sym ends ∙ a) in absurd (omega (arith, e))
@@ -156,19 +157,19 @@ module _ (setup : Setup) (budget : ℕ) (counted : Bool) (run : List Step) (trac
         let es = (recorded_thread trace t).events in
         let a = answered t l in
         let all : from_sources counted (get_or answers t []) ≡ answers_in (map label_of es) =
-        ap (from_sources counted) (kept_in_log t l) ∙ answers_from_sources_are_all counted es (no_clock t l) in
-        log_is_answered_if_source_gave_it (source (seed_of setup.random t) setup.input) (map label_of es) a.0
+        ap (from_sources counted) (kept_in_log t l) ∙ from_sources_all counted es (no_clock t l) in
+        gave_answers_log (source (seed_of setup.random t) setup.input) (map label_of es) a.0
         (subst (λ z. Gave (source (seed_of setup.random t) setup.input) z a.0) all a.1));
     unspoilt = recorded_end_is_unspoilt;
   }
 
   untimed_if_no_timed_run : (HasTimedRun setup → ⊥) → AreUntimed n trace
-  untimed_if_no_timed_run none t l = elim (events_are_untimed_or_have_time (recorded_thread trace t).events) [
+  untimed_if_no_timed_run none t l = elim (untimed_or_have_time (recorded_thread trace t).events) [
     | inl all ↦ all
-    | inr has ↦ absurd (none (has_timed_run_if_log_has_time setup budget run w.runs
+    | inr has ↦ absurd (none (log_time_timed_run setup budget run w.runs
         (of_each_log GivesUntilTime (λ source. tt) (λ u less.
         let a = answered u less in
-        gives_until_time_if_given counted (source (seed_of setup.random u) setup.input) (map label_of (recorded_thread trace u).events) a.0
+        until_time_given counted (source (seed_of setup.random u) setup.input) (map label_of (recorded_thread trace u).events) a.0
         (subst (λ z. Gave (source (seed_of setup.random u) setup.input) (from_sources counted z) a.0) (kept_in_log u less) a.1)))
         recorded_end_is_unspoilt t (subst HasTime (sym (w.logs t l)) has)))
   ]
@@ -211,8 +212,8 @@ same_setup setup image plan trace outputs h =
     let g : h.recorded.guest ≡ setup.guest = same_guest image h.recorded.guest setup.guest h.recorded.is h.guest in
     λ i. record { guest = g i; profile = h.profile i; random = h.random i; input = h.input i }
 
-pub recordings_have_outcomes : RecordingsHaveOutcomes
-recordings_have_outcomes setup image plan trace outputs (h, no_clock) =
+pub recordings_outcomes : RecordingsHaveOutcomes
+recordings_outcomes setup image plan trace outputs (h, no_clock) =
     let e = same_setup setup image plan trace outputs h in
     subst (λ z. (x : RunOutcome) × IsOfOutcome z plan.budget trace outputs x × IsOutcomeOf z x) e
     (recorded_setup_has_outcome image plan trace outputs h.recorded
@@ -221,7 +222,7 @@ recordings_have_outcomes setup image plan trace outputs (h, no_clock) =
 
 pub recordings_are_listed : RecordingsAreListed
 recordings_are_listed guest explored k image plan trace outputs are finished h =
-    let r = recordings_have_outcomes _ image plan trace outputs h in
+    let r = recordings_outcomes _ image plan trace outputs h in
     (r.0, r.1, (are.all finished r.0).0 r.2)
 
 pub recordings_are_untimed : RecordingsAreUntimed
@@ -234,12 +235,12 @@ recordings_are_untimed setup image plan trace outputs h none =
     (untimed_if_no_timed_run (recorded_setup image plan trace outputs r) plan.budget (is_some plan.order) some.0 trace outputs r.answers some.1 r.answered
     (subst (λ (z : Setup). AreUncut (length z.guest.entries) trace) (sym e) h.uncut) (subst (λ z. HasTimedRun z → ⊥) (sym e) none))
 
-pub untimed_recordings_are_listed : UntimedRecordingsAreListed
-untimed_recordings_are_listed guest explored k image plan trace outputs are finished untimed h =
+pub untimed_are_listed : UntimedRecordingsAreListed
+untimed_are_listed guest explored k image plan trace outputs are finished untimed h =
     recordings_are_listed guest explored k image plan trace outputs are finished
     (h, recordings_are_untimed _ image plan trace outputs h (λ has. absurd (cc (sym (are.untimed finished has) ∙ untimed))))
 
 pub recordings_never_fulfil : RecordingsNeverFulfil
 recordings_never_fulfil setup conditions image plan trace outputs never h =
-    let r = recordings_have_outcomes setup image plan trace outputs h in
+    let r = recordings_outcomes setup image plan trace outputs h in
     (r.0, r.1, never r.0 r.2)

@@ -14,12 +14,12 @@ use Rattle.ir_explore.specs.Until.{IsSought, IsVain, HasNoAnswer, vain_status_of
 use Rattle.ir_explore.specs.declared.fault.ExploreFault.{ExploreFault}
 use Rattle.ir_explore.specs.declared.fault.ExploreFault.TheVariants.{Image, TooLarge, NoMem, Write}
 use Rattle.ir_explore.specs.Plan.{ExplorePlan, setup_of}
-use Rattle.ir_explore.proofs.Fulfilled.{never_within_if_none_before, never_fulfils_if_none_before}
+use Rattle.ir_explore.proofs.Fulfilled.{never_within_levels, never_fulfils}
 
 -- what was found out up to a number of switches that is the plan's, or is all
-are_known_of_plan_if_known_at_n_switches : (guest : Guest) (plan : ExplorePlan) (n : ℕ) (k : Known) → AreKnown guest (record plan { switches = n }) k
+known_at_switches : (guest : Guest) (plan : ExplorePlan) (n : ℕ) (k : Known) → AreKnown guest (record plan { switches = n }) k
     → (k.ended ≡ Covered → n ≡ plan.switches) → AreKnown guest plan k
-are_known_of_plan_if_known_at_n_switches guest plan n k a last = record {
+known_at_switches guest plan n k a last = record {
   explored = a.explored;
   all = a.all;
   nodes = a.nodes;
@@ -35,14 +35,14 @@ are_known_of_plan_if_known_at_n_switches guest plan n k a last = record {
 }
 
 -- after the last search
-pub is_sought_if_known_at_n_switches_and_first_found : (guest : Guest) (plan : ExplorePlan) (cs : List Condition) (n : ℕ) (k : Known) (found : Option ℕ)
+pub sought_if_first_found : (guest : Guest) (plan : ExplorePlan) (cs : List Condition) (n : ℕ) (k : Known) (found : Option ℕ)
     → AreKnown guest (record plan { switches = n }) k → IsFirst guest cs k.flats k.outcomes found
     → (found ≡ None → k.ended ≡ Covered → n ≡ plan.switches) → IsSought guest plan cs k found
-is_sought_if_known_at_n_switches_and_first_found guest plan cs n k found a first last = record {
+sought_if_first_found guest plan cs n k found a first last = record {
   explored = a.explored;
   reached = a.reached;
   first = first;
-  whole = λ none. are_known_of_plan_if_known_at_n_switches guest plan n k a (last none);
+  whole = λ none. known_at_switches guest plan n k a (last none);
 }
 
 -- none was found
@@ -53,8 +53,8 @@ vain_text_if_none_found guest plan cs k alone text s printed = let a = s.whole r
   are = a;
   printed = (alone, printed);
   none = s.first;
-  never = λ e. never_fulfils_if_none_before (setup_of guest plan) cs k.flats k.outcomes (a.all e) s.first;
-  within = never_within_if_none_before (setup_of guest plan) cs k.flats k.outcomes k.levels a.explored s.first;
+  never = λ e. never_fulfils (setup_of guest plan) cs k.flats k.outcomes (a.all e) s.first;
+  within = never_within_levels (setup_of guest plan) cs k.flats k.outcomes k.levels a.explored s.first;
   status = refl;
 }
 
@@ -69,8 +69,8 @@ no_guest_is_no_answer NoMem image plan cs w none = none
 no_guest_is_no_answer Write image plan cs w none = absurd none
 
 -- nor one about a hang
-pub no_guest_is_no_hang_answer : (e : ExploreFault) (image : List ℕ) (plan : ExplorePlan) (w : Writer) → HasNoGuest e image plan w → HasNoHangAnswer e image plan w
-no_guest_is_no_hang_answer (Image e) image plan w none = none
-no_guest_is_no_hang_answer TooLarge image plan w none = none
-no_guest_is_no_hang_answer NoMem image plan w none = none
-no_guest_is_no_hang_answer Write image plan w none = absurd none
+pub no_guest_no_hang : (e : ExploreFault) (image : List ℕ) (plan : ExplorePlan) (w : Writer) → HasNoGuest e image plan w → HasNoHangAnswer e image plan w
+no_guest_no_hang (Image e) image plan w none = none
+no_guest_no_hang TooLarge image plan w none = none
+no_guest_no_hang NoMem image plan w none = none
+no_guest_no_hang Write image plan w none = absurd none

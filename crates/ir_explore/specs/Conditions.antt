@@ -4,7 +4,7 @@ use Rattle.std.specs.List.{list_all}
 use Rattle.ir_schedule.specs.Conditions as conditions
 use Rattle.ir_schedule.specs.Conditions.{Condition, fulfils}
 use Rattle.ir_flat.specs.Flat.{Flat, cell_of, tables}
-use Rattle.ir_store.specs.Nodes.{SourcedFlat}
+use Rattle.ir_state_store.specs.Nodes.{SourcedFlat}
 use Rattle.ir_graph.specs.Outcomes.{RunOutcome, run_outcome}
 use Rattle.ir_image.specs.Guest.{Guest, most_object_words, object_count}
 use Rattle.ir_graph.specs.Setup.{Setup, IsCountedOf}

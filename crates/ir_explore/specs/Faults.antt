@@ -18,13 +18,13 @@ use Rattle.ir_explore.specs.declared.fault.ExploreFault.{ExploreFault}
 use Rattle.ir_explore.specs.declared.fault.ExploreFault.TheVariants.{Image, TooLarge, NoMem, Write}
 
 -- the fault that a refusal of the image is
-abbrev pub image_fault : ImageErr → ExploreFault
-image_fault image.NoMem = NoMem
-image_fault image.Short = Image image.Short
-image_fault image.Magic = Image image.Magic
-image_fault image.Count = Image image.Count
-image_fault image.Entry = Image image.Entry
-image_fault image.Trailing = Image image.Trailing
+abbrev pub explore_image_fault : ImageErr → ExploreFault
+explore_image_fault image.NoMem = NoMem
+explore_image_fault image.Short = Image image.Short
+explore_image_fault image.Magic = Image image.Magic
+explore_image_fault image.Count = Image image.Count
+explore_image_fault image.Entry = Image image.Entry
+explore_image_fault image.Trailing = Image image.Trailing
 
 -- the exit status of a fault
 abbrev pub explore_fault_status : ExploreFault → ExitStatus

@@ -35,13 +35,13 @@ abbrev pub end_pair : Option End → ℕ
 end_pair None = 0
 end_pair (Some e) = end_number e
 
-abbrev pub code_of : Option End → ℕ
-code_of None = 0
-code_of (Some e) = end_code e
+abbrev pub end_code_of : Option End → ℕ
+end_code_of None = 0
+end_code_of (Some e) = end_code e
 
 -- the lines of a thread
 abbrev pub outcome_thread_text : ℕ → ThreadState → List ℕ
-outcome_thread_text t s = outcome_thread_line t (end_pair s.ended) (code_of s.ended) (length s.output)
+outcome_thread_text t s = outcome_thread_line t (end_pair s.ended) (end_code_of s.ended) (length s.output)
     ++ byte_lines s.output (lines_for 32 (length s.output))
 
 -- words, each after a blank

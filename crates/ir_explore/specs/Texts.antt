@@ -24,7 +24,7 @@ use Rattle.ir_outcomes.specs.declared.explored.Explored.{Explored}
 use Rattle.ir_outcomes.specs.declared.shown.Shown.{Shown}
 use Rattle.ir_record.specs.Recording.{turns_of_items}
 use Rattle.ir_thread.specs.State.{ThreadState}
-use Rattle.ir_store.specs.Nodes.{SourcedFlat}
+use Rattle.ir_state_store.specs.Nodes.{SourcedFlat}
 use Rattle.ir_explore.specs.declared.started.Started.{Started}
 use Rattle.ir_explore.specs.Plan.{ExplorePlan, setup_of}
 use Rattle.ir_explore.specs.Lines.{outcome_line, outcome_thread_text, outcome_object_line, hang_line, ended_text, counts_text, hangs_text, clock_text, search_line}

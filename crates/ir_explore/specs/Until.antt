@@ -22,7 +22,7 @@ use Rattle.ir_record.specs.Refusing.{Turn}
 use Rattle.ir_record_command.specs.Order.{order_of}
 use Rattle.ir_record_command.specs.Plan.{Plan}
 use Rattle.ir_runs.specs.Run.{Step}
-use Rattle.ir_store.specs.Nodes.{SourcedFlat}
+use Rattle.ir_state_store.specs.Nodes.{SourcedFlat}
 use Rattle.ir_thread.specs.State.{IsAllowed, most_budget}
 use Rattle.ir_trace.specs.Recorded.{Recorded}
 use Rattle.ir_explore.specs.Conditions.{fulfils_each, NeverFulfils, NeverWithin, NoneBefore, IsFirst}

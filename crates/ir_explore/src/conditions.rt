@@ -12,7 +12,7 @@ use crate::states::state_of;
 use ir_flat::Flat;
 use ir_outcomes::Shown;
 use ir_schedule::Condition;
-use ir_store::Store;
+use ir_state_store::Store;
 use std::alloc::AllocError;
 
 /// Whether a condition holds of threads and objects is decided by their outcome.

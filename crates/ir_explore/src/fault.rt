@@ -1,7 +1,7 @@
 //! Why nothing was printed of a guest.
 
 ghost use Rattle.std.specs.Prelude.{◌≡◌};
-ghost use Rattle.ir_explore.specs.Faults.{image_fault, explore_fault_status, explore_fault_words};
+ghost use Rattle.ir_explore.specs.Faults.{explore_image_fault, explore_fault_status, explore_fault_words};
 ghost use Rattle.ir_explore.specs.declared.fault.ExploreFault.TheVariants.{NoMem, Write};
 
 use ir_files::ExitStatus;
@@ -26,7 +26,7 @@ pub enum ExploreFault {
 impl ExploreFault {
     /// The fault that a refusal of the image is.
     pub fn of_image(why: ImageErr) -> ExploreFault
-        ensures { result ≡ image_fault why }
+        ensures { result ≡ explore_image_fault why }
     {
         match why {
             ImageErr::NoMem => ExploreFault::NoMem,

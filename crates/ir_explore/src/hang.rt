@@ -221,7 +221,9 @@ where
         ⊎ ((e : RecordFault) × (status ≡ recorded.fault_status e) × (order : HangOrder) × (text : List ℕ) × (said : O)
         × IsHangAnswer plan.now.image.now plan.now.explore (Ok order) text
         × Appends (O.written out.old) (O.written said) text
-        × IsReported e plan.now.image.now (hang_plan plan.now.explore order) (unwritten_of (W.called files.new.trace) (W.cause files.new.trace)) (unwritten_of (P.called files.new.outputs) (P.cause files.new.outputs))
+        × IsReported e plan.now.image.now (hang_plan plan.now.explore order)
+        (unwritten_of (W.called files.new.trace) (W.cause files.new.trace))
+        (unwritten_of (P.called files.new.outputs) (P.cause files.new.outputs))
         (writer_of (E.written faults.old) (E.written faults.new) (E.broken faults.new))
         × StopsRecord e plan.now.image.now (hang_plan plan.now.explore order)
         (writer_of (W.written files.old.trace) (W.written files.new.trace) (W.broken files.new.trace))

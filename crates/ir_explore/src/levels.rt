@@ -3,7 +3,7 @@
 ghost use Rattle.std.specs.Prelude.{◌≡◌, ◌⊎◌, ◌++◌, ℕ, List, false, true, ◌<◌, ◌≤◌, None, Some, length, slice_get, IfErr, OnOk};
 ghost use Rattle.std.specs.Io.KnownBytes.{Appends};
 ghost use Rattle.ir_files.specs.Writers.{writer_of};
-ghost use Rattle.ir_store.specs.Nodes.{SourcedFlat};
+ghost use Rattle.ir_state_store.specs.Nodes.{SourcedFlat};
 ghost use Rattle.ir_outcomes.specs.Exploring.{IsExploring};
 ghost use Rattle.ir_stream.specs.Answers.{AppendsPrefix};
 ghost use Rattle.ir_thread.specs.State.{IsAllowed};
@@ -31,10 +31,17 @@ fn print_from<O: Sink>(
     requires objects { (v : ℕ) (s : SourcedFlat) → slice_get exploring.now.states.graph.flats.items v ≡ Some s → length s.flat.objects ≡ length started.first.now }
     requires from { from ≤ length exploring.now.list.outcomes.items }
     requires works { O.broken out.old ≡ false }
-    ensures printed { OnOk result ((before : List ℕ) → HasPrinted (objects_in started.entry) exploring.now from before → (text : List ℕ) × HasPrinted (objects_in started.entry) exploring.now (length exploring.now.list.outcomes.items) (before ++ text) × Appends (O.written out.old) (O.written out.new) text) }
+    ensures printed { OnOk result
+        ((before : List ℕ) → HasPrinted (objects_in started.entry) exploring.now from before
+        → (text : List ℕ)
+        × HasPrinted (objects_in started.entry) exploring.now (length exploring.now.list.outcomes.items) (before ++ text)
+        × Appends (O.written out.old) (O.written out.new) text) }
     ensures works { OnOk result (O.broken out.new ≡ false) }
     ensures failed { IfErr result (λ e. ((e ≡ NoMem) × (out.new ≡ out.old)) ⊎ ((e ≡ Write) × (O.broken out.new ≡ true)
-        × ((before : List ℕ) → HasPrinted (objects_in started.entry) exploring.now from before → (text : List ℕ) × HasPrinted (objects_in started.entry) exploring.now (length exploring.now.list.outcomes.items) (before ++ text) × AppendsPrefix (O.written out.old) (O.written out.new) text))) }
+        × ((before : List ℕ) → HasPrinted (objects_in started.entry) exploring.now from before
+        → (text : List ℕ)
+        × HasPrinted (objects_in started.entry) exploring.now (length exploring.now.list.outcomes.items) (before ++ text)
+        × AppendsPrefix (O.written out.old) (O.written out.new) text))) }
 {
     let outcomes = exploring.list.outcomes.as_slice();
     let flats = &exploring.states.graph.flats;
@@ -64,8 +71,13 @@ pub fn print_levels<W: Observer, O: Sink>(
     ensures bounds { exploring.new.states.graph.bounds ≡ exploring.old.states.graph.bounds }
     ensures most { exploring.new.most ≡ exploring.old.most }
     // Once all are gone over
-    ensures over { OnOk result (exploring.new.stop ≡ None → (exploring.new.states.search.level.until ≤ exploring.new.states.search.level.first) ⊎ (exploring.new.most < exploring.new.states.search.level.number)) }
-    ensures printed { OnOk result ((text : List ℕ) × HasPrinted (objects_in started.entry) exploring.new (length exploring.new.list.outcomes.items) text × Appends (O.written out.old) (O.written out.new) text) }
+    ensures over { OnOk result
+        (exploring.new.stop ≡ None
+        → (exploring.new.states.search.level.until ≤ exploring.new.states.search.level.first)
+        ⊎ (exploring.new.most < exploring.new.states.search.level.number)) }
+    ensures printed { OnOk result
+        ((text : List ℕ) × HasPrinted (objects_in started.entry) exploring.new (length exploring.new.list.outcomes.items) text
+        × Appends (O.written out.old) (O.written out.new) text) }
     ensures works { OnOk result (O.broken out.new ≡ false) }
     // If not
     ensures failed { IfErr result (λ e. EndsEarly e exploring.old.states.graph.setup (writer_of (O.written out.old) (O.written out.new) (O.broken out.new))) }

@@ -2,7 +2,9 @@
 
 ghost use Rattle.std.specs.Prelude.{◌≡◌, ◌++◌, IfOk, OnOk};
 ghost use Rattle.std.specs.String.{string_bytes};
-ghost use Rattle.ir_explore.specs.Lines.{outcome_line, outcome_thread_line, outcome_thread_text, outcome_object_line, end_pair, code_of, stop_words, covered_text, hang_line, outcome_found_line, counts_text, ended_text, hangs_text, clock_text, search_line};
+ghost use Rattle.ir_explore.specs.Lines.{outcome_line, outcome_thread_line, outcome_thread_text, outcome_object_line, end_pair};
+ghost use Rattle.ir_explore.specs.Lines.{end_code_of, stop_words, covered_text, hang_line, outcome_found_line, counts_text, ended_text};
+ghost use Rattle.ir_explore.specs.Lines.{hangs_text, clock_text, search_line};
 
 use crate::bytes::{put_bytes, put_words};
 use ir_search::{Ended, Stop};
@@ -58,7 +60,7 @@ fn number_of(ended: Option<End>) -> u8
 
 // The code of an end, 0 where there is none.
 fn code_of(ended: Option<End>) -> u32
-    ensures { result ≡ code_of ended }
+    ensures { result ≡ end_code_of ended }
 {
     match ended {
         None => 0,

@@ -29,8 +29,12 @@ use std::alloc::Global;
 // Prints that a search didn't begin, and why.
 fn show_stop<O: Sink>(alloc: Global, why: Stop, out: &mut O) -> Result<ExitStatus, ExploreFault>
     requires { O.broken out.old ≡ false }
-    ensures ok { IfOk result (λ answered. (guest : Guest) (plan : ExplorePlan) → IsStopReason guest plan why → (text : List ℕ) × IsStopped guest plan answered text × Appends (O.written out.old) (O.written out.new) text) }
-    ensures fails { IfErr result (λ e. (guest : Guest) (plan : ExplorePlan) → IsStopReason guest plan why → StopsPrinting e guest plan (writer_of (O.written out.old) (O.written out.new) (O.broken out.new))) }
+    ensures ok { IfOk result
+        (λ answered. (guest : Guest) (plan : ExplorePlan) → IsStopReason guest plan why
+        → (text : List ℕ) × IsStopped guest plan answered text × Appends (O.written out.old) (O.written out.new) text) }
+    ensures fails { IfErr result
+        (λ e. (guest : Guest) (plan : ExplorePlan) → IsStopReason guest plan why
+        → StopsPrinting e guest plan (writer_of (O.written out.old) (O.written out.new) (O.broken out.new))) }
 {
     let (text, answered) = stopped_text(alloc, why)?;
     write_all(out, text.as_slice())?;
@@ -46,7 +50,8 @@ fn print_ending<O: Sink>(
     requires { O.broken out.old ≡ false }
     ensures ok { IfOk result (λ answered. (text : List ℕ) × IsEnding (known_of explored.now) answered text × Appends (O.written out.old) (O.written out.new) text) }
     ensures fails { IfErr result (λ e. ((e ≡ NoMem) × (out.new ≡ out.old))
-        ⊎ ((e ≡ Write) × (O.broken out.new ≡ true) × (answered : ExitStatus) × (text : List ℕ) × IsEnding (known_of explored.now) answered text × AppendsPrefix (O.written out.old) (O.written out.new) text)) }
+        ⊎ ((e ≡ Write) × (O.broken out.new ≡ true) × (answered : ExitStatus) × (text : List ℕ)
+        × IsEnding (known_of explored.now) answered text × AppendsPrefix (O.written out.old) (O.written out.new) text)) }
 {
     let (text, answered) = ending_text(alloc, explored)?;
     write_all(out, text.as_slice())?;
@@ -105,7 +110,8 @@ fn show_image<W: Observer, O: Sink>(
 
 /// Writes the different outcomes of the guest that these bytes encode, level by level as they are found, each with a list that spells an order
 /// that leads to it, and then how the search for them ended. The exit status is `Done` if all were found that were asked for and no hang is known,
-/// `Hangs` if all were found and some run hangs, and `GaveUp` if the search stopped before. It is `Refused` if the bytes are no image or the guest is too large, and `Failed` if memory ran out outside the
+/// `Hangs` if all were found and some run hangs, and `GaveUp` if the search stopped before. It is `Refused` if the bytes are no image or the guest is
+/// too large, and `Failed` if memory ran out outside the
 /// search or the writer failed: then the fault is reported in one line. The observer is told how far the search is.
 pub fn explore_run<W: Observer, O: Sink, E: Sink>(
     alloc: Global,

@@ -4,7 +4,7 @@ ghost use Rattle.std.specs.Prelude.{◌≡◌, ◌<◌, Some, length, slice_get,
 ghost use Rattle.ir_flat.specs.Flat.{IsFlat};
 
 use ir_outcomes::Shown;
-use ir_store::{SourcedFlat, Store};
+use ir_state_store::{SourcedFlat, Store};
 use std::alloc::AllocError;
 
 /// The state of an outcome.

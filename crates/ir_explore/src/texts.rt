@@ -2,7 +2,7 @@
 
 ghost use Rattle.std.specs.Prelude.{◌≡◌, ℕ, ◌<◌, ◌≤◌, ◌++◌, List, length, Some, slice_get, IfOk};
 ghost use Rattle.std.specs.String.{string_bytes};
-ghost use Rattle.ir_store.specs.Nodes.{SourcedFlat};
+ghost use Rattle.ir_state_store.specs.Nodes.{SourcedFlat};
 ghost use Rattle.ir_outcomes.specs.declared.shown.Shown.{Shown};
 ghost use Rattle.ir_explore.specs.Texts.{AreTexts, IsHangText, end_line, objects_in};
 
@@ -13,7 +13,7 @@ use crate::states::state_of;
 use ir_order::list_of_items;
 use ir_outcomes::Shown;
 use ir_search::Ended;
-use ir_store::Store;
+use ir_state_store::Store;
 use std::alloc::{AllocError, Global};
 
 /// The lines of these outcomes from the one at a place on, up to another.
@@ -29,7 +29,9 @@ pub fn outcomes_text(
     requires until { until ≤ length outcomes.now }
     requires objects { (v : ℕ) (s : SourcedFlat) → slice_get flats.now.items v ≡ Some s → length s.flat.objects ≡ length started.first.now }
     requires nodes { (i : ℕ) (x : Shown) → slice_get outcomes.now i ≡ Some x → x.node < length flats.now.items }
-    ensures { IfOk result (λ text. (before : List ℕ) → AreTexts (objects_in started.entry) flats.now.items outcomes.now from before → AreTexts (objects_in started.entry) flats.now.items outcomes.now until (before ++ text.items)) }
+    ensures { IfOk result
+        (λ text. (before : List ℕ) → AreTexts (objects_in started.entry) flats.now.items outcomes.now from before
+        → AreTexts (objects_in started.entry) flats.now.items outcomes.now until (before ++ text.items)) }
 {
     let mut text = Vec::new(alloc);
     for i in from..until {

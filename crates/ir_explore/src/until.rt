@@ -142,7 +142,9 @@ fn tell_sought<W: Observer, O: Sink>(
     ensures told { IfOk result (λ found. (text : List ℕ) × IsUntil plan.now.image.now plan.now.explore (map as_condition plan.now.conditions.now) (found_bytes found) text
         × Appends (O.written out.old) (O.written out.new) text) }
     ensures works { OnOk result (O.broken out.new ≡ false) }
-    ensures fails { IfErr result (λ e. HasNoAnswer e plan.now.image.now plan.now.explore (map as_condition plan.now.conditions.now) (writer_of (O.written out.old) (O.written out.new) (O.broken out.new))) }
+    ensures fails { IfErr result
+        (λ e. HasNoAnswer e plan.now.image.now plan.now.explore (map as_condition plan.now.conditions.now)
+        (writer_of (O.written out.old) (O.written out.new) (O.broken out.new))) }
 {
     let guest = match guest_of(plan.image, &plan.explore) {
         Ok(guest) => guest,
@@ -180,7 +182,9 @@ where
     requires reports { E.broken faults.old ≡ false }
     // The outcomes up to the first that fulfils each condition were written, and of the run that is told of that one its trace, what its threads
     // printed, and their lines. No fault is reported.
-    ensures found { IfOk result (λ recorded. (text list : List ℕ) × (printed : List (List ℕ)) × IsOutcomeFinding plan.now.image.now plan.now.explore (map as_condition plan.now.conditions.now) list text recorded printed
+    ensures found { IfOk result
+        (λ recorded. (text list : List ℕ) × (printed : List (List ℕ))
+        × IsOutcomeFinding plan.now.image.now plan.now.explore (map as_condition plan.now.conditions.now) list text recorded printed
         × Appends (W.written files.old.trace) (W.written files.new.trace) (encoding recorded)
         × TookEach (output_writer_of (P.taken files.old.outputs) (P.taken files.new.outputs) (P.broken files.new.outputs)) printed
         × Appends (O.written out.old) (O.written out.new) (text ++ recording_lines recorded)) }
@@ -195,7 +199,9 @@ where
         ⊎ ((e : RecordFault) × (status ≡ recorded.fault_status e) × (text list : List ℕ) × (said : O)
         × IsUntil plan.now.image.now plan.now.explore (map as_condition plan.now.conditions.now) (Ok list) text
         × Appends (O.written out.old) (O.written said) text
-        × IsReported e plan.now.image.now (recording plan.now.explore (Some list)) (unwritten_of (W.called files.new.trace) (W.cause files.new.trace)) (unwritten_of (P.called files.new.outputs) (P.cause files.new.outputs))
+        × IsReported e plan.now.image.now (recording plan.now.explore (Some list))
+        (unwritten_of (W.called files.new.trace) (W.cause files.new.trace))
+        (unwritten_of (P.called files.new.outputs) (P.cause files.new.outputs))
         (writer_of (E.written faults.old) (E.written faults.new) (E.broken faults.new))
         × StopsRecord e plan.now.image.now (recording plan.now.explore (Some list))
         (writer_of (W.written files.old.trace) (W.written files.new.trace) (W.broken files.new.trace))

@@ -14,16 +14,16 @@ new_known_has true path (Some ys) bytes p = ap Some p
 new_known_has false path new bytes p = tt
 
 -- a new file that was given these bytes has them, and no others
-pub new_file_has_what_was_given : (knows : Bool) (file : KnownFile) (old : Option (List ℕ)) (bytes : List ℕ) → old ≡ fresh knows → Appends old file.bytes bytes
+pub new_file_has_given : (knows : Bool) (file : KnownFile) (old : Option (List ℕ)) (bytes : List ℕ) → old ≡ fresh knows → Appends old file.bytes bytes
     → Has knows file bytes
-new_file_has_what_was_given knows file old bytes e p = new_known_has knows file.path file.bytes bytes (subst (λ z. Appends z file.bytes bytes) e p)
+new_file_has_given knows file old bytes e p = new_known_has knows file.path file.bytes bytes (subst (λ z. Appends z file.bytes bytes) e p)
 
 -- where there are paths, the file is at the path of the thread
-pub output_is_at_path_of_thread : {P S File : Type 0} (items : P → List S) (text : S → List ℕ) (known : File → ℕ × KnownFile) (all : Option P) (paths : P)
+pub output_has_last : {P S File : Type 0} (items : P → List S) (text : S → List ℕ) (known : File → ℕ × KnownFile) (all : Option P) (paths : P)
     (old new : List File) (file : File) (thread : ℕ) (path : S) → all ≡ Some paths → thread < length (items paths) → path ≡ get_or (items paths) thread path
     → new ≡ old ++ file ∷ [] → (known file).0 ≡ thread → IsAt (known file).1 (text path)
     → IfSome all (λ ps. (p : List ℕ) × (slice_get (map text (items ps)) thread ≡ Some p) × HasLast known old new thread p)
-output_is_at_path_of_thread items text known all paths old new file thread path some short same e t at =
+output_has_last items text known all paths old new file thread path some short same e t at =
     let found : slice_get (items paths) thread ≡ Some path = slice_get-get_or (items paths) thread path short ∙ ap Some (sym same) in
     subst (λ z. IfSome z (λ ps. (p : List ℕ) × (slice_get (map text (items ps)) thread ≡ Some p) × HasLast known old new thread p)) (sym some)
     (text path, slice_get-map text (items paths) thread ∙ ap (option_map text) found, (file, e, t, at))

@@ -31,9 +31,9 @@ Has true file bytes = file.bytes ≡ Some bytes
 Has false file bytes = ⊤
 
 -- the bytes that a file was given, which may not be made yet
-abbrev pub given : {File : Type 0} → Bool → (File → KnownFile) → Option File → Option (List ℕ)
-given knows known None = fresh knows
-given knows known (Some file) = (known file).bytes
+abbrev pub given_bytes : {File : Type 0} → Bool → (File → KnownFile) → Option File → Option (List ℕ)
+given_bytes knows known None = fresh knows
+given_bytes knows known (Some file) = (known file).bytes
 
 -- the path at which a file is made: its place, or the path beside it, if there is one
 abbrev pub path_made : {Z : Type 0} → List ℕ → Option (String Z) → List ℕ

@@ -170,12 +170,21 @@ impl<D: Folder> OutputSink for OutputFiles<'_, D> {
     ghost cause = { λ f. f.why.now };
 
     fn put(&mut self, thread: usize, bytes: &[u8]) -> Result<(), DeviceErr>
-        ensures taken { OnOk result (Gains (outputs_given (D.knows self.old.folder.now) (λ o. (o.thread, D.known_closed o.file)) self.old.paths self.old.each.items) (outputs_given (D.knows self.new.folder.now) (λ o. (o.thread, D.known_closed o.file)) self.new.paths self.new.each.items) ((thread, bytes.now) ∷ [])) }
+        ensures taken { OnOk result
+            (Gains (outputs_given (D.knows self.old.folder.now) (λ o. (o.thread, D.known_closed o.file)) self.old.paths self.old.each.items)
+            (outputs_given (D.knows self.new.folder.now) (λ o. (o.thread, D.known_closed o.file)) self.new.paths self.new.each.items)
+            ((thread, bytes.now) ∷ [])) }
         ensures stays { OnOk result (self.new.failed ≡ self.old.failed) }
-        ensures kept { OnErr result (Gains (outputs_given (D.knows self.old.folder.now) (λ o. (o.thread, D.known_closed o.file)) self.old.paths self.old.each.items) (outputs_given (D.knows self.new.folder.now) (λ o. (o.thread, D.known_closed o.file)) self.new.paths self.new.each.items) []) }
+        ensures kept { OnErr result
+            (Gains (outputs_given (D.knows self.old.folder.now) (λ o. (o.thread, D.known_closed o.file)) self.old.paths self.old.each.items)
+            (outputs_given (D.knows self.new.folder.now) (λ o. (o.thread, D.known_closed o.file)) self.new.paths self.new.each.items)
+            []) }
         ensures err { OnErr result (self.new.failed ≡ true) }
         // This is the file at the path of the thread, if there are paths.
-        ensures put { OnOk result (IfSome self.old.paths (λ paths. (path : List ℕ) × (slice_get (map string_bytes paths.now) thread ≡ Some path) × HasLast (λ o. (o.thread, D.known_closed o.file)) self.old.each.items self.new.each.items thread path)) }
+        ensures put { OnOk result
+            (IfSome self.old.paths
+            (λ paths. (path : List ℕ) × (slice_get (map string_bytes paths.now) thread ≡ Some path)
+            × HasLast (λ o. (o.thread, D.known_closed o.file)) self.old.each.items self.new.each.items thread path)) }
         // They are the same files of the same folder.
         ensures folder { self.new.folder ≡ self.old.folder }
         ensures paths { self.new.paths ≡ self.old.paths }

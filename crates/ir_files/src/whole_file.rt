@@ -3,7 +3,7 @@
 ghost use Rattle.std.specs.Prelude.{◌≡◌, ◌≤◌, ℕ, List, Bool, [], length, take, Ok, IfOk, OnOk, OnErr, IfSome, false, true};
 ghost use Rattle.std.specs.Io.KnownBytes.{Keeps, Appends};
 ghost use Rattle.std.proofs.Props.{props};
-ghost use Rattle.ir_files.specs.Given.{IsAt, fresh, given, is_put, path_made, stands_at};
+ghost use Rattle.ir_files.specs.Given.{IsAt, fresh, given_bytes, is_put, path_made, stands_at};
 
 use crate::files::put;
 use crate::folder::Folder;
@@ -153,7 +153,7 @@ impl<'a, D: Folder> WholeFile<'a, D> {
     pub fn new(alloc: Global, folder: &'a D, place: &'a str) -> WholeFile<'a, D>
         ensures folder { result.folder.now ≡ folder.now }
         ensures place { result.place.now ≡ place.now }
-        ensures empty { given (D.knows result.folder.now) (λ m. D.known m.file) result.made ≡ fresh (D.knows folder.now) }
+        ensures empty { given_bytes (D.knows result.folder.now) (λ m. D.known m.file) result.made ≡ fresh (D.knows folder.now) }
         ensures works { result.failed ≡ false }
         ensures whole { result.whole ≡ false }
     {
@@ -193,7 +193,7 @@ impl<'a, D: Folder> WholeFile<'a, D> {
     fn make(&mut self) -> Result<(), DeviceErr>
         ensures folder { self.new.folder ≡ self.old.folder }
         ensures place { self.new.place ≡ self.old.place }
-        ensures kept { given (D.knows self.new.folder.now) (λ m. D.known m.file) self.new.made ≡ given (D.knows self.old.folder.now) (λ m. D.known m.file) self.old.made }
+        ensures kept { given_bytes (D.knows self.new.folder.now) (λ m. D.known m.file) self.new.made ≡ given_bytes (D.knows self.old.folder.now) (λ m. D.known m.file) self.old.made }
         ensures stays { OnOk result (self.new.failed ≡ self.old.failed) }
         ensures err { OnErr result (self.new.failed ≡ true) }
     {
@@ -208,16 +208,20 @@ impl<'a, D: Folder> WholeFile<'a, D> {
 }
 
 impl<D: Folder> Sink for WholeFile<'_, D> {
-    ghost written = { λ f. given (D.knows f.folder.now) (λ m. D.known m.file) f.made };
+    ghost written = { λ f. given_bytes (D.knows f.folder.now) (λ m. D.known m.file) f.made };
 
     ghost broken = { λ f. f.failed };
 
     fn write(&mut self, bytes: &[u8]) -> Result<usize, DeviceErr>
         ensures count { IfOk result (λ n. n ≤ length bytes.now) }
         ensures some { result ≡ Ok 0 → bytes.now ≡ [] }
-        ensures bytes { IfOk result (λ n. Appends (given (D.knows self.old.folder.now) (λ m. D.known m.file) self.old.made) (given (D.knows self.new.folder.now) (λ m. D.known m.file) self.new.made) (take n bytes.now)) }
+        ensures bytes { IfOk result
+            (λ n. Appends (given_bytes (D.knows self.old.folder.now) (λ m. D.known m.file) self.old.made)
+            (given_bytes (D.knows self.new.folder.now) (λ m. D.known m.file) self.new.made) (take n bytes.now)) }
         ensures stays { OnOk result (self.new.failed ≡ self.old.failed) }
-        ensures kept { OnErr result (Keeps (given (D.knows self.old.folder.now) (λ m. D.known m.file) self.old.made) (given (D.knows self.new.folder.now) (λ m. D.known m.file) self.new.made)) }
+        ensures kept { OnErr result
+            (Keeps (given_bytes (D.knows self.old.folder.now) (λ m. D.known m.file) self.old.made)
+            (given_bytes (D.knows self.new.folder.now) (λ m. D.known m.file) self.new.made)) }
         ensures err { OnErr result (self.new.failed ≡ true) }
         // It is the file of the same place.
         ensures folder { self.new.folder ≡ self.old.folder }
@@ -247,7 +251,7 @@ impl<D: Folder> WholeSink for WholeFile<'_, D> {
     ghost cause = { λ f. f.why.now };
 
     fn finish(&mut self) -> Result<(), DeviceErr>
-        ensures kept { given (D.knows self.new.folder.now) (λ m. D.known m.file) self.new.made ≡ given (D.knows self.old.folder.now) (λ m. D.known m.file) self.old.made }
+        ensures kept { given_bytes (D.knows self.new.folder.now) (λ m. D.known m.file) self.new.made ≡ given_bytes (D.knows self.old.folder.now) (λ m. D.known m.file) self.old.made }
         ensures whole { OnOk result (self.new.whole ≡ true) }
         // The file that was given the bytes is at its place: it was made there, or put there.
         ensures put { OnOk result (is_put (D.was_put self.old.folder.now) (λ m. D.known m.file) self.new.made self.old.place.now ≡ true) }

@@ -11,17 +11,17 @@ use Rattle.ir_fit.specs.Fit.{HasHeader}
 pub use Rattle.ir_fit.specs.Placed.{guest_start_is_start}
 use Rattle.ir_thread.specs.declared.profile.Profile.{Profile}
 
-start_thread_has_not_ended : (g : Guest) (budget : ℕ) (profile : Profile) (from n t : ℕ) → t < n → (get_or (start_threads g budget profile from n) t idle).ended ≡ None
-start_thread_has_not_ended g budget profile from zero t l = absurd (omega arith)
-start_thread_has_not_ended g budget profile from (suc n) zero l = refl
-start_thread_has_not_ended g budget profile from (suc n) (suc t) l = start_thread_has_not_ended g budget profile (suc from) n t (omega arith)
+start_has_not_ended : (g : Guest) (budget : ℕ) (profile : Profile) (from n t : ℕ) → t < n → (get_or (start_threads g budget profile from n) t idle).ended ≡ None
+start_has_not_ended g budget profile from zero t l = absurd (omega arith)
+start_has_not_ended g budget profile from (suc n) zero l = refl
+start_has_not_ended g budget profile from (suc n) (suc t) l = start_has_not_ended g budget profile (suc from) n t (omega arith)
 
 pub guest_start_is_live : (g : Guest) (budget : ℕ) (profile : Profile) → IsLive (thread_machine g.code) (tables (start_flat g budget profile)) (length g.entries)
-guest_start_is_live g budget profile t l = ap (option_map (λ e. (end_number e, end_code e))) (start_thread_has_not_ended g budget profile 0 (length g.entries) t l)
+guest_start_is_live g budget profile t l = ap (option_map (λ e. (end_number e, end_code e))) (start_has_not_ended g budget profile 0 (length g.entries) t l)
 
 -- a guest whose header a trace has is allowed by the trace's profile
-pub guest_with_header_is_allowed : (g : Guest) (r : Recorded) → IsRecorded r → HasHeader g r → IsAllowed r.profile g
-guest_with_header_is_allowed g r fits header =
+pub header_guest_is_allowed : (g : Guest) (r : Recorded) → IsRecorded r → HasHeader g r → IsAllowed r.profile g
+header_guest_is_allowed g r fits header =
     let threads = header.threads in let objects = header.objects in
     let few = fits.few_threads in let less = fits.few_objects in
     (omega (arith, threads, few), omega (arith, objects, less))

@@ -32,13 +32,13 @@ copied_state_is_passed guest r f g s same threads objects flat along =
     }
 
 -- one more state, if there is memory for it
-pub passed_states_with_one_added : (guest : Guest) (r : Recorded) (ss new : List PassedState) (s : PassedState) (b : Bool) → ArePassed guest r ss
+pub passed_states_push : (guest : Guest) (r : Recorded) (ss new : List PassedState) (s : PassedState) (b : Bool) → ArePassed guest r ss
     → IsPassed guest r s → new ≡ (if b then ss ++ s ∷ [] else ss) → ArePassed guest r new
-passed_states_with_one_added guest r ss new s true all one is = subst (ArePassed guest r) (sym is) (All-push (IsPassed guest r) ss s all one)
-passed_states_with_one_added guest r ss new s false all one is = subst (ArePassed guest r) (sym is) all
+passed_states_push guest r ss new s true all one is = subst (ArePassed guest r) (sym is) (All-push (IsPassed guest r) ss s all one)
+passed_states_push guest r ss new s false all one is = subst (ArePassed guest r) (sym is) all
 
 -- what holds where the run is, for the same trace, threads and objects
-pub passed_states_if_trace_and_state_equal : (guest : Guest) (r q : Recorded) (f g : Flat) (ss new : List PassedState) → q ≡ r → g ≡ f
+pub passed_states_equal : (guest : Guest) (r q : Recorded) (f g : Flat) (ss new : List PassedState) → q ≡ r → g ≡ f
     → (IsAlong guest q g → ArePassed guest q ss → ArePassed guest q new) → IsAlong guest r f → ArePassed guest r ss → ArePassed guest r new
-passed_states_if_trace_and_state_equal guest r q f g ss new same is passes = subst (λ (z : Recorded × Flat). IsAlong guest z.0 z.1 → ArePassed guest z.0 ss → ArePassed guest z.0 new)
+passed_states_equal guest r q f g ss new same is passes = subst (λ (z : Recorded × Flat). IsAlong guest z.0 z.1 → ArePassed guest z.0 ss → ArePassed guest z.0 new)
     (λ i. (same i, is i)) passes

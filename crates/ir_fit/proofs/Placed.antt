@@ -12,7 +12,7 @@ use Rattle.ir_thread.specs.declared.ask.Ask.TheVariants.{Private, Env, Enter, Tr
 use Rattle.ir_thread.specs.declared.ask.Reply.{Reply}
 use Rattle.ir_thread.specs.declared.ask.Reply.TheVariants.{Go, Value}
 use Rattle.ir_runs.specs.Machine.{act_of, target, Admits, Label, Quiet, Answer, EnteredAt, FailedTry, LeftAt}
-use Rattle.ir_thread.proofs.CallerLemmas.{held_count_after_leave, held_is_unchanged_by_other_try_answer}
+use Rattle.ir_thread.proofs.CallerLemmas.{held_count_after_leave, other_answer_keeps_held}
 use Rattle.ir_flat.specs.Flat.{Flat, thread_of, tables, machine}
 use Rattle.ir_fit.proofs.Seen.{label_of_step}
 use Rattle.ir_runs.specs.Run.{join_if}
@@ -20,19 +20,19 @@ use Rattle.ir_fit.specs.Placed.{place_if, places_from, leave_if, leaves_from}
 use Rattle.ir_fit.specs.Growing.{Growing, placed_by}
 use Rattle.ir_fit.specs.declared.leave.Leave.{Leave}
 
-conditional_cons_place_if_of_append : (k : Label) (i : ℕ) (ps qs : List ℕ) → place_if k i (ps ++ qs) ≡ place_if k i ps ++ qs
-conditional_cons_place_if_of_append Quiet i ps qs = refl
-conditional_cons_place_if_of_append (Answer a v) i ps qs = refl
-conditional_cons_place_if_of_append (EnteredAt o a v l) i ps qs = refl
-conditional_cons_place_if_of_append (FailedTry o) i ps qs = refl
-conditional_cons_place_if_of_append (LeftAt o a v) i ps qs = refl
+place_if-append : (k : Label) (i : ℕ) (ps qs : List ℕ) → place_if k i (ps ++ qs) ≡ place_if k i ps ++ qs
+place_if-append Quiet i ps qs = refl
+place_if-append (Answer a v) i ps qs = refl
+place_if-append (EnteredAt o a v l) i ps qs = refl
+place_if-append (FailedTry o) i ps qs = refl
+place_if-append (LeftAt o a v) i ps qs = refl
 
-conditional_cons_leave_if_of_append : (k : Label) (i : ℕ) (ps qs : List Leave) → leave_if k i (ps ++ qs) ≡ leave_if k i ps ++ qs
-conditional_cons_leave_if_of_append Quiet i ps qs = refl
-conditional_cons_leave_if_of_append (Answer a v) i ps qs = refl
-conditional_cons_leave_if_of_append (EnteredAt o a v l) i ps qs = refl
-conditional_cons_leave_if_of_append (FailedTry o) i ps qs = refl
-conditional_cons_leave_if_of_append (LeftAt o a v) i ps qs = refl
+leave_if-append : (k : Label) (i : ℕ) (ps qs : List Leave) → leave_if k i (ps ++ qs) ≡ leave_if k i ps ++ qs
+leave_if-append Quiet i ps qs = refl
+leave_if-append (Answer a v) i ps qs = refl
+leave_if-append (EnteredAt o a v l) i ps qs = refl
+leave_if-append (FailedTry o) i ps qs = refl
+leave_if-append (LeftAt o a v) i ps qs = refl
 
 pub places_from_of_append : {T : Type 0} (i : ℕ) (xs ys : List (T × Label))
     → places_from i (xs ++ ys) ≡ places_from i xs ++ places_from (i + length xs) ys
@@ -40,7 +40,7 @@ places_from_of_append i [] ys = ap (λ (k : ℕ). places_from k ys) (let e : i �
 places_from_of_append i (x ∷ xs) ys =
     ap (place_if x.1 i) (places_from_of_append (suc i) xs ys
     ∙ ap (λ (k : ℕ). places_from (suc i) xs ++ places_from k ys) (let e : suc i + length xs ≡ i + suc (length xs) = omega arith in e))
-    ∙ conditional_cons_place_if_of_append x.1 i (places_from (suc i) xs) (places_from (i + suc (length xs)) ys)
+    ∙ place_if-append x.1 i (places_from (suc i) xs) (places_from (i + suc (length xs)) ys)
 
 pub leaves_from_of_append : {T : Type 0} (i : ℕ) (xs ys : List (T × Label))
     → leaves_from i (xs ++ ys) ≡ leaves_from i xs ++ leaves_from (i + length xs) ys
@@ -48,20 +48,20 @@ leaves_from_of_append i [] ys = ap (λ (k : ℕ). leaves_from k ys) (let e : i �
 leaves_from_of_append i (x ∷ xs) ys =
     ap (leave_if x.1 i) (leaves_from_of_append (suc i) xs ys
     ∙ ap (λ (k : ℕ). leaves_from (suc i) xs ++ leaves_from k ys) (let e : suc i + length xs ≡ i + suc (length xs) = omega arith in e))
-    ∙ conditional_cons_leave_if_of_append x.1 i (leaves_from (suc i) xs) (leaves_from (i + suc (length xs)) ys)
+    ∙ leave_if-append x.1 i (leaves_from (suc i) xs) (leaves_from (i + suc (length xs)) ys)
 
 -- steps that emit nothing
 abbrev pub AllQuiet : {T : Type 0} → List (T × Label) → Type 0
 AllQuiet [] = Unit {0}
 AllQuiet (x ∷ xs) = (x.1 ≡ Quiet) × AllQuiet xs
 
-pub places_of_quiet_steps_are_empty : {T : Type 0} (i : ℕ) (xs : List (T × Label)) → AllQuiet xs → places_from i xs ≡ []
-places_of_quiet_steps_are_empty i [] h = refl
-places_of_quiet_steps_are_empty i (x ∷ xs) h = ap (λ k. place_if k i (places_from (suc i) xs)) h.0 ∙ places_of_quiet_steps_are_empty (suc i) xs h.1
+pub quiet_steps_no_places : {T : Type 0} (i : ℕ) (xs : List (T × Label)) → AllQuiet xs → places_from i xs ≡ []
+quiet_steps_no_places i [] h = refl
+quiet_steps_no_places i (x ∷ xs) h = ap (λ k. place_if k i (places_from (suc i) xs)) h.0 ∙ quiet_steps_no_places (suc i) xs h.1
 
-pub leaves_of_quiet_steps_are_empty : {T : Type 0} (i : ℕ) (xs : List (T × Label)) → AllQuiet xs → leaves_from i xs ≡ []
-leaves_of_quiet_steps_are_empty i [] h = refl
-leaves_of_quiet_steps_are_empty i (x ∷ xs) h = ap (λ k. leave_if k i (leaves_from (suc i) xs)) h.0 ∙ leaves_of_quiet_steps_are_empty (suc i) xs h.1
+pub quiet_steps_no_leaves : {T : Type 0} (i : ℕ) (xs : List (T × Label)) → AllQuiet xs → leaves_from i xs ≡ []
+quiet_steps_no_leaves i [] h = refl
+quiet_steps_no_leaves i (x ∷ xs) h = ap (λ k. leave_if k i (leaves_from (suc i) xs)) h.0 ∙ quiet_steps_no_leaves (suc i) xs h.1
 
 pub join_if_is_quiet : {T : Type 0} (b : Bool) (x : T × Label) (xs : List (T × Label)) → x.1 ≡ Quiet → AllQuiet xs → AllQuiet (join_if b x xs)
 join_if_is_quiet true x xs h rest = (h, rest)
@@ -116,41 +116,41 @@ room_after_placed_by f t p Done = refl
 
 -- ---- how many there are
 
-pub entries_count_events_after_placed : (code : List ℕ) (f : Flat) (t : ℕ) (p : Growing) (x : thread.ThreadState) (q : Ask) (r : Reply) → length p.entries ≡ x.events
+pub placed_count_events : (code : List ℕ) (f : Flat) (t : ℕ) (p : Growing) (x : thread.ThreadState) (q : Ask) (r : Reply) → length p.entries ≡ x.events
     → length (placed_by f t p q).entries ≡ (after_ask code x q r).events
-entries_count_events_after_placed code f t p x Private r h = h
-entries_count_events_after_placed code f t p x (Env kind) r h = let n = length_of_append_item p.entries (thread_of f t).steps in omega (arith, n, h)
-entries_count_events_after_placed code f t p x (Enter o a) r h = let n = length_of_append_item p.entries (thread_of f t).steps in omega (arith, n, h)
-entries_count_events_after_placed code f t p x (Try o) r h = let n = length_of_append_item p.entries (thread_of f t).steps in omega (arith, n, h)
-entries_count_events_after_placed code f t p x (Leaves o a) r h = h
-entries_count_events_after_placed code f t p x (Get o i) r h = h
-entries_count_events_after_placed code f t p x (Put o i w) r h = h
-entries_count_events_after_placed code f t p x Print r h = h
-entries_count_events_after_placed code f t p x (End e) r h = h
-entries_count_events_after_placed code f t p x Done r h = h
+placed_count_events code f t p x Private r h = h
+placed_count_events code f t p x (Env kind) r h = let n = length_of_append_item p.entries (thread_of f t).steps in omega (arith, n, h)
+placed_count_events code f t p x (Enter o a) r h = let n = length_of_append_item p.entries (thread_of f t).steps in omega (arith, n, h)
+placed_count_events code f t p x (Try o) r h = let n = length_of_append_item p.entries (thread_of f t).steps in omega (arith, n, h)
+placed_count_events code f t p x (Leaves o a) r h = h
+placed_count_events code f t p x (Get o i) r h = h
+placed_count_events code f t p x (Put o i w) r h = h
+placed_count_events code f t p x Print r h = h
+placed_count_events code f t p x (End e) r h = h
+placed_count_events code f t p x Done r h = h
 
-held_count_after_set_some_is_at_most_one_more : (held : List (Option Access)) (o : ℕ) (a : Access) → o < length held → held_count (set held o (Some a)) ≤ held_count held + 1
-held_count_after_set_some_is_at_most_one_more held o a l = let sums = sum_by-set one_if_held held o (Some a) None l in omega (arith, sums)
+held_count_set_some : (held : List (Option Access)) (o : ℕ) (a : Access) → o < length held → held_count (set held o (Some a)) ≤ held_count held + 1
+held_count_set_some held o a l = let sums = sum_by-set one_if_held held o (Some a) None l in omega (arith, sums)
 
 some_is_not_none : (x : Option Access) (a : Access) → x ≡ Some a → x ≡ None → ⊥
 some_is_not_none x a e n = cc (e, n)
 
-pub leaves_within_events_after_placed : (code : List ℕ) (f : Flat) (t : ℕ) (p : Growing) (x : thread.ThreadState) (q : Ask) (r : Reply) → Permits x q
+pub placed_leaves_in_events : (code : List ℕ) (f : Flat) (t : ℕ) (p : Growing) (x : thread.ThreadState) (q : Ask) (r : Reply) → Permits x q
     → length p.leaves + held_count x.held ≤ x.events
     → length (placed_by f t p q).leaves + held_count (after_ask code x q r).held ≤ (after_ask code x q r).events
-leaves_within_events_after_placed code f t p x Private r k h = h
-leaves_within_events_after_placed code f t p x (Env kind) r k h = omega (arith, h)
-leaves_within_events_after_placed code f t p x (Enter o a) r k h = let more = held_count_after_set_some_is_at_most_one_more x.held o a k.2 in omega (arith, h, more)
-leaves_within_events_after_placed code f t p x (Try o) Go k h = omega (arith, h)
-leaves_within_events_after_placed code f t p x (Try o) (Value zero) k h = omega (arith, h)
-leaves_within_events_after_placed code f t p x (Try o) (Value (suc zero)) k h = let more = held_count_after_set_some_is_at_most_one_more x.held o Writing k.2 in omega (arith, h, more)
-leaves_within_events_after_placed code f t p x (Try o) (Value (suc (suc v))) k h = let same = ap held_count (held_is_unchanged_by_other_try_answer x.held o v) in omega (arith, h, same)
-leaves_within_events_after_placed code f t p x (Leaves o a) r k h =
+placed_leaves_in_events code f t p x Private r k h = h
+placed_leaves_in_events code f t p x (Env kind) r k h = omega (arith, h)
+placed_leaves_in_events code f t p x (Enter o a) r k h = let more = held_count_set_some x.held o a k.2 in omega (arith, h, more)
+placed_leaves_in_events code f t p x (Try o) Go k h = omega (arith, h)
+placed_leaves_in_events code f t p x (Try o) (Value zero) k h = omega (arith, h)
+placed_leaves_in_events code f t p x (Try o) (Value (suc zero)) k h = let more = held_count_set_some x.held o Writing k.2 in omega (arith, h, more)
+placed_leaves_in_events code f t p x (Try o) (Value (suc (suc v))) k h = let same = ap held_count (other_answer_keeps_held x.held o v) in omega (arith, h, same)
+placed_leaves_in_events code f t p x (Leaves o a) r k h =
     let less = held_count_after_leave x.held o k.1 (some_is_not_none (held_at x.held o) a k.2) in
     let n : length (placed_by f t p (Leaves o a)).leaves ≡ length p.leaves + 1 = length_of_append_item p.leaves _ in
     omega (arith, h, less, n)
-leaves_within_events_after_placed code f t p x (Get o i) r k h = h
-leaves_within_events_after_placed code f t p x (Put o i w) r k h = h
-leaves_within_events_after_placed code f t p x Print r k h = h
-leaves_within_events_after_placed code f t p x (End e) r k h = h
-leaves_within_events_after_placed code f t p x Done r k h = h
+placed_leaves_in_events code f t p x (Get o i) r k h = h
+placed_leaves_in_events code f t p x (Put o i w) r k h = h
+placed_leaves_in_events code f t p x Print r k h = h
+placed_leaves_in_events code f t p x (End e) r k h = h
+placed_leaves_in_events code f t p x Done r k h = h

@@ -38,8 +38,8 @@ abbrev pub CanFollow : Recorded → Flat → ℕ → ℕ → Type 0
 CanFollow r f t v = StepFollows (machine f) (trace_of r) (tables f) (steps_ahead r f t) (log_ahead r f t) t v
 
 -- thread t has no step now that follows the trace
-abbrev pub IsStopped : Recorded → Flat → ℕ → Type 0
-IsStopped r f t = (v : ℕ) → CanFollow r f t v → ⊥
+abbrev pub IsStoppedAhead : Recorded → Flat → ℕ → Type 0
+IsStoppedAhead r f t = (v : ℕ) → CanFollow r f t v → ⊥
 
 -- the next step of thread t is the trace's
 abbrev pub AgreesAhead : Recorded → Flat → ℕ → Type 0
@@ -86,5 +86,5 @@ pub record IsEntryAhead (r : Recorded) (f : Flat) (t : ℕ) (e : Event) : Type 0
 abbrev pub IsSeen : Recorded → Flat → ℕ → Look → Type 0
 IsSeen r f t Done = ask_of f.code (thread_of f t) ≡ asks.Done
 IsSeen r f t Disagrees = (ask_of f.code (thread_of f t) ≢ asks.Done) × (AgreesAhead r f t → ⊥)
-IsSeen r f t (Waits e) = IsEntryAhead r f t e × AgreesAhead r f t × IsStopped r f t
+IsSeen r f t (Waits e) = IsEntryAhead r f t e × AgreesAhead r f t × IsStoppedAhead r f t
 IsSeen r f t (Goes m) = (m.thread ≡ t) × IsMove r f m

@@ -5,7 +5,7 @@ use Rattle.ir_thread.specs.Permitted.{held_count}
 use Rattle.ir_flat.specs.Flat.{Flat, thread_of, tables, machine, start_flat}
 use Rattle.ir_runs.specs.Run.{Step, end, trail, log, count}
 use Rattle.ir_trace.specs.Recorded.{Recorded, recorded_thread, trace_of}
-use Rattle.ir_fit.specs.Ahead.{steps_ahead, IsStopped}
+use Rattle.ir_fit.specs.Ahead.{steps_ahead, IsStoppedAhead}
 use Rattle.ir_runs.specs.Verdicts.{sum_below, Follows, closing}
 use Rattle.ir_fit.specs.Growing.{Growing, growing_at, places_of, leaves_of}
 use Rattle.ir_runs.specs.Standing.{StandsAs}
@@ -34,7 +34,7 @@ abbrev pub all_ahead : Recorded → Flat → ℕ
 all_ahead r f = sum_below (length f.threads) (steps_ahead r f)
 
 -- g is f after steps that follow the trace, and what is kept of the threads' steps is kept of these too
-pub record GoesOn (r : Recorded) (f : Flat) (ps : List Growing) (g : Flat) (qs : List Growing) : Type 0 where
+pub record FollowerGoesOn (r : Recorded) (f : Flat) (ps : List Growing) (g : Flat) (qs : List Growing) : Type 0 where
   pub follows : (guest : Guest) → IsFollower guest r f ps → IsFollower guest r g qs
   pub threads : length g.threads ≡ length f.threads
   pub objects : length g.objects ≡ length f.objects
@@ -58,7 +58,7 @@ pub record IsSized (f : Follower) : Type 0 where
 -- the guest's threads and objects after a run that follows the trace as far as any can, with what is said of each thread
 pub record IsFollowed (guest : Guest) (r : Recorded) (f : Flat) (ps : List Growing) : Type 0 where
   pub follower : IsFollower guest r f ps
-  pub stopped : (t : ℕ) → t < length guest.entries → IsStopped r f t
+  pub stopped : (t : ℕ) → t < length guest.entries → IsStoppedAhead r f t
   pub stands : (t : ℕ) → t < length guest.entries → (v : ThreadVerdict)
       × StandsAs (machine (start_flat guest r.budget r.profile)) (tables (start_flat guest r.budget r.profile)) (trace_of r) follower.run t v
 

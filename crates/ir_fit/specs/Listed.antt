@@ -7,7 +7,7 @@ use Rattle.ir_runs.specs.declared.access.Access.{Access}
 use Rattle.ir_flat.specs.Flat.{start_flat, tables, machine}
 use Rattle.ir_runs.specs.Run.{join_if, Emits}
 use Rattle.ir_fit.specs.Fit.{FittedTrace, HasRun}
-use Rattle.ir_fit.specs.Placed.{Listing, Visit, picked, listed}
+use Rattle.ir_fit.specs.Placed.{Listing, Visit, picked, listed_events}
 use Rattle.ir_fit.specs.declared.place.Place.{Place}
 use Rattle.ir_fit.specs.declared.leave.Leave.{Leave}
 
@@ -57,8 +57,8 @@ none_listed = record { reading = []; writing = [] }
 
 -- these visits are listed after those that were
 abbrev pub AddsAll : Listing → Listing → List Visit → Type 0
-AddsAll old new vs = (o : ℕ) (a : Access) → listed new o a ≡ listed old o a ++ picked o a vs
+AddsAll old new vs = (o : ℕ) (a : Access) → listed_events new o a ≡ listed_events old o a ++ picked o a vs
 
 -- the leaves of thread t
-abbrev pub left_by : ℕ → List Leave → List Visit
-left_by t ls = map (λ l. (l.object, l.access, record { position = l.position; version = l.version; thread = t })) ls
+abbrev pub left_by_event : ℕ → List Leave → List Visit
+left_by_event t ls = map (λ l. (l.object, l.access, record { position = l.position; version = l.version; thread = t })) ls

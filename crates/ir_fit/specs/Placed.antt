@@ -3,7 +3,7 @@ use Rattle.std.specs.Prelude.{◌≡◌, ◌<◌, ℕ, zero, suc, Bool, true, fa
 use Rattle.std.specs.List.{slice_index_or, range_with_len}
 use Rattle.std.specs.List.Sorted.{IsPermutation, IsNonDecreasingBy}
 use Rattle.std.proofs.Common.{ap, arith}
-use Rattle.ir_thread.proofs.CallerLemmas.{thread_machine_is_lawful}
+use Rattle.ir_thread.proofs.CallerLemmas.{thread_machine_lawful}
 use Rattle.ir_thread.specs.State.{thread_machine}
 use Rattle.ir_runs.specs.Machine.{Label, Quiet, LeftAt}
 use Rattle.ir_runs.specs.Run.{Step, trail, join_if}
@@ -13,9 +13,9 @@ use Rattle.ir_image.specs.Guest.{Guest, object_count}
 use Rattle.ir_thread.specs.declared.profile.Profile.{Profile}
 use Rattle.ir_runs.specs.declared.access.Access.{Access}
 use Rattle.ir_runs.specs.declared.access.Access.TheVariants.{Reading, Writing}
-use Rattle.ir_runs.proofs.CallerLemmas.{state_invariant_at_start, MaximalRun, maximal_run_exists}
+use Rattle.ir_runs.proofs.CallerLemmas.{state_invariant_start, MaximalRun, maximal_run_exists}
 use Rattle.ir_flat.specs.Flat.{start_flat, tables, machine}
-use Rattle.ir_flat.proofs.CallerLemmas.{guest_start_is_idle, start_thread_is_fresh, start_cell_has_zero_fields}
+use Rattle.ir_flat.proofs.CallerLemmas.{guest_start_is_idle, start_thread_is_fresh, start_fields_are_zero}
 use Rattle.ir_log.specs.declared.event.Event.{Event}
 use Rattle.ir_log.specs.declared.event.Event.TheVariants.{Read, Write}
 use Rattle.ir_trace.specs.Recorded.{Recorded, recorded_thread, trace_of}
@@ -61,8 +61,8 @@ MaximalRunOf f = let m = thread_machine f.guest.code in let tr = trace_of f.reco
 -- at the start no object has a version and no thread is inside
 pub guest_start_is_start : (g : Guest) (budget : ℕ) (profile : Profile) → IsStart (thread_machine g.code) (tables (start_flat g budget profile))
 guest_start_is_start g budget profile = record {
-  version = λ o. ap (λ x. x.version) (start_cell_has_zero_fields g 0 (object_count g) o);
-  left = λ o. ap (λ x. x.left) (start_cell_has_zero_fields g 0 (object_count g) o);
+  version = λ o. ap (λ x. x.version) (start_fields_are_zero g 0 (object_count g) o);
+  left = λ o. ap (λ x. x.left) (start_fields_are_zero g 0 (object_count g) o);
   inside = λ o t. (start_thread_is_fresh g budget profile 0 (length g.entries) t).none o;
   held = λ t o. (start_thread_is_fresh g budget profile 0 (length g.entries) t).none o;
 }
@@ -73,8 +73,8 @@ maximal_run_of f =
     let m = thread_machine f.guest.code in
     let s = tables (start_flat f.guest f.recorded.budget f.recorded.profile) in
     let tr = trace_of f.recorded in
-    maximal_run_exists (suc (sum_below (length f.guest.entries) tr.steps)) (length f.guest.entries) m (thread_machine_is_lawful f.guest.code) tr s
-    (state_invariant_at_start m s (guest_start_is_start f.guest f.recorded.budget f.recorded.profile))
+    maximal_run_exists (suc (sum_below (length f.guest.entries) tr.steps)) (length f.guest.entries) m (thread_machine_lawful f.guest.code) tr s
+    (state_invariant_start m s (guest_start_is_start f.guest f.recorded.budget f.recorded.profile))
     (guest_start_is_idle f.guest f.recorded.budget f.recorded.profile) tr.steps tr.logs (omega arith)
 
 -- what is kept of the steps of thread t in a run
@@ -115,8 +115,8 @@ of_threads zero f = []
 of_threads (suc n) f = of_threads n f ++ f n
 
 -- all leaves
-abbrev pub all_left : List Placed → List Visit
-all_left ps = of_threads (length ps) (λ t.
+abbrev pub all_events_left : List Placed → List Visit
+all_events_left ps = of_threads (length ps) (λ t.
     map (λ l. (l.object, l.access, record { position = l.position; version = l.version; thread = t })) (placed_at ps t).leaves)
 
 -- all entries
@@ -145,10 +145,10 @@ lists_for x Reading = x.reading
 lists_for x Writing = x.writing
 
 -- the list for object o and access a; where there is none, no step is of them
-abbrev pub listed : Listing → ℕ → Access → List Place
-listed x o a = slice_index_or (lists_for x a) o []
+abbrev pub listed_events : Listing → ℕ → Access → List Place
+listed_events x o a = slice_index_or (lists_for x a) o []
 
 -- they are listed, in the order of their versions
 pub record IsListing (vs : List Visit) (x : Listing) : Type 0 where
-  pub same : (o : ℕ) (a : Access) → IsPermutation (picked o a vs) (listed x o a)
-  pub sorted : (o : ℕ) (a : Access) → IsNonDecreasingBy (λ (p : Place). p.version) (listed x o a)
+  pub same : (o : ℕ) (a : Access) → IsPermutation (picked o a vs) (listed_events x o a)
+  pub sorted : (o : ℕ) (a : Access) → IsNonDecreasingBy (λ (p : Place). p.version) (listed_events x o a)

@@ -2,7 +2,7 @@
 
 ghost use Rattle.std.specs.Prelude.{◌≡◌, ◌<◌, length, IfOk};
 ghost use Rattle.ir_fit.specs.Fit.{FittedTrace, HasRun};
-ghost use Rattle.ir_fit.specs.Placed.{placed_at, IsListing, all_entered, all_left, placed_of};
+ghost use Rattle.ir_fit.specs.Placed.{placed_at, IsListing, all_entered, all_events_left, placed_of};
 ghost use Rattle.ir_fit.specs.Within.{IsFitted};
 ghost use Rattle.ir_fit.specs.Listed.{OnlyEntries, AllEntries, OnlyLeaves, AllLeaves};
 
@@ -33,7 +33,9 @@ impl Model for Fitted {
 
     ghost view = { λ f. record { guest = f.image; recorded = f.trace } };
 
-    ghost invariant = { λ f. HasRun (record { guest = f.image; recorded = f.trace }) × (f.places.items ≡ placed_of (record { guest = f.image; recorded = f.trace })) × IsListing (all_entered f.trace f.places.items) f.entered × IsListing (all_left f.places.items) f.left };
+    ghost invariant = { λ f. HasRun (record { guest = f.image; recorded = f.trace })
+        × (f.places.items ≡ placed_of (record { guest = f.image; recorded = f.trace }))
+        × IsListing (all_entered f.trace f.places.items) f.entered × IsListing (all_events_left f.places.items) f.left };
 }
 
 impl Fitted {

@@ -1,7 +1,7 @@
 //! Whether a trace is a run's.
 
 ghost use Rattle.std.specs.Prelude.{◌≡◌, ◌≢◌, ◌<◌, ℕ, length, slice_get, Some, true, false, IfOk, OnOk, IfErr};
-ghost use Rattle.ir_fit.specs.Ahead.{IsStopped};
+ghost use Rattle.ir_fit.specs.Ahead.{IsStoppedAhead};
 ghost use Rattle.ir_fit.specs.Fit.{HasRun, IsRefused};
 ghost use Rattle.ir_fit.specs.Follower.{IsFollower, IsSized, AreStanding};
 ghost use Rattle.ir_fit.specs.Passed.{ArePassed};
@@ -29,7 +29,7 @@ impl Follower<'_> {
     // What is said of each thread, by their numbers.
     fn verdicts(&self, alloc: Global) -> Result<Vec<ThreadVerdict>, AllocError>
         requires sized { IsSized self.now }
-        requires stopped { (t : ℕ) → t < length self.now.flat.threads → IsStopped self.now.trace self.now.flat t }
+        requires stopped { (t : ℕ) → t < length self.now.flat.threads → IsStoppedAhead self.now.trace self.now.flat t }
         ensures each { IfOk result (λ vs. length vs.items ≡ length self.now.flat.threads) }
         ensures stand { IfOk result (λ vs. AreStanding self.now.trace self.now.flat self.now.places.items vs.items) }
     {

@@ -3,7 +3,7 @@
 ghost use Rattle.std.specs.Prelude.{◌≡◌, ◌≤◌, ◌<◌, ℕ, [], length, OnOk};
 ghost use Rattle.ir_trace.specs.Recorded.{recorded_thread};
 ghost use Rattle.ir_fit.specs.Placed.{placed_at, enter_if, entered_by};
-ghost use Rattle.ir_fit.specs.Listed.{AddsAll, left_by};
+ghost use Rattle.ir_fit.specs.Listed.{AddsAll, left_by_event};
 
 use crate::leave::Leave;
 use crate::place::Place;
@@ -83,7 +83,7 @@ fn add_leaves(
     thread: u8,
     leaves: &[Leave],
 ) -> Result<(), AllocError>
-    ensures { OnOk result (AddsAll visits.old visits.new (left_by thread leaves.now)) }
+    ensures { OnOk result (AddsAll visits.old visits.new (left_by_event thread leaves.now)) }
 {
     for leave in leaves {
         let place = Place {

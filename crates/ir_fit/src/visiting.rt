@@ -3,7 +3,7 @@
 ghost use Rattle.std.specs.Prelude.{◌≡◌, ◌≤◌, ◌<◌, ℕ, length, IfOk, OnOk};
 ghost use Rattle.std.specs.List.{slice_index_or};
 ghost use Rattle.ir_trace.specs.Recorded.{recorded_thread};
-ghost use Rattle.ir_fit.specs.Placed.{placed_at, IsListing, all_left, all_entered};
+ghost use Rattle.ir_fit.specs.Placed.{placed_at, IsListing, all_events_left, all_entered};
 ghost use Rattle.ir_fit.specs.PartlyListed.{count_of, all_visits, AreListed};
 
 use crate::places::Places;
@@ -153,7 +153,7 @@ pub fn left(
 ) -> Result<Visits, AllocError>
     requires threads { length places.now ≤ length trace.now.threads }
     requires each { (t : ℕ) → t < length places.now → length (recorded_thread trace.now t).events ≤ length (placed_at places.now t).entries }
-    ensures { IfOk result (IsListing (all_left places.now)) }
+    ensures { IfOk result (IsListing (all_events_left places.now)) }
 {
     let run = RunVisits {
         kind: VisitKind::Leaves,

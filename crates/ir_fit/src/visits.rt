@@ -3,7 +3,7 @@
 ghost use Rattle.std.specs.Prelude.{◌≡◌, ◌<◌, [], ◌∷◌, length, OnOk};
 ghost use Rattle.std.specs.List.{Contains};
 ghost use Rattle.std.specs.List.Sorted.{IsNonDecreasingBy};
-ghost use Rattle.ir_fit.specs.Placed.{Listing, lists_for, listed};
+ghost use Rattle.ir_fit.specs.Placed.{Listing, lists_for, listed_events};
 ghost use Rattle.ir_fit.specs.Listed.{AreSame, IsOneMore, AddsAll, none_listed, AreSorted, IsInOrder};
 ghost use Rattle.ir_fit.specs.declared.place.Place.{Place};
 
@@ -150,9 +150,9 @@ impl Visits {
 
     // Those at the version.
     pub fn at(&self, object: u8, access: Access, version: u32) -> &[Place]
-        requires { IsNonDecreasingBy (λ (p : Place). p.version) (listed self.now object access) }
-        ensures emitted { (p : Place) → Contains result.now p → Contains (listed self.now object access) p × (p.version ≡ version) }
-        ensures all { (p : Place) → Contains (listed self.now object access) p → p.version ≡ version → Contains result.now p }
+        requires { IsNonDecreasingBy (λ (p : Place). p.version) (listed_events self.now object access) }
+        ensures emitted { (p : Place) → Contains result.now p → Contains (listed_events self.now object access) p × (p.version ≡ version) }
+        ensures all { (p : Place) → Contains (listed_events self.now object access) p → p.version ≡ version → Contains result.now p }
     {
         let lists = self.lists(access);
         if lists.len() <= object as usize {

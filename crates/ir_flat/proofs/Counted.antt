@@ -23,38 +23,38 @@ pub threads_after_step : (code : List ℕ) (s : State thread.ThreadState) (e : S
 unfolding after after_reply
 threads_after_step code s e = refl
 
-pub thread_that_steps_is_not_done : (code : List ℕ) (s : State thread.ThreadState) (e : Step) → Can (thread_machine code) s e → ask_of code (s.now e.0) ≢ Done
-thread_that_steps_is_not_done code s e can is = subst (λ q. Admits (thread_machine code) (act_of (shared_ask q) e.1)
+pub stepping_thread_not_done : (code : List ℕ) (s : State thread.ThreadState) (e : Step) → Can (thread_machine code) s e → ask_of code (s.now e.0) ≢ Done
+stepping_thread_not_done code s e can is = subst (λ q. Admits (thread_machine code) (act_of (shared_ask q) e.1)
     (s.objects (target (act_of (shared_ask q) e.1)))) is can
 
 -- what asks others for nothing more, is done
-pub ask_is_done_if_shared_ask_is_done : (q : Ask) → shared_ask q ≡ machine.Done → q ≡ Done
-ask_is_done_if_shared_ask_is_done Private e = absurd (cc e)
-ask_is_done_if_shared_ask_is_done (Env k) e = absurd (cc e)
-ask_is_done_if_shared_ask_is_done (Enter o a) e = absurd (cc e)
-ask_is_done_if_shared_ask_is_done (Try o) e = absurd (cc e)
-ask_is_done_if_shared_ask_is_done (Leave o a) e = absurd (cc e)
-ask_is_done_if_shared_ask_is_done (Get o i) e = absurd (cc e)
-ask_is_done_if_shared_ask_is_done (Put o i w) e = absurd (cc e)
-ask_is_done_if_shared_ask_is_done Print e = absurd (cc e)
-ask_is_done_if_shared_ask_is_done (End k) e = absurd (cc e)
-ask_is_done_if_shared_ask_is_done Done e = refl
+pub shared_done_is_done : (q : Ask) → shared_ask q ≡ machine.Done → q ≡ Done
+shared_done_is_done Private e = absurd (cc e)
+shared_done_is_done (Env k) e = absurd (cc e)
+shared_done_is_done (Enter o a) e = absurd (cc e)
+shared_done_is_done (Try o) e = absurd (cc e)
+shared_done_is_done (Leave o a) e = absurd (cc e)
+shared_done_is_done (Get o i) e = absurd (cc e)
+shared_done_is_done (Put o i w) e = absurd (cc e)
+shared_done_is_done Print e = absurd (cc e)
+shared_done_is_done (End k) e = absurd (cc e)
+shared_done_is_done Done e = refl
 
-emitted_length_is_events_added : (code : List ℕ) (q : Ask) (r : ℕ) (b : Object) → Admits (thread_machine code) (act_of (shared_ask q) r) b
+emitted_length_is_added : (code : List ℕ) (q : Ask) (r : ℕ) (b : Object) → Admits (thread_machine code) (act_of (shared_ask q) r) b
     → length (logged (emitted (act_of (shared_ask q) r) b) []) ≡ events_added_by q
-emitted_length_is_events_added code Private r b can = refl
-emitted_length_is_events_added code (Env kind) r b can = refl
-emitted_length_is_events_added code (Enter o Reading) r b can = refl
-emitted_length_is_events_added code (Enter o Writing) r b can = refl
-emitted_length_is_events_added code (Try o) zero b can = refl
-emitted_length_is_events_added code (Try o) (suc zero) b can = refl
-emitted_length_is_events_added code (Try o) (suc (suc r)) b can = absurd can
-emitted_length_is_events_added code (Leave o a) r b can = refl
-emitted_length_is_events_added code (Get o i) r b can = refl
-emitted_length_is_events_added code (Put o i w) r b can = refl
-emitted_length_is_events_added code Print r b can = refl
-emitted_length_is_events_added code (End e) r b can = refl
-emitted_length_is_events_added code Done r b can = refl
+emitted_length_is_added code Private r b can = refl
+emitted_length_is_added code (Env kind) r b can = refl
+emitted_length_is_added code (Enter o Reading) r b can = refl
+emitted_length_is_added code (Enter o Writing) r b can = refl
+emitted_length_is_added code (Try o) zero b can = refl
+emitted_length_is_added code (Try o) (suc zero) b can = refl
+emitted_length_is_added code (Try o) (suc (suc r)) b can = absurd can
+emitted_length_is_added code (Leave o a) r b can = refl
+emitted_length_is_added code (Get o i) r b can = refl
+emitted_length_is_added code (Put o i w) r b can = refl
+emitted_length_is_added code Print r b can = refl
+emitted_length_is_added code (End e) r b can = refl
+emitted_length_is_added code Done r b can = refl
 
 length_of_logged : (k : Label) (xs : List Label) → length (logged k xs) ≡ length (logged k []) + length xs
 length_of_logged Quiet xs = omega arith
@@ -80,9 +80,9 @@ pub record Tallies (code : List ℕ) (s : State thread.ThreadState) (run : List 
   pub events : ((end (thread_machine code) s run).now t).events ≡ (s.now t).events + length (log (thread_machine code) s run t)
   pub steps : ((end (thread_machine code) s run).now t).steps ≡ (s.now t).steps + count (thread_machine code) s run t
 
-tallies_of_cons_own_step : (code : List ℕ) (s : State thread.ThreadState) (e : Step) (run : List Step) → Can (thread_machine code) s e
+tallies_cons_own : (code : List ℕ) (s : State thread.ThreadState) (e : Step) (run : List Step) → Can (thread_machine code) s e
     → Tallies code (after (thread_machine code) s e) run e.0 → Tallies code s (e ∷ run) e.0
-tallies_of_cons_own_step code s e run can k =
+tallies_cons_own code s e run can k =
     let m = thread_machine code in
     let now : (after m s e).now e.0 ≡ moved_thread code s e = ap (λ f. f e.0) (threads_after_step code s e)
     ∙ upd_at_own_place s.now e.0 (moved_thread code s e) in
@@ -91,10 +91,10 @@ tallies_of_cons_own_step code s e run can k =
     let more : ((after m s e).now e.0).events ≡ (s.now e.0).events + events_added_by (ask_of code (s.now e.0)) = ap (λ x. x.events) now
     ∙ events_after_ask code (s.now e.0) (ask_of code (s.now e.0)) _ in
     let one : ((after m s e).now e.0).steps ≡ (s.now e.0).steps + 1 = ap (λ x. x.steps) now
-    ∙ steps_after_ask code (s.now e.0) (ask_of code (s.now e.0)) _ (thread_that_steps_is_not_done code s e can) in
+    ∙ steps_after_ask code (s.now e.0) (ask_of code (s.now e.0)) _ (stepping_thread_not_done code s e can) in
     let size : length (log m s (e ∷ run) e.0) ≡ events_added_by (ask_of code (s.now e.0)) + length (log m (after m s e) run e.0) =
     ap (λ z. length (events z)) trail_is ∙ length_of_logged (label m s e) (events (trail m (after m s e) run e.0))
-    ∙ ap (λ z. z + length (log m (after m s e) run e.0)) (emitted_length_is_events_added code (ask_of code (s.now e.0)) e.1 (s.objects (target (act m s e))) can) in
+    ∙ ap (λ z. z + length (log m (after m s e) run e.0)) (emitted_length_is_added code (ask_of code (s.now e.0)) e.1 (s.objects (target (act m s e))) can) in
     let steps : count m s (e ∷ run) e.0 ≡ suc (count m (after m s e) run e.0) = ap length trail_is in
     record { events = let was = k.events in omega (arith, was, more, size); steps = let was = k.steps in omega (arith, was, one, steps) }
 
@@ -102,7 +102,7 @@ pub tallies_along_run : (code : List ℕ) (s : State thread.ThreadState) (run : 
 tallies_along_run code s [] ok t = record { events = omega arith; steps = omega arith }
 tallies_along_run code s (e ∷ run) ok t = elim (cases_eq t e.0) [
   | inl same ↦ subst (Tallies code s (e ∷ run)) (sym same)
-      (tallies_of_cons_own_step code s e run ok.0 (tallies_along_run code (after (thread_machine code) s e) run ok.1 e.0))
+      (tallies_cons_own code s e run ok.0 (tallies_along_run code (after (thread_machine code) s e) run ok.1 e.0))
   | inr ne ↦
       let m = thread_machine code in
       let k : Tallies code (after m s e) run t = tallies_along_run code (after m s e) run ok.1 t in

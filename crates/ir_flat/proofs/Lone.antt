@@ -7,7 +7,7 @@ use Rattle.ir_runs.specs.Machine.{act_of}
 use Rattle.ir_thread.specs.State as thread
 use Rattle.ir_thread.specs.declared.ask.Ask.{Ask}
 use Rattle.ir_thread.specs.declared.ask.Ask.TheVariants.{Private, Env, Enter, Try, Leave, Get, Put, Print, End, Done}
-use Rattle.ir_thread.proofs.CallerLemmas.{lone_run_of_reply_values_is_after_replies}
+use Rattle.ir_thread.proofs.CallerLemmas.{lone_run_after_replies}
 use Rattle.ir_flat.specs.Splice.{replies_to, AloneIsLone}
 use Rattle.ir_flat.specs.Flat.{MayReply, MayRun, alone_after}
 
@@ -29,11 +29,11 @@ allowed_replies_suit : (code : List ℕ) (x : thread.ThreadState) (vs : List ℕ
 allowed_replies_suit code x [] may = tt
 allowed_replies_suit code x (v ∷ vs) may = (allowed_reply_suits code (ask_of code x) v may.0, allowed_replies_suit code ((thread_machine code).take x v) vs may.1)
 
-after_replies_is_alone_after : (code : List ℕ) (x : thread.ThreadState) (vs : List ℕ)
+replies_are_alone_after : (code : List ℕ) (x : thread.ThreadState) (vs : List ℕ)
     → after_replies code x (replies_to code x vs) ≡ alone_after (thread_machine code) x vs
-after_replies_is_alone_after code x [] = refl
-after_replies_is_alone_after code x (v ∷ vs) = after_replies_is_alone_after code ((thread_machine code).take x v) vs
+replies_are_alone_after code x [] = refl
+replies_are_alone_after code x (v ∷ vs) = replies_are_alone_after code ((thread_machine code).take x v) vs
 
-pub lone_run_of_replies_is_alone_after : AloneIsLone
-lone_run_of_replies_is_alone_after code x vs may = lone_run_of_reply_values_is_after_replies code x (replies_to code x vs) (allowed_replies_suit code x vs may)
-    ∙ ap (λ z. Some (record { thread = z; values = [] })) (after_replies_is_alone_after code x vs)
+pub lone_run_is_alone : AloneIsLone
+lone_run_is_alone code x vs may = lone_run_after_replies code x (replies_to code x vs) (allowed_replies_suit code x vs may)
+    ∙ ap (λ z. Some (record { thread = z; values = [] })) (replies_are_alone_after code x vs)

@@ -6,7 +6,7 @@ use Rattle.std.proofs.lemmas.Bool.{cases_eq}
 use Rattle.ir_image.specs.Guest.{most_object_words}
 use Rattle.ir_thread.specs.Permitted.{Permits}
 use Rattle.ir_thread.specs.State.{held_at, ask_of, after_ask, after_reply, shared_ask, reply_of}
-use Rattle.ir_runs.specs.Machine.{act_of, upd, Left, Stored, Object, target, acted, reply}
+use Rattle.ir_runs.specs.Machine.{act_of, upd, Left, Stored, target, acted, reply}
 use Rattle.ir_thread.specs.State as thread
 use Rattle.ir_runs.specs.declared.access.Access.{Access}
 use Rattle.ir_runs.specs.declared.access.Access.TheVariants.{Reading, Writing}
@@ -15,8 +15,8 @@ use Rattle.ir_thread.specs.declared.ask.Ask.TheVariants.{Private, Env, Enter, Tr
 use Rattle.ir_thread.specs.declared.ask.Reply.TheVariants.{Go, Value}
 use Rattle.ir_object.specs.Cell.{Cell}
 use Rattle.ir_object.specs.Empty.{empty}
-use Rattle.ir_object.specs.Word.{entered, left_by}
-use Rattle.ir_runs.proofs.CallerLemmas.{upd_at_own_place, upd_at_other_place, property_of_upd_by_cases, upd_with_old_value}
+use Rattle.ir_object.specs.Word.{entered_word, left_by}
+use Rattle.ir_runs.proofs.CallerLemmas.{upd_at_own_place, upd_at_other_place, upd_by_cases, upd_with_old_value, objects_equal_by_parts}
 use Rattle.ir_flat.specs.Flat.{Flat, idle, thread_of, cell_of, inside_of, tables, machine, IsFlat}
 use Rattle.ir_flat.specs.Room.{object_with}
 use Rattle.ir_flat.specs.Next.{with_thread, with_object, next, MayStep}
@@ -35,18 +35,18 @@ pub inside_of_with_thread : (f : Flat) (t : ℕ) (y : thread.ThreadState) (o : �
     → inside_of (with_thread f t y) o ≡ upd (inside_of f o) t (held_at y.held o)
 inside_of_with_thread f t y o l =
     ap (λ now u. held_at (now u).held o) (get_or_of_set_is_upd f.threads t y idle l) ∙ fun_ext (λ u.
-    property_of_upd_by_cases (thread_of f) t y u (λ z. held_at z.held o ≡ upd (inside_of f o) t (held_at y.held o) u)
+    upd_by_cases (thread_of f) t y u (λ z. held_at z.held o ≡ upd (inside_of f o) t (held_at y.held o) u)
     (λ e. sym (ap (upd (inside_of f o) t (held_at y.held o)) e ∙ upd_at_own_place (inside_of f o) t (held_at y.held o)))
     (λ ne. sym (upd_at_other_place (inside_of f o) t u (held_at y.held o) ne)))
 
 -- states with the same tables
-pub states_equal_if_parts_equal : (a b : State thread.ThreadState) → a.now ≡ b.now → a.objects ≡ b.objects → a ≡ b
-states_equal_if_parts_equal a b p q = λ i. record { now = p i; objects = q i }
+pub states_equal_from_parts : (a b : State thread.ThreadState) → a.now ≡ b.now → a.objects ≡ b.objects → a ≡ b
+states_equal_from_parts a b p q = λ i. record { now = p i; objects = q i }
 
 -- a thread that holds what it held changes no object
 pub tables_of_with_thread : (f : Flat) (t : ℕ) (y : thread.ThreadState) → t < length f.threads → y.held ≡ (thread_of f t).held
     → tables (with_thread f t y) ≡ record { now = upd (thread_of f) t y; objects = (tables f).objects }
-tables_of_with_thread f t y l same = states_equal_if_parts_equal (tables (with_thread f t y)) (record { now = upd (thread_of f) t y; objects = (tables f).objects })
+tables_of_with_thread f t y l same = states_equal_from_parts (tables (with_thread f t y)) (record { now = upd (thread_of f) t y; objects = (tables f).objects })
     (get_or_of_set_is_upd f.threads t y idle l)
     (fun_ext (λ o. ap (object_with (cell_of f o))
     (inside_of_with_thread f t y o l ∙ upd_with_old_value (inside_of f o) t (held_at y.held o) (ap (λ h. held_at h o) (sym same)))))
@@ -56,14 +56,14 @@ pub tables_of_with_object : (f : Flat) (t : ℕ) (y : thread.ThreadState) (o : �
     → ((i : ℕ) → i ≢ o → held_at y.held i ≡ held_at (thread_of f t).held i)
     → tables (with_object (with_thread f t y) o c) ≡
     record { now = upd (thread_of f) t y; objects = upd (tables f).objects o (object_with c (upd (inside_of f o) t (held_at y.held o))) }
-tables_of_with_object f t y o c l k same = states_equal_if_parts_equal (tables (with_object (with_thread f t y) o c))
+tables_of_with_object f t y o c l k same = states_equal_from_parts (tables (with_object (with_thread f t y) o c))
     (record { now = upd (thread_of f) t y; objects = upd (tables f).objects o (object_with c (upd (inside_of f o) t (held_at y.held o))) })
     (get_or_of_set_is_upd f.threads t y idle l)
     (fun_ext (λ i.
     let b : ℕ → Cell = λ j. cell_of f j in
     ap (λ z. object_with z (inside_of (with_thread f t y) i)) (ap (λ table. table i) (get_or_of_set_is_upd f.objects o c empty k))
     ∙ ap (object_with (upd b o c i)) (inside_of_with_thread f t y i l)
-    ∙ property_of_upd_by_cases (tables f).objects o (object_with c (upd (inside_of f o) t (held_at y.held o))) i
+    ∙ upd_by_cases (tables f).objects o (object_with c (upd (inside_of f o) t (held_at y.held o))) i
     (λ z. object_with (upd b o c i) (upd (inside_of f i) t (held_at y.held i)) ≡ z)
     (λ e. subst (λ j. object_with (upd b o c j) (upd (inside_of f j) t (held_at y.held j)) ≡ object_with c
     (upd (inside_of f o) t (held_at y.held o))) (sym e)
@@ -87,59 +87,56 @@ pub moved_by_is_after : (f : Flat) (t r : ℕ) (q : Ask) → ask_of f.code (thre
 unfolding after after_reply
 moved_by_is_after f t r q is = ap (moved_by f t r) (sym is)
 
-objects_equal_if_parts_equal : (b c : Object) → b.version ≡ c.version → b.left ≡ c.left → b.inside ≡ c.inside → b.words ≡ c.words → b ≡ c
-objects_equal_if_parts_equal b c p q g h = λ i. record { version = p i; left = q i; inside = g i; words = h i }
-
 -- what doesn't touch an object
-tables_of_with_thread_as_trivial_object_upd : (f : Flat) (t : ℕ) (y : thread.ThreadState) (o : ℕ) → t < length f.threads → y.held ≡ (thread_of f t).held
+tables_with_thread_upd : (f : Flat) (t : ℕ) (y : thread.ThreadState) (o : ℕ) → t < length f.threads → y.held ≡ (thread_of f t).held
     → tables (with_thread f t y) ≡ record { now = upd (thread_of f) t y; objects = upd (tables f).objects o ((tables f).objects o) }
-tables_of_with_thread_as_trivial_object_upd f t y o l same = tables_of_with_thread f t y l same ∙ ap (λ z. record { now = upd (thread_of f) t y; objects = z })
+tables_with_thread_upd f t y o l same = tables_of_with_thread f t y l same ∙ ap (λ z. record { now = upd (thread_of f) t y; objects = z })
     (sym (upd_with_old_value (tables f).objects o ((tables f).objects o) refl))
 
-pub held_at_other_place_after_set : (held : List (Option Access)) (o : ℕ) (x : Option Access) (i : ℕ) → i ≢ o → held_at (set held o x) i ≡ held_at held i
-held_at_other_place_after_set held o x i ne = get_or-set_other held o i x None ne
+pub held_at_set_other : (held : List (Option Access)) (o : ℕ) (x : Option Access) (i : ℕ) → i ≢ o → held_at (set held o x) i ≡ held_at held i
+held_at_set_other held o x i ne = get_or-set_other held o i x None ne
 
-length_of_cell_words_is_most_object_words : (f : Flat) (o : ℕ) → IsFlat f → o < length f.objects → length (cell_of f o).words ≡ most_object_words
-length_of_cell_words_is_most_object_words f o flat l = (flat.objects o l).words
+length-cell_words : (f : Flat) (o : ℕ) → IsFlat f → o < length f.objects → length (cell_of f o).words ≡ most_object_words
+length-cell_words f o flat l = (flat.objects o l).words
 
 -- an object that thread t has entered
-object_with_entered_fields_has_thread_inside : (a : Access) (c : Cell) (g : ℕ → Option Access) (t : ℕ) {h : Option Access} → h ≡ Some a
-    → object_with (record c { fields = entered a c.fields }) (upd g t h) ≡ record (object_with c g) { inside = upd g t (Some a) }
-object_with_entered_fields_has_thread_inside Reading c g t e = ap (λ z. object_with c (upd g t z)) e
-object_with_entered_fields_has_thread_inside Writing c g t e = ap (λ z. object_with c (upd g t z)) e
+entered_has_inside : (a : Access) (c : Cell) (g : ℕ → Option Access) (t : ℕ) {h : Option Access} → h ≡ Some a
+    → object_with (record c { fields = entered_word a c.fields }) (upd g t h) ≡ record (object_with c g) { inside = upd g t (Some a) }
+entered_has_inside Reading c g t e = ap (λ z. object_with c (upd g t z)) e
+entered_has_inside Writing c g t e = ap (λ z. object_with c (upd g t z)) e
 
 -- the lists after a step are the tables after it
-pub tables_of_next_are_moved_by : (f : Flat) (t r : ℕ) (q : Ask) → IsFlat f → t < length f.threads → Permits (thread_of f t) q → MayStep f r q
+pub tables_of_next_moved : (f : Flat) (t r : ℕ) (q : Ask) → IsFlat f → t < length f.threads → Permits (thread_of f t) q → MayStep f r q
     → tables (next f t r q) ≡ moved_by f t r q
-tables_of_next_are_moved_by f t r Private flat l p may = tables_of_with_thread_as_trivial_object_upd f t _ 0 l refl
-tables_of_next_are_moved_by f t r (Env kind) flat l p may = tables_of_with_thread_as_trivial_object_upd f t _ 0 l refl
-tables_of_next_are_moved_by f t r Print flat l p may = tables_of_with_thread_as_trivial_object_upd f t _ 0 l refl
-tables_of_next_are_moved_by f t r (End e) flat l p may = tables_of_with_thread_as_trivial_object_upd f t _ 0 l refl
-tables_of_next_are_moved_by f t r Done flat l p may = absurd may
-tables_of_next_are_moved_by f t r (Get o i) flat l p may = tables_of_with_thread_as_trivial_object_upd f t _ o l refl
-tables_of_next_are_moved_by f t zero (Try o) flat l p may = tables_of_with_thread_as_trivial_object_upd f t _ 0 l refl
-tables_of_next_are_moved_by f t (suc (suc r)) (Try o) flat l p may = absurd may
-tables_of_next_are_moved_by f t r (Enter o a) flat l p may =
+tables_of_next_moved f t r Private flat l p may = tables_with_thread_upd f t _ 0 l refl
+tables_of_next_moved f t r (Env kind) flat l p may = tables_with_thread_upd f t _ 0 l refl
+tables_of_next_moved f t r Print flat l p may = tables_with_thread_upd f t _ 0 l refl
+tables_of_next_moved f t r (End e) flat l p may = tables_with_thread_upd f t _ 0 l refl
+tables_of_next_moved f t r Done flat l p may = absurd may
+tables_of_next_moved f t r (Get o i) flat l p may = tables_with_thread_upd f t _ o l refl
+tables_of_next_moved f t zero (Try o) flat l p may = tables_with_thread_upd f t _ 0 l refl
+tables_of_next_moved f t (suc (suc r)) (Try o) flat l p may = absurd may
+tables_of_next_moved f t r (Enter o a) flat l p may =
     let k : o < length f.objects = omega (arith, p.2, flat.places t l) in
-    tables_of_with_object f t _ o _ l k (held_at_other_place_after_set (thread_of f t).held o (Some a))
+    tables_of_with_object f t _ o _ l k (held_at_set_other (thread_of f t).held o (Some a))
     ∙ ap (λ z. record {
       now = upd (thread_of f) t (after_ask f.code (thread_of f t) (Enter o a) Go);
       objects =
           upd (tables f).objects o z;
     })
-    (object_with_entered_fields_has_thread_inside a (cell_of f o) (inside_of f o) t (get_or-set_same (thread_of f t).held o (Some a) None p.2))
-tables_of_next_are_moved_by f t (suc zero) (Try o) flat l p may =
+    (entered_has_inside a (cell_of f o) (inside_of f o) t (get_or-set_same (thread_of f t).held o (Some a) None p.2))
+tables_of_next_moved f t (suc zero) (Try o) flat l p may =
     let k : o < length f.objects = omega (arith, p.2, flat.places t l) in
-    tables_of_with_object f t _ o _ l k (held_at_other_place_after_set (thread_of f t).held o (Some Writing))
+    tables_of_with_object f t _ o _ l k (held_at_set_other (thread_of f t).held o (Some Writing))
     ∙ ap (λ z. record {
       now = upd (thread_of f) t (after_ask f.code (thread_of f t) (Try o) (Value 1));
       objects =
           upd (tables f).objects o z;
     })
-    (object_with_entered_fields_has_thread_inside Writing (cell_of f o) (inside_of f o) t (get_or-set_same (thread_of f t).held o (Some Writing) None p.2))
-tables_of_next_are_moved_by f t r (Leave o a) flat l p may =
+    (entered_has_inside Writing (cell_of f o) (inside_of f o) t (get_or-set_same (thread_of f t).held o (Some Writing) None p.2))
+tables_of_next_moved f t r (Leave o a) flat l p may =
     let k : o < length f.objects = omega (arith, p.1, flat.places t l) in
-    tables_of_with_object f t _ o _ l k (held_at_other_place_after_set (thread_of f t).held o None)
+    tables_of_with_object f t _ o _ l k (held_at_set_other (thread_of f t).held o None)
     ∙ ap (λ z. record {
       now = upd (thread_of f) t (after_ask f.code (thread_of f t) (Leave o a) Go);
       objects =
@@ -149,20 +146,20 @@ tables_of_next_are_moved_by f t r (Leave o a) flat l p may =
   where
     exit_with : (a : Access) (c : Cell) (g : ℕ → Option Access) (t : ℕ) {h : Option Access} → h ≡ None
         → object_with (record c { fields = left_by a c.fields }) (upd g t h) ≡ acted (Left o a) t (object_with c g)
-    exit_with Reading c g t {h} e = objects_equal_if_parts_equal (object_with (record c { fields = left_by Reading c.fields }) (upd g t h))
+    exit_with Reading c g t {h} e = objects_equal_by_parts (object_with (record c { fields = left_by Reading c.fields }) (upd g t h))
         (acted (Left o Reading) t (object_with c g)) refl (omega arith) (ap (upd g t) e) refl
-    exit_with Writing c g t {h} e = objects_equal_if_parts_equal (object_with (record c { fields = left_by Writing c.fields }) (upd g t h))
+    exit_with Writing c g t {h} e = objects_equal_by_parts (object_with (record c { fields = left_by Writing c.fields }) (upd g t h))
         (acted (Left o Writing) t (object_with c g)) (omega arith) refl (ap (upd g t) e) refl
-tables_of_next_are_moved_by f t r (Put o i w) flat l p may =
+tables_of_next_moved f t r (Put o i w) flat l p may =
     let k : o < length f.objects = omega (arith, p.1, flat.places t l) in
-    let count : i < length (cell_of f o).words = omega (arith, p.2, length_of_cell_words_is_most_object_words f o flat k) in
+    let count : i < length (cell_of f o).words = omega (arith, p.2, length-cell_words f o flat k) in
     tables_of_with_object f t _ o _ l k (λ j ne. refl) ∙ ap (λ z.
     record { now = upd (thread_of f) t (after_ask f.code (thread_of f t) (Put o i w) Go); objects = upd (tables f).objects o z })
-    (objects_equal_if_parts_equal (object_with (record (cell_of f o) { words = slice_set (cell_of f o).words i w })
+    (objects_equal_by_parts (object_with (record (cell_of f o) { words = slice_set (cell_of f o).words i w })
     (upd (inside_of f o) t (inside_of f o t))) (acted (Stored o i w) t (object_with (cell_of f o) (inside_of f o))) refl refl
     (upd_with_old_value (inside_of f o) t (inside_of f o t) refl) (get_or_of_set_is_upd (cell_of f o).words i w 0 count))
 
 -- the list's step is the step
-pub tables_of_permitted_next_are_after : (f : Flat) (t r : ℕ) (q : Ask) → ask_of f.code (thread_of f t) ≡ q → IsFlat f → t < length f.threads
+pub tables_of_next_after : (f : Flat) (t r : ℕ) (q : Ask) → ask_of f.code (thread_of f t) ≡ q → IsFlat f → t < length f.threads
     → Permits (thread_of f t) q → MayStep f r q → tables (next f t r q) ≡ after (machine f) (tables f) (t, r)
-tables_of_permitted_next_are_after f t r q is flat l p may = tables_of_next_are_moved_by f t r q flat l p may ∙ moved_by_is_after f t r q is
+tables_of_next_after f t r q is flat l p may = tables_of_next_moved f t r q flat l p may ∙ moved_by_is_after f t r q is

@@ -9,8 +9,8 @@ use Rattle.ir_thread.specs.State.{start_state}
 use Rattle.ir_flat.specs.Flat.{start_flat, tables, machine, MayReply}
 use Rattle.ir_flat.specs.Trails.{alone_label, labels_left, alone_trail}
 use Rattle.ir_flat.specs.Replies.{replied, shared_labels, StepsAlone, EachAlone}
-use Rattle.ir_flat.proofs.Bounded.{get_or_of_start_threads_is_start_state}
-use Rattle.ir_flat.proofs.Splice.{unshared_act_emits_alone_label, alone_label_of_shared_act_is_first_label}
+use Rattle.ir_flat.proofs.Bounded.{get_or-start_threads}
+use Rattle.ir_flat.proofs.Splice.{unshared_emits_alone, shared_alone_label}
 
 -- a step that is admitted, with what it is answered as its result, does the same, and this may be answered to the thread alone
 admitted_step_may_reply : {T : Type 0} (m : Machine T) (q : Ask) (r : ℕ) (b : Object) → Admits m (act_of q r) b
@@ -29,8 +29,8 @@ admitted_step_may_reply m Done r b can = absurd can
 -- what a step emits is what it emits alone, and the labels that are left are those of the steps after it
 emitted_is_alone_label : {T : Type 0} (m : Machine T) (q : Act) (v : ℕ) (b : Object) (ks : List Label) → MayReply m q v → (is : Bool) → is_shared q ≡ is
     → (emitted q b ≡ alone_label q (join_if is (emitted q b) ks)) × (ks ≡ labels_left (is_shared q) (join_if is (emitted q b) ks))
-emitted_is_alone_label m q v b ks may true p = (sym (alone_label_of_shared_act_is_first_label q (emitted q b) ks p), ap (λ z. labels_left z (emitted q b ∷ ks)) (sym p))
-emitted_is_alone_label m q v b ks may false p = (unshared_act_emits_alone_label m q v b ks p may, ap (λ z. labels_left z ks) (sym p))
+emitted_is_alone_label m q v b ks may true p = (sym (shared_alone_label q (emitted q b) ks p), ap (λ z. labels_left z (emitted q b ∷ ks)) (sym p))
+emitted_is_alone_label m q v b ks may false p = (unshared_emits_alone m q v b ks p may, ap (λ z. labels_left z ks) (sym p))
 
 -- a thread alone with one step before its others
 steps_alone_of_cons : {T : Type 0} (m : Machine T) (x y : T) (v : ℕ) (q : Act) (b : Object) (vs : List ℕ) (ks : List Label) (steps : List (T × Label))
@@ -49,11 +49,11 @@ steps_alone_of_cons m x y v q b vs ks steps is may rest =
     }
 
 -- each thread's steps in a run are its steps alone
-pub run_trail_is_steps_alone : {T : Type 0} (m : Machine T) (s : State T) (run : List Step) (t : ℕ) → IsRun m s run
+pub trail_is_alone : {T : Type 0} (m : Machine T) (s : State T) (run : List Step) (t : ℕ) → IsRun m s run
     → StepsAlone m (s.now t) ((end m s run).now t) (replied m s run t) (shared_labels m s run t) (trail m s run t)
 unfolding after
-run_trail_is_steps_alone m s [] t ok = record { may = tt; trail = refl; ends = refl }
-run_trail_is_steps_alone {T} m s (e ∷ run) t ok =
+trail_is_alone m s [] t ok = record { may = tt; trail = refl; ends = refl }
+trail_is_alone {T} m s (e ∷ run) t ok =
     let q : Act = act m s e in
     let b : Object = s.objects (target q) in
     let next : State T = after m s e in
@@ -61,7 +61,7 @@ run_trail_is_steps_alone {T} m s (e ∷ run) t ok =
     let vs : List ℕ = replied m next run t in
     let ks : List Label = shared_labels m next run t in
     let more : List (T × Label) = trail m next run t in
-    let rest : StepsAlone m (next.now t) y vs ks more = run_trail_is_steps_alone m next run t ok.1 in
+    let rest : StepsAlone m (next.now t) y vs ks more = trail_is_alone m next run t ok.1 in
     elim (cases_eq t e.0) [
       | inl same ↦ (
           let r = admitted_step_may_reply m (m.ask (s.now e.0)) e.1 b ok.0 in
@@ -77,10 +77,10 @@ run_trail_is_steps_alone {T} m s (e ∷ run) t ok =
     ]
 
 -- the threads of a guest
-pub each_thread_of_run_steps_as_if_alone : EachAlone
-each_thread_of_run_steps_as_if_alone guest budget profile run t ok l =
+pub each_thread_runs_alone : EachAlone
+each_thread_runs_alone guest budget profile run t ok l =
     let f = start_flat guest budget profile in
     subst (λ x. StepsAlone (machine f) x ((end (machine f) (tables f) run).now t) (replied (machine f) (tables f) run t)
     (shared_labels (machine f) (tables f) run t) (trail (machine f) (tables f) run t))
-    (get_or_of_start_threads_is_start_state guest budget profile 0 (length guest.entries) t l
-    ∙ ap (λ k. start_state guest k budget profile) (let e : 0 + t ≡ t = omega arith in e)) (run_trail_is_steps_alone (machine f) (tables f) run t ok)
+    (get_or-start_threads guest budget profile 0 (length guest.entries) t l
+    ∙ ap (λ k. start_state guest k budget profile) (let e : 0 + t ≡ t = omega arith in e)) (trail_is_alone (machine f) (tables f) run t ok)

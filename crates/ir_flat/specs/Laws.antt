@@ -26,7 +26,7 @@ HeldInside = (guest : Guest) (budget : ℕ) (profile : Profile) (steps : List St
     → (o t : ℕ) → let s = end (machine f) (tables f) steps in (s.objects o).inside t ≡ (machine f).held (s.now t) o
 
 -- versions, and counts of readers that have left or are inside, fit the fields of a word
-pub record Fits (n : ℕ) (b : Object) : Type 0 where
+pub record FitsGuest (n : ℕ) (b : Object) : Type 0 where
   pub version : b.version < version_unit
   pub left : b.left < left_limit
   pub inside : readers n b.inside < inside_limit
@@ -35,4 +35,4 @@ pub record Fits (n : ℕ) (b : Object) : Type 0 where
 abbrev pub CountsFit : Type 0
 CountsFit = (guest : Guest) (budget : ℕ) (profile : Profile) (steps : List Step) → let f = start_flat guest budget profile in length guest.entries ≤ most_threads
     → IsRun (machine f) (tables f) steps
-    → (o : ℕ) → Fits (length guest.entries) ((end (machine f) (tables f) steps).objects o)
+    → (o : ℕ) → FitsGuest (length guest.entries) ((end (machine f) (tables f) steps).objects o)

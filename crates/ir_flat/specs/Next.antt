@@ -10,7 +10,7 @@ use Rattle.ir_runs.specs.declared.access.Access.TheVariants.{Writing}
 use Rattle.ir_object.specs.declared.fields.Fields.{Fields}
 use Rattle.ir_object.specs.Cell.{Cell}
 use Rattle.ir_object.specs.Standing.{Admitted}
-use Rattle.ir_object.specs.Word.{entered, left_by}
+use Rattle.ir_object.specs.Word.{entered_word, left_by}
 use Rattle.ir_flat.specs.Flat.{Flat, thread_of, cell_of}
 
 -- another thread t
@@ -29,13 +29,13 @@ answered f t q r = with_thread f t (after_ask f.code (thread_of f t) q r)
 abbrev pub next_try : Flat → ℕ → ℕ → ℕ → Flat
 next_try f t o zero = answered f t (Try o) (Value 0)
 next_try f t o (suc zero) =
-    with_object (answered f t (Try o) (Value 1)) o (record (cell_of f o) { fields = entered Writing (cell_of f o).fields })
+    with_object (answered f t (Try o) (Value 1)) o (record (cell_of f o) { fields = entered_word Writing (cell_of f o).fields })
 next_try f t o (suc (suc r)) = answered f t (Try o) (Value (suc (suc r)))
 
 -- after the step of thread t that asks so, with this result
 abbrev pub next : Flat → ℕ → ℕ → Ask → Flat
 next f t r (Env kind) = answered f t (Env kind) (Value r)
-next f t r (Enter o a) = with_object (answered f t (Enter o a) Go) o (record (cell_of f o) { fields = entered a (cell_of f o).fields })
+next f t r (Enter o a) = with_object (answered f t (Enter o a) Go) o (record (cell_of f o) { fields = entered_word a (cell_of f o).fields })
 next f t r (Try o) = next_try f t o r
 next f t r (Leave o a) = with_object (answered f t (Leave o a) Go) o (record (cell_of f o) { fields = left_by a (cell_of f o).fields })
 next f t r (Get o i) = answered f t (Get o i) (Value (slice_index (cell_of f o).words i))

@@ -6,7 +6,7 @@ use Rattle.ir_thread.specs.State as thread
 use Rattle.ir_thread.specs.declared.ask.Reply.{Reply}
 use Rattle.ir_runs.specs.Machine.{act_of, Done, Machine, upd}
 use Rattle.ir_runs.specs.Shared.{is_shared}
-use Rattle.ir_object.specs.Order.{Shared, of_thread, IsAllowed, objects_after, order_labels}
+use Rattle.ir_object.specs.Order.{Shared, of_thread, IsAllowedStep, objects_after, order_labels}
 use Rattle.ir_runs.specs.Run.{State, Step, IsRun, IsDone, end, trail, join_if}
 use Rattle.ir_flat.specs.Flat.{MayRun, alone_after}
 use Rattle.ir_flat.specs.Trails.{alone_trail}
@@ -59,7 +59,7 @@ pub record IsSplice {T : Type 0} (m : Machine T) (s : State T) (replies : ℕ �
 abbrev pub Splices : Type 0 → Type 0
 Splices T = (m : Machine T) (s : State T) (replies : ℕ → List ℕ) (n : ℕ) (order : List (ℕ × Shared)) → ((t : ℕ) → n ≤ t → replies t ≡ [])
     → ((t : ℕ) → MayRun m (s.now t) (replies t))
-    → ((t : ℕ) → shared_steps m (s.now t) (replies t) ≡ of_thread t order) → IsAllowed m s.objects order
+    → ((t : ℕ) → shared_steps m (s.now t) (replies t) ≡ of_thread t order) → IsAllowedStep m s.objects order
     → IsSplice m s replies order (splice m s.now replies n order)
 
 -- the replies to a thread that runs alone, as it takes them

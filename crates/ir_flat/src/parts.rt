@@ -5,7 +5,7 @@ ghost use Rattle.ir_flat.specs.Room.{HaveRoom};
 ghost use Rattle.ir_flat.specs.Next.{with_thread, with_object, answered, next, next_try, MayStep, MayTry};
 ghost use Rattle.ir_image.specs.Guest.{most_object_words, object_count};
 ghost use Rattle.ir_object.specs.Standing.{Admitted, CanLeave};
-ghost use Rattle.ir_object.specs.Word.{IsFields, entered, left_by};
+ghost use Rattle.ir_object.specs.Word.{IsFields, entered_word, left_by};
 ghost use Rattle.ir_thread.specs.State.{ask_of, after_reply, most_budget, is_result};
 ghost use Rattle.ir_thread.specs.Permitted.{run_of, Permits, ReplySuits};
 ghost use Rattle.ir_thread.specs.Private.{NoInstruction, UnmarkedSteps, StopsUnmarked};
@@ -160,8 +160,8 @@ impl<'a> Parts<'a> {
     fn enter(&mut self, o: u8, access: Access)
         requires object { o < length self.old.objects }
         requires admitted { Admitted access (cell_of self.old o).fields }
-        requires fits { IsFields (entered access (cell_of self.old o).fields) }
-        ensures { self.new ≡ with_object self.old o (record (cell_of self.old o) { fields = entered access (cell_of self.old o).fields }) }
+        requires fits { IsFields (entered_word access (cell_of self.old o).fields) }
+        ensures { self.new ≡ with_object self.old o (record (cell_of self.old o) { fields = entered_word access (cell_of self.old o).fields }) }
     {
         self.objects[o as usize].enter(access);
     }

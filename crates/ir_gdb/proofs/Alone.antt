@@ -1,5 +1,6 @@
 -- A thread that moves alone, and the command of a session that leads it there.
-use Rattle.std.proofs.Common.{◌≡◌, ◌<◌, ◌≤◌, ◌+◌, ◌-◌, ◌⊎◌, ◌∙◌, ℕ, zero, suc, min, Bool, true, false, List, [], ◌++◌, length, Option, Some, None, is_none, true≢false, inl, inr, refl, sym, ap, subst, arith}
+use Rattle.std.proofs.Common.{◌≡◌, ◌<◌, ◌≤◌, ◌+◌, ◌-◌, ◌⊎◌, ◌∙◌, ℕ, zero, suc, min, Bool, true, false, List, [], ◌++◌, length, Option, Some}
+use Rattle.std.proofs.Common.{None, is_none, true≢false, inl, inr, refl, sym, ap, subst, arith}
 use Rattle.std.specs.Prelude.{nat_lt, option_map, if◌then◌else◌}
 use Rattle.std.proofs.lemmas.Bool.{false_from_ne_true}
 use Rattle.std.proofs.lemmas.Bool.Decides.{nat_tests}
@@ -20,11 +21,12 @@ use Rattle.ir_gdb.specs.declared.point.Watched.{Watched}
 use Rattle.ir_gdb.specs.declared.stopped.Stopped.{Stopped}
 use Rattle.ir_gdb.specs.Points.{watch_points, break_points, points_upwards, points_downwards}
 use Rattle.ir_gdb.specs.Stub.{Stub}
-use Rattle.ir_gdb.specs.Stops.{stopped, position_of, watches_if, break_reason, watch_reason, WatchNext, StepsBy, after_step, StepsBackBy, after_back, ContinuesBackBy, BackBy, StopsBelow, stop_above, end_above, stop_below, end_below}
+use Rattle.ir_gdb.specs.Stops.{stopped, position_of, watches_if, break_reason, watch_reason, WatchNext, StepsBy, after_step, StepsBackBy}
+use Rattle.ir_gdb.specs.Stops.{after_back, ContinuesBackBy, BackBy, StopsBelow, stop_above, end_above, stop_below, end_below}
 use Rattle.ir_gdb.specs.Together.{Halt, Comes, MovesAlone}
-use Rattle.ir_gdb.specs.Over.{PassesHit, over, StepsOver, LeadsBy}
+use Rattle.ir_gdb.specs.Over.{PassesHit, stepped_over, StepsOver, LeadsBy}
 use Rattle.ir_gdb.specs.Laws.{SessionGoes, LeadsLone, StaysWhereItIs}
-use Rattle.ir_gdb.proofs.Finding.{position_in, upwards_found_as_session, downwards_found_as_session}
+use Rattle.ir_gdb.proofs.Finding.{position_in, upwards_as_session, downwards_as_session}
 
 -- ---- where no watch is set
 
@@ -57,12 +59,12 @@ stop_above_is_at_hit breaks h = by (nat_lt h.number 0)
     by true is = absurd (true≢false is)
     by false is = refl
 
-end_above_is_stop_of_session : (f : FittedTrace) (t : ℕ) (breaks : List Breakpoint) (hit other : Option Hit) → position_in hit ≡ position_in other
+end_above_is_stop : (f : FittedTrace) (t : ℕ) (breaks : List Breakpoint) (hit other : Option Hit) → position_in hit ≡ position_in other
     → (end_above [] breaks (last_of f t) hit).position ≡ stop_of f t Forwards other
-end_above_is_stop_of_session f t breaks None None same = refl
-end_above_is_stop_of_session f t breaks None (Some k) same = absurd (none_is_not_some same)
-end_above_is_stop_of_session f t breaks (Some h) None same = absurd (none_is_not_some (sym same))
-end_above_is_stop_of_session f t breaks (Some h) (Some k) same = stop_above_is_at_hit breaks h ∙ cc same
+end_above_is_stop f t breaks None None same = refl
+end_above_is_stop f t breaks None (Some k) same = absurd (none_is_not_some same)
+end_above_is_stop f t breaks (Some h) None same = absurd (none_is_not_some (sym same))
+end_above_is_stop f t breaks (Some h) (Some k) same = stop_above_is_at_hit breaks h ∙ cc same
 
 pub stop_below_is_at_hit : (breaks : List Breakpoint) (h : Hit) → (stop_below [] breaks h).position ≡ h.position
 stop_below_is_at_hit breaks h = by (nat_lt h.number (length breaks))
@@ -72,18 +74,18 @@ stop_below_is_at_hit breaks h = by (nat_lt h.number (length breaks))
     by true = refl
     by false = refl
 
-end_below_is_stop_of_session : (f : FittedTrace) (t : ℕ) (breaks : List Breakpoint) (hit other : Option Hit) → position_in hit ≡ position_in other
+end_below_is_stop : (f : FittedTrace) (t : ℕ) (breaks : List Breakpoint) (hit other : Option Hit) → position_in hit ≡ position_in other
     → (end_below [] breaks hit).position ≡ stop_of f t Backwards other
-end_below_is_stop_of_session f t breaks None None same = refl
-end_below_is_stop_of_session f t breaks None (Some k) same = absurd (none_is_not_some same)
-end_below_is_stop_of_session f t breaks (Some h) None same = absurd (none_is_not_some (sym same))
-end_below_is_stop_of_session f t breaks (Some h) (Some k) same = stop_below_is_at_hit breaks h ∙ cc same
+end_below_is_stop f t breaks None None same = refl
+end_below_is_stop f t breaks None (Some k) same = absurd (none_is_not_some same)
+end_below_is_stop f t breaks (Some h) None same = absurd (none_is_not_some (sym same))
+end_below_is_stop f t breaks (Some h) (Some k) same = stop_below_is_at_hit breaks h ∙ cc same
 
 -- ---- `c`
 
-pub continue_goes_as_session : (run : List Step) (s : Stub) (t : ℕ) (h : Halt) → LeadsLone run s t motion.Continue h
+pub continue_as_session : (run : List Step) (s : Stub) (t : ℕ) (h : Halt) → LeadsLone run s t motion.Continue h
     → (h.thread ≡ t) × SessionGoes run s t (command.Continue t Forwards) h.cut
-continue_goes_as_session run s t h lone = by (subst (λ (b : Bool). LeadsBy b false run s t motion.Continue h) lone.free lone.leads)
+continue_as_session run s t h lone = by (subst (λ (b : Bool). LeadsBy b false run s t motion.Continue h) lone.free lone.leads)
   where
     f : FittedTrace
     f = s.desk.fitted
@@ -91,9 +93,9 @@ continue_goes_as_session run s t h lone = by (subst (λ (b : Bool). LeadsBy b fa
     by : MovesAlone run s t motion.Continue h → (h.thread ≡ t) × SessionGoes run s t (command.Continue t Forwards) h.cut
     by (to, (hit, finds, ends), comes, is) =
         let bare = subst (λ (ws : List Watched). IsFirstHit f run (points_upwards t ws s.breaks s.desk.points) t (position_of s t) hit) lone.watches finds in
-        let found = upwards_found_as_session run f s.breaks s.desk.points t (position_of s t) (s.desk.last_point + 1) hit bare in
+        let found = upwards_as_session run f s.breaks s.desk.points t (position_of s t) (s.desk.last_point + 1) hit bare in
         let at = ap (λ (x : Stopped). x.position) (ends ∙ ap (λ (ws : List Watched). end_above ws s.breaks (last_of f t) hit) lone.watches)
-        ∙ end_above_is_stop_of_session f t s.breaks hit found.0 found.2 in
+        ∙ end_above_is_stop f t s.breaks hit found.0 found.2 in
         (ap (λ (x : Halt). x.thread) is, (_, (h.cut, found.0, (found.1, subst (λ (k : ℕ). Comes run s Forwards t k h.cut) at comes), (refl, refl))))
 
 -- ---- `bc`
@@ -113,16 +115,16 @@ stops_below_as_session run s t (suc p) to none here (why, next, back) = by (subs
         × (to.position ≡ stop_of s.desk.fitted t Backwards hit)
     by (hit, finds, ends) =
         let bare = subst (λ (ws : List Watched). IsLastHit f run (points_downwards t ws s.breaks s.desk.points) t (position_of s t) hit) none finds in
-        let found = downwards_found_as_session run f s.breaks s.desk.points t (position_of s t) (s.desk.last_point + 1) hit bare in (
+        let found = downwards_as_session run f s.breaks s.desk.points t (position_of s t) (s.desk.last_point + 1) hit bare in (
           found.0,
           found.1,
           ap (λ (x : Stopped). x.position) (ends ∙ ap (λ (ws : List Watched). end_below ws s.breaks hit) none)
-              ∙ end_below_is_stop_of_session f t s.breaks hit found.0 found.2,
+              ∙ end_below_is_stop f t s.breaks hit found.0 found.2,
         )
 
-pub continue_back_goes_as_session : (run : List Step) (s : Stub) (t : ℕ) (h : Halt) → LeadsLone run s t motion.ContinueBack h
+pub continue_back_as_session : (run : List Step) (s : Stub) (t : ℕ) (h : Halt) → LeadsLone run s t motion.ContinueBack h
     → (h.thread ≡ t) × SessionGoes run s t (command.Continue t Backwards) h.cut
-continue_back_goes_as_session run s t h lone = by (subst (λ (b : Bool). LeadsBy b false run s t motion.ContinueBack h) lone.free lone.leads)
+continue_back_as_session run s t h lone = by (subst (λ (b : Bool). LeadsBy b false run s t motion.ContinueBack h) lone.free lone.leads)
   where
     by : MovesAlone run s t motion.ContinueBack h → (h.thread ≡ t) × SessionGoes run s t (command.Continue t Backwards) h.cut
     by (to, moves, comes, is) =
@@ -137,9 +139,9 @@ steps_back_one run s t (suc p) to none (why, next, is) =
     let less : p ≡ suc p - 1 = omega arith in
     ap (λ (x : Stopped). x.position) (is ∙ ap (λ (w : Option Reason). after_back p w) (no_watch_is_next run s t p true why none next)) ∙ less
 
-pub step_back_goes_as_session : (run : List Step) (s : Stub) (t : ℕ) (h : Halt) → LeadsLone run s t motion.StepBack h
+pub step_back_as_session : (run : List Step) (s : Stub) (t : ℕ) (h : Halt) → LeadsLone run s t motion.StepBack h
     → (h.thread ≡ t) × SessionGoes run s t (command.Move (move.Back t 1)) h.cut
-step_back_goes_as_session run s t h lone = by (subst (λ (b : Bool). LeadsBy b false run s t motion.StepBack h) lone.free lone.leads)
+step_back_as_session run s t h lone = by (subst (λ (b : Bool). LeadsBy b false run s t motion.StepBack h) lone.free lone.leads)
   where
     by : MovesAlone run s t motion.StepBack h → (h.thread ≡ t) × SessionGoes run s t (command.Move (move.Back t 1)) h.cut
     by (to, moves, comes, is) =
@@ -171,7 +173,7 @@ step_goes_as_session run s t h lone = over_steps (subst (λ (b : Bool). LeadsBy 
     here_within cut k comes = let up = comes.1.above t in let within = comes.1.cut t in let count = lone.whole.1.steps t lone.thread in omega (arith, up, within, count)
 
     by : (together passes : Bool) (to : Stopped) (cut : List ℕ) → s.together ≡ together → to.position ≡ min (position_of s t + 1) (last_of s.desk.fitted t)
-        → Comes run s Forwards t to.position cut → PassesHit together passes run s cut t → h ≡ over passes s t cut to → Goes
+        → Comes run s Forwards t to.position cut → PassesHit together passes run s cut t → h ≡ stepped_over passes s t cut to → Goes
     by true true to cut so at comes passes is = inr (so, is, (cut, (_, (cut, subst (λ (k : ℕ). Comes run s Forwards t k cut) at comes, (refl, refl))), passes))
     by false true to cut so at comes passes is = absurd (true≢false passes)
     by together false to cut so at comes passes is = inl (

@@ -17,8 +17,10 @@ use Rattle.ir_packet.specs.declared.reply.Reply.TheVariants as reply
 use Rattle.ir_packet.specs.declared.request.Request.{Request}
 use Rattle.ir_packet.specs.declared.request.Request.TheVariants as request
 use Rattle.ir_debug.specs.Machine.{quits}
-use Rattle.ir_gdb.proofs.Answering.{sent_answer_to_packet, sent_part_of_answer_to_packet}
-use Rattle.ir_gdb.specs.Connection.{Link, sent, resent, sign, unacknowledged, is_copy, is_packet, before_new_reply, before_reply_by, before_reply, AnswersLine, RepliesToItem, AnswersRequest, AnswersPacket, AnswersNew, AnswersItem, AnswersItemBy, ends_request, request_ends, item_ends, Sent, SentInPart}
+use Rattle.ir_gdb.proofs.Answering.{sent_answer_to_packet, packet_answer_in_part}
+use Rattle.ir_gdb.specs.Connection.{Link, sent, resent, sign, unacknowledged, is_copy, is_packet, before_new_reply, before_reply_by}
+use Rattle.ir_gdb.specs.Connection.{before_reply, AnswersLine, RepliesToItem, AnswersRequest, AnswersPacket, AnswersNew, AnswersItem}
+use Rattle.ir_gdb.specs.Connection.{AnswersItemBy, ends_request, request_ends, item_ends, Sent, SentInPart}
 
 -- ---- requests
 
@@ -26,88 +28,88 @@ use Rattle.ir_gdb.specs.Connection.{Link, sent, resent, sign, unacknowledged, is
 abbrev pub IsReplied : Request → Type 0
 IsReplied asked = (l : Link) (payload text : List ℕ) (next : Link) → RepliesToItem l asked text next → AnswersRequest l payload asked text next
 
-is_replied_unless_kill_console_or_no_acknowledgements : (asked : Request) → (asked ≡ request.Kill → ⊥) → (asked ≡ request.Console → ⊥) → (asked ≡ request.NoAcknowledgements → ⊥) → IsReplied asked
-is_replied_unless_kill_console_or_no_acknowledgements request.Supported kill console quiet = λ l payload text next is. is
-is_replied_unless_kill_console_or_no_acknowledgements request.NoAcknowledgements kill console quiet = absurd (quiet refl)
-is_replied_unless_kill_console_or_no_acknowledgements request.Reason kill console quiet = λ l payload text next is. is
-is_replied_unless_kill_console_or_no_acknowledgements (request.General who) kill console quiet = λ l payload text next is. is
-is_replied_unless_kill_console_or_no_acknowledgements (request.Choose who) kill console quiet = λ l payload text next is. is
-is_replied_unless_kill_console_or_no_acknowledgements (request.Alive id) kill console quiet = λ l payload text next is. is
-is_replied_unless_kill_console_or_no_acknowledgements (request.Description from most) kill console quiet = λ l payload text next is. is
-is_replied_unless_kill_console_or_no_acknowledgements (request.Threads from most) kill console quiet = λ l payload text next is. is
-is_replied_unless_kill_console_or_no_acknowledgements request.Attached kill console quiet = λ l payload text next is. is
-is_replied_unless_kill_console_or_no_acknowledgements request.Offsets kill console quiet = λ l payload text next is. is
-is_replied_unless_kill_console_or_no_acknowledgements request.Symbols kill console quiet = λ l payload text next is. is
-is_replied_unless_kill_console_or_no_acknowledgements request.Motions kill console quiet = λ l payload text next is. is
-is_replied_unless_kill_console_or_no_acknowledgements request.Registers kill console quiet = λ l payload text next is. is
-is_replied_unless_kill_console_or_no_acknowledgements (request.Register i) kill console quiet = λ l payload text next is. is
-is_replied_unless_kill_console_or_no_acknowledgements (request.Memory a size) kill console quiet = λ l payload text next is. is
-is_replied_unless_kill_console_or_no_acknowledgements request.Change kill console quiet = λ l payload text next is. is
-is_replied_unless_kill_console_or_no_acknowledgements (request.SetBreak a hardware) kill console quiet = λ l payload text next is. is
-is_replied_unless_kill_console_or_no_acknowledgements (request.ClearBreak a hardware) kill console quiet = λ l payload text next is. is
-is_replied_unless_kill_console_or_no_acknowledgements (request.SetWatch a size) kill console quiet = λ l payload text next is. is
-is_replied_unless_kill_console_or_no_acknowledgements (request.ClearWatch a size) kill console quiet = λ l payload text next is. is
-is_replied_unless_kill_console_or_no_acknowledgements (request.Move motion who) kill console quiet = λ l payload text next is. is
-is_replied_unless_kill_console_or_no_acknowledgements request.Console kill console quiet = absurd (console refl)
-is_replied_unless_kill_console_or_no_acknowledgements request.Extended kill console quiet = λ l payload text next is. is
-is_replied_unless_kill_console_or_no_acknowledgements request.Restart kill console quiet = λ l payload text next is. is
-is_replied_unless_kill_console_or_no_acknowledgements (request.RestartAt i) kill console quiet = λ l payload text next is. is
-is_replied_unless_kill_console_or_no_acknowledgements request.EndProcess kill console quiet = λ l payload text next is. is
-is_replied_unless_kill_console_or_no_acknowledgements request.Detach kill console quiet = λ l payload text next is. is
-is_replied_unless_kill_console_or_no_acknowledgements request.Kill kill console quiet = absurd (kill refl)
-is_replied_unless_kill_console_or_no_acknowledgements request.Malformed kill console quiet = λ l payload text next is. is
-is_replied_unless_kill_console_or_no_acknowledgements request.Unknown kill console quiet = λ l payload text next is. is
+is_replied_by_default : (asked : Request) → (asked ≡ request.Kill → ⊥) → (asked ≡ request.Console → ⊥) → (asked ≡ request.NoAcknowledgements → ⊥) → IsReplied asked
+is_replied_by_default request.Supported kill console quiet = λ l payload text next is. is
+is_replied_by_default request.NoAcknowledgements kill console quiet = absurd (quiet refl)
+is_replied_by_default request.Reason kill console quiet = λ l payload text next is. is
+is_replied_by_default (request.General who) kill console quiet = λ l payload text next is. is
+is_replied_by_default (request.Choose who) kill console quiet = λ l payload text next is. is
+is_replied_by_default (request.Alive id) kill console quiet = λ l payload text next is. is
+is_replied_by_default (request.Description from most) kill console quiet = λ l payload text next is. is
+is_replied_by_default (request.Threads from most) kill console quiet = λ l payload text next is. is
+is_replied_by_default request.Attached kill console quiet = λ l payload text next is. is
+is_replied_by_default request.Offsets kill console quiet = λ l payload text next is. is
+is_replied_by_default request.Symbols kill console quiet = λ l payload text next is. is
+is_replied_by_default request.Motions kill console quiet = λ l payload text next is. is
+is_replied_by_default request.Registers kill console quiet = λ l payload text next is. is
+is_replied_by_default (request.Register i) kill console quiet = λ l payload text next is. is
+is_replied_by_default (request.Memory a size) kill console quiet = λ l payload text next is. is
+is_replied_by_default request.Change kill console quiet = λ l payload text next is. is
+is_replied_by_default (request.SetBreak a hardware) kill console quiet = λ l payload text next is. is
+is_replied_by_default (request.ClearBreak a hardware) kill console quiet = λ l payload text next is. is
+is_replied_by_default (request.SetWatch a size) kill console quiet = λ l payload text next is. is
+is_replied_by_default (request.ClearWatch a size) kill console quiet = λ l payload text next is. is
+is_replied_by_default (request.Move motion who) kill console quiet = λ l payload text next is. is
+is_replied_by_default request.Console kill console quiet = absurd (console refl)
+is_replied_by_default request.Extended kill console quiet = λ l payload text next is. is
+is_replied_by_default request.Restart kill console quiet = λ l payload text next is. is
+is_replied_by_default (request.RestartAt i) kill console quiet = λ l payload text next is. is
+is_replied_by_default request.EndProcess kill console quiet = λ l payload text next is. is
+is_replied_by_default request.Detach kill console quiet = λ l payload text next is. is
+is_replied_by_default request.Kill kill console quiet = absurd (kill refl)
+is_replied_by_default request.Malformed kill console quiet = λ l payload text next is. is
+is_replied_by_default request.Unknown kill console quiet = λ l payload text next is. is
 
-pub request_ends_no_connection_unless_kill_or_detach : (asked : Request) → (asked ≡ request.Kill → ⊥) → (asked ≡ request.Detach → ⊥) → ends_request asked ≡ false
-request_ends_no_connection_unless_kill_or_detach request.Supported kill detach = refl
-request_ends_no_connection_unless_kill_or_detach request.NoAcknowledgements kill detach = refl
-request_ends_no_connection_unless_kill_or_detach request.Reason kill detach = refl
-request_ends_no_connection_unless_kill_or_detach (request.General who) kill detach = refl
-request_ends_no_connection_unless_kill_or_detach (request.Choose who) kill detach = refl
-request_ends_no_connection_unless_kill_or_detach (request.Alive id) kill detach = refl
-request_ends_no_connection_unless_kill_or_detach (request.Description from most) kill detach = refl
-request_ends_no_connection_unless_kill_or_detach (request.Threads from most) kill detach = refl
-request_ends_no_connection_unless_kill_or_detach request.Attached kill detach = refl
-request_ends_no_connection_unless_kill_or_detach request.Offsets kill detach = refl
-request_ends_no_connection_unless_kill_or_detach request.Symbols kill detach = refl
-request_ends_no_connection_unless_kill_or_detach request.Motions kill detach = refl
-request_ends_no_connection_unless_kill_or_detach request.Registers kill detach = refl
-request_ends_no_connection_unless_kill_or_detach (request.Register i) kill detach = refl
-request_ends_no_connection_unless_kill_or_detach (request.Memory a size) kill detach = refl
-request_ends_no_connection_unless_kill_or_detach request.Change kill detach = refl
-request_ends_no_connection_unless_kill_or_detach (request.SetBreak a hardware) kill detach = refl
-request_ends_no_connection_unless_kill_or_detach (request.ClearBreak a hardware) kill detach = refl
-request_ends_no_connection_unless_kill_or_detach (request.SetWatch a size) kill detach = refl
-request_ends_no_connection_unless_kill_or_detach (request.ClearWatch a size) kill detach = refl
-request_ends_no_connection_unless_kill_or_detach (request.Move motion who) kill detach = refl
-request_ends_no_connection_unless_kill_or_detach request.Console kill detach = refl
-request_ends_no_connection_unless_kill_or_detach request.Extended kill detach = refl
-request_ends_no_connection_unless_kill_or_detach request.Restart kill detach = refl
-request_ends_no_connection_unless_kill_or_detach (request.RestartAt i) kill detach = refl
-request_ends_no_connection_unless_kill_or_detach request.EndProcess kill detach = refl
-request_ends_no_connection_unless_kill_or_detach request.Detach kill detach = absurd (detach refl)
-request_ends_no_connection_unless_kill_or_detach request.Kill kill detach = absurd (kill refl)
-request_ends_no_connection_unless_kill_or_detach request.Malformed kill detach = refl
-request_ends_no_connection_unless_kill_or_detach request.Unknown kill detach = refl
+pub request_ends_none : (asked : Request) → (asked ≡ request.Kill → ⊥) → (asked ≡ request.Detach → ⊥) → ends_request asked ≡ false
+request_ends_none request.Supported kill detach = refl
+request_ends_none request.NoAcknowledgements kill detach = refl
+request_ends_none request.Reason kill detach = refl
+request_ends_none (request.General who) kill detach = refl
+request_ends_none (request.Choose who) kill detach = refl
+request_ends_none (request.Alive id) kill detach = refl
+request_ends_none (request.Description from most) kill detach = refl
+request_ends_none (request.Threads from most) kill detach = refl
+request_ends_none request.Attached kill detach = refl
+request_ends_none request.Offsets kill detach = refl
+request_ends_none request.Symbols kill detach = refl
+request_ends_none request.Motions kill detach = refl
+request_ends_none request.Registers kill detach = refl
+request_ends_none (request.Register i) kill detach = refl
+request_ends_none (request.Memory a size) kill detach = refl
+request_ends_none request.Change kill detach = refl
+request_ends_none (request.SetBreak a hardware) kill detach = refl
+request_ends_none (request.ClearBreak a hardware) kill detach = refl
+request_ends_none (request.SetWatch a size) kill detach = refl
+request_ends_none (request.ClearWatch a size) kill detach = refl
+request_ends_none (request.Move motion who) kill detach = refl
+request_ends_none request.Console kill detach = refl
+request_ends_none request.Extended kill detach = refl
+request_ends_none request.Restart kill detach = refl
+request_ends_none (request.RestartAt i) kill detach = refl
+request_ends_none request.EndProcess kill detach = refl
+request_ends_none request.Detach kill detach = absurd (detach refl)
+request_ends_none request.Kill kill detach = absurd (kill refl)
+request_ends_none request.Malformed kill detach = refl
+request_ends_none request.Unknown kill detach = refl
 
-replied_request_is_answered_by_its_reply : (l : Link) (payload : List ℕ) (asked : Request) (text : List ℕ) → IsReplied asked
+replied_is_answered : (l : Link) (payload : List ℕ) (asked : Request) (text : List ℕ) → IsReplied asked
     → ((next : Link) × RepliesToItem l asked text next) ⊎ (text ≡ []) → ((next : Link) × AnswersRequest l payload asked text next) ⊎ (text ≡ [])
-replied_request_is_answered_by_its_reply l payload asked text replies (inl (next, is)) = inl (next, replies l payload text next is)
-replied_request_is_answered_by_its_reply l payload asked text replies (inr none) = inr none
+replied_is_answered l payload asked text replies (inl (next, is)) = inl (next, replies l payload text next is)
+replied_is_answered l payload asked text replies (inr none) = inr none
 
 module _ (l : Link) (payload : List ℕ) (asked : Request) (next : Link) (w w' : Option (List ℕ)) where
   reply_sent : IsReplied asked → Sent (RepliesToItem l asked) next w w' → Sent (AnswersRequest l payload asked) next w w'
   reply_sent replies s = record { text = s.text; is = replies l payload s.text next s.is; grown = s.grown }
 
   reply_part : IsReplied asked → SentInPart (RepliesToItem l asked) [] w w' → SentInPart (AnswersRequest l payload asked) [] w w'
-  reply_part replies s = record { text = s.text; is = replied_request_is_answered_by_its_reply l payload asked s.text replies s.is; grown = s.grown }
+  reply_part replies s = record { text = s.text; is = replied_is_answered l payload asked s.text replies s.is; grown = s.grown }
 
   module _ (kill : asked ≡ request.Kill → ⊥) (console : asked ≡ request.Console → ⊥) (quiet : asked ≡ request.NoAcknowledgements → ⊥) where
     pub replied_sent : Sent (RepliesToItem l asked) next w w' → Sent (AnswersRequest l payload asked) next w w'
-    replied_sent = reply_sent (is_replied_unless_kill_console_or_no_acknowledgements asked kill console quiet)
+    replied_sent = reply_sent (is_replied_by_default asked kill console quiet)
 
     pub replied_part : SentInPart (RepliesToItem l asked) [] w w' → SentInPart (AnswersRequest l payload asked) [] w w'
-    replied_part = reply_part (is_replied_unless_kill_console_or_no_acknowledgements asked kill console quiet)
+    replied_part = reply_part (is_replied_by_default asked kill console quiet)
 
   pub detach_sent : asked ≡ request.Detach → Sent (RepliesToItem l asked) next w w' → Sent (AnswersRequest l payload asked) next w w'
   detach_sent is = reply_sent (subst IsReplied (sym is) (λ l payload text next a. a))
@@ -188,12 +190,12 @@ module _ (l : Link) (payload : List ℕ) (f : Found) (next : Link) (w : Option (
   acknowledged_answered is after = subst (λ (x : Found). Sent (AnswersNew l (item_found x payload)) next w w) (sym is)
       (record { text = []; is = (refl, after); grown = Appends-nil w })
 
-pub ok_flow_of_request_is_flow_of_found_packet : {E : Type 0} (r : Result Flow E) (payload : List ℕ) (f : Found) → f ≡ found.Packet
+pub ok_flow_of_found : {E : Type 0} (r : Result Flow E) (payload : List ℕ) (f : Found) → f ≡ found.Packet
     → IfOk r (λ x. x ≡ flow_after (ends_request (request_of payload))) → IfOk r (λ x. x ≡ flow_after (request_ends (item_found f payload)))
-ok_flow_of_request_is_flow_of_found_packet r payload f is p = subst (λ (y : Found). IfOk r (λ x. x ≡ flow_after (request_ends (item_found y payload)))) (sym is) p
+ok_flow_of_found r payload f is p = subst (λ (y : Found). IfOk r (λ x. x ≡ flow_after (request_ends (item_found y payload)))) (sym is) p
 
-pub ok_flow_of_false_is_flow_of_test_if_test_is_false : {E : Type 0} (r : Result Flow E) (b : Bool) → b ≡ false → IfOk r (λ x. x ≡ flow_after false) → IfOk r (λ x. x ≡ flow_after b)
-ok_flow_of_false_is_flow_of_test_if_test_is_false r b is p = subst (λ (c : Bool). IfOk r (λ x. x ≡ flow_after c)) (sym is) p
+pub ok_flow_of_test : {E : Type 0} (r : Result Flow E) (b : Bool) → b ≡ false → IfOk r (λ x. x ≡ flow_after false) → IfOk r (λ x. x ≡ flow_after b)
+ok_flow_of_test r b is p = subst (λ (c : Bool). IfOk r (λ x. x ≡ flow_after c)) (sym is) p
 
 -- ---- copies
 
@@ -217,38 +219,38 @@ module _ (l : Link) (item : Item) where
       → SentInPart (AnswersItem l item) (before_reply l item) w w'
   new_part w w' new s = subst (λ (b : Bool). SentInPart (AnswersItemBy b l item) (before_reply_by b l item) w w') (sym new) s
 
-pub copied_packet_ends_no_connection : (l : Link) (item : Item) → (is_copy l && is_packet item) ≡ true → item_ends l item ≡ false
-copied_packet_ends_no_connection l item both = by_copy (is_copy l) both
+pub copy_ends_none : (l : Link) (item : Item) → (is_copy l && is_packet item) ≡ true → item_ends l item ≡ false
+copy_ends_none l item both = by_copy (is_copy l) both
   where
     by_copy : (b : Bool) → (b && is_packet item) ≡ true → (not b && request_ends item) ≡ false
     by_copy true e = refl
     by_copy false e = absurd cc
 
-item_without_packet_ends_nothing : (item : Item) → is_packet item ≡ false → request_ends item ≡ false
-item_without_packet_ends_nothing (stream.Packet payload) e = absurd cc
-item_without_packet_ends_nothing stream.BadSum e = refl
-item_without_packet_ends_nothing stream.TooLong e = refl
-item_without_packet_ends_nothing stream.Interrupt e = refl
-item_without_packet_ends_nothing stream.Acknowledged e = refl
-item_without_packet_ends_nothing stream.Refused e = refl
+no_packet_ends_none : (item : Item) → is_packet item ≡ false → request_ends item ≡ false
+no_packet_ends_none (stream.Packet payload) e = absurd cc
+no_packet_ends_none stream.BadSum e = refl
+no_packet_ends_none stream.TooLong e = refl
+no_packet_ends_none stream.Interrupt e = refl
+no_packet_ends_none stream.Acknowledged e = refl
+no_packet_ends_none stream.Refused e = refl
 
-not_copy_and_ends_by_is_ends_by_unless_copied_packet : (b : Bool) (item : Item) → (b && is_packet item) ≡ false → (not b && request_ends item) ≡ request_ends item
-not_copy_and_ends_by_is_ends_by_unless_copied_packet true item new = sym (item_without_packet_ends_nothing item new)
-not_copy_and_ends_by_is_ends_by_unless_copied_packet false item new = refl
+not_copy_and_ends : (b : Bool) (item : Item) → (b && is_packet item) ≡ false → (not b && request_ends item) ≡ request_ends item
+not_copy_and_ends true item new = sym (no_packet_ends_none item new)
+not_copy_and_ends false item new = refl
 
-pub ok_flow_of_ends_by_is_flow_of_ends_unless_copy : {E : Type 0} (r : Result Flow E) (l : Link) (item : Item) → (is_copy l && is_packet item) ≡ false
+pub ok_flow_of_ends : {E : Type 0} (r : Result Flow E) (l : Link) (item : Item) → (is_copy l && is_packet item) ≡ false
     → IfOk r (λ x. x ≡ flow_after (request_ends item)) → IfOk r (λ x. x ≡ flow_after (item_ends l item))
-ok_flow_of_ends_by_is_flow_of_ends_unless_copy r l item new p = subst (λ (b : Bool). IfOk r (λ x. x ≡ flow_after b)) (sym (not_copy_and_ends_by_is_ends_by_unless_copied_packet (is_copy l) item new)) p
+ok_flow_of_ends r l item new p = subst (λ (b : Bool). IfOk r (λ x. x ≡ flow_after b)) (sym (not_copy_and_ends (is_copy l) item new)) p
 
 -- ---- packets, whose request is read first
 
-pub sent_answer_to_packet_by_request : (l : Link) (payload : List ℕ) (asked : Request) (next : Link) (w w1 w2 : Option (List ℕ)) → asked ≡ request_of payload
+pub packet_answer_sent : (l : Link) (payload : List ℕ) (asked : Request) (next : Link) (w w1 w2 : Option (List ℕ)) → asked ≡ request_of payload
     → Appends w w1 (sign l (codes "+")) → Sent (AnswersRequest l payload asked) next w1 w2 → Sent (AnswersPacket l payload) next w w2
-sent_answer_to_packet_by_request l payload asked next w w1 w2 is first rest = sent_answer_to_packet l payload next w w1 w2 first
+packet_answer_sent l payload asked next w w1 w2 is first rest = sent_answer_to_packet l payload next w w1 w2 first
     (subst (λ (r : Request). Sent (AnswersRequest l payload r) next w1 w2) is rest)
 
-pub sent_part_of_answer_to_packet_by_request : (l : Link) (payload : List ℕ) (asked : Request) (w w1 w2 : Option (List ℕ)) → asked ≡ request_of payload
+pub packet_answer_part : (l : Link) (payload : List ℕ) (asked : Request) (w w1 w2 : Option (List ℕ)) → asked ≡ request_of payload
     → Appends w w1 (sign l (codes "+")) → SentInPart (AnswersRequest l payload asked) [] w1 w2
     → SentInPart (AnswersPacket l payload) (sign l (codes "+")) w w2
-sent_part_of_answer_to_packet_by_request l payload asked w w1 w2 is first rest = sent_part_of_answer_to_packet l payload w w1 w2 first
+packet_answer_part l payload asked w w1 w2 is first rest = packet_answer_in_part l payload w w1 w2 first
     (subst (λ (r : Request). SentInPart (AnswersRequest l payload r) [] w1 w2) is rest)

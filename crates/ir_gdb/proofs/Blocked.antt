@@ -6,11 +6,11 @@ use Rattle.std.proofs.lemmas.Bool.Decides.{nat_tests}
 use Rattle.ir_lemmas.proofs.CallerLemmas.{conjuncts_are_true, false_if_not_is_true}
 use Rattle.ir_runs.specs.Run.{Step, count, Cut, IsLeast, IsGreatest}
 use Rattle.ir_runs.specs.Verdicts.{sum_below}
-use Rattle.ir_runs.proofs.CallerLemmas.{sum_below_less_if_one_less, least_cut_exact_at_thread, greatest_cut_exact_at_thread}
+use Rattle.ir_runs.proofs.CallerLemmas.{sum_below_less, least_exact_at_thread, greatest_exact_at_thread}
 use Rattle.ir_fit.specs.Fit.{FittedTrace, IsRunOf}
-use Rattle.ir_fit.proofs.CallerLemmas.{no_trail_of_missing_thread}
+use Rattle.ir_fit.proofs.CallerLemmas.{missing_has_no_trail}
 use Rattle.ir_cut.specs.Positions.{machine_of, start_of, cut_of, threads_of}
-use Rattle.ir_weave.proofs.CallerLemmas.{guest_machine_is_lawful, state_invariant_at_guest_start}
+use Rattle.ir_weave.proofs.CallerLemmas.{guest_machine_is_lawful, guest_start_invariant}
 use Rattle.ir_command.specs.declared.command.Direction.{Direction}
 use Rattle.ir_command.specs.declared.command.Direction.TheVariants.{Forwards, Backwards}
 use Rattle.ir_gdb.specs.declared.stopped.Stopped.{Stopped}
@@ -18,7 +18,7 @@ use Rattle.ir_gdb.specs.Stub.{Stub}
 use Rattle.ir_gdb.specs.Stops.{position_of, is_hit}
 use Rattle.ir_gdb.specs.Together.{Comes, stop_among, is_on_way, meets, passes, is_free, is_all_free, IsNotMet, NoneMet}
 use Rattle.ir_gdb.specs.Laws.{Stands}
-use Rattle.ir_gdb.proofs.SameCuts.{threads_with_one_least_cut_are_same, threads_with_one_greatest_cut_are_same}
+use Rattle.ir_gdb.proofs.SameCuts.{same_least_same_thread, same_greatest_thread}
 
 -- ---- positions in a direction
 
@@ -35,13 +35,13 @@ on_way_if_within : (d : Direction) (a b : ℕ) → Within d a b → is_on_way d 
 on_way_if_within Forwards a b le = le-leb a b le
 on_way_if_within Backwards a b le = le-leb b a le
 
-within_step : (d : Direction) (a b c : ℕ) → Within d a b → Within d b c → Within d a c
-within_step Forwards a b c one two = omega (arith, one, two)
-within_step Backwards a b c one two = omega (arith, one, two)
+within_transitive : (d : Direction) (a b c : ℕ) → Within d a b → Within d b c → Within d a c
+within_transitive Forwards a b c one two = omega (arith, one, two)
+within_transitive Backwards a b c one two = omega (arith, one, two)
 
-same_if_within_both_ways : (d : Direction) (a b : ℕ) → Within d a b → Within d b a → a ≡ b
-same_if_within_both_ways Forwards a b one two = omega (arith, one, two)
-same_if_within_both_ways Backwards a b one two = omega (arith, one, two)
+within_antisymmetric : (d : Direction) (a b : ℕ) → Within d a b → Within d b a → a ≡ b
+within_antisymmetric Forwards a b one two = omega (arith, one, two)
+within_antisymmetric Backwards a b one two = omega (arith, one, two)
 
 -- what stands between stays
 moved_if_nearer_moved : (d : Direction) (here a b : ℕ) → Within d here a → Within d a b → here ≢ a → here ≢ b
@@ -53,56 +53,56 @@ abbrev gone : Direction → ℕ → ℕ → ℕ
 gone Forwards here there = there - here
 gone Backwards here there = here - there
 
-gone_within : (d : Direction) (here a b : ℕ) → Within d a b → gone d here a ≤ gone d here b
-gone_within Forwards here a b le = omega (arith, le)
-gone_within Backwards here a b le = omega (arith, le)
+gone_never_falls : (d : Direction) (here a b : ℕ) → Within d a b → gone d here a ≤ gone d here b
+gone_never_falls Forwards here a b le = omega (arith, le)
+gone_never_falls Backwards here a b le = omega (arith, le)
 
-gone_less : (d : Direction) (here a b : ℕ) → Within d here a → Within d a b → a ≢ b → gone d here a < gone d here b
-gone_less Forwards here a b one two other = elim (cases_lt a b) [ inl less ↦ omega (arith, one, less) | inr from ↦ absurd (other (omega (arith, two, from))) ]
-gone_less Backwards here a b one two other = elim (cases_lt b a) [ inl less ↦ omega (arith, one, less) | inr from ↦ absurd (other (omega (arith, two, from))) ]
+gone_falls_if_nearer : (d : Direction) (here a b : ℕ) → Within d here a → Within d a b → a ≢ b → gone d here a < gone d here b
+gone_falls_if_nearer Forwards here a b one two other = elim (cases_lt a b) [ inl less ↦ omega (arith, one, less) | inr from ↦ absurd (other (omega (arith, two, from))) ]
+gone_falls_if_nearer Backwards here a b one two other = elim (cases_lt b a) [ inl less ↦ omega (arith, one, less) | inr from ↦ absurd (other (omega (arith, two, from))) ]
 
 -- ---- the cut to which a thread comes
 
 -- there is no step of a thread that there isn't
-no_step_of_missing_thread : (f : FittedTrace) (run : List Step) → IsRunOf f.guest f.recorded run → (x : ℕ) → threads_of f ≤ x
+missing_thread_no_step : (f : FittedTrace) (run : List Step) → IsRunOf f.guest f.recorded run → (x : ℕ) → threads_of f ≤ x
     → count (machine_of f) (start_of f) run x ≡ 0
-no_step_of_missing_thread f run whole x past = ap length (no_trail_of_missing_thread f run whole x past)
+missing_thread_no_step f run whole x past = ap length (missing_has_no_trail f run whole x past)
 
-pub comes_on : (run : List Step) (s : Stub) (d : Direction) (u k : ℕ) (cut : List ℕ) → Comes run s d u k cut → (x : ℕ) → Within d (position_of s x) (cut_of cut x)
-comes_on run s Forwards u k cut comes x = comes.1.above x
-comes_on run s Backwards u k cut comes x = comes.1.below x
+pub comes_within_cut : (run : List Step) (s : Stub) (d : Direction) (u k : ℕ) (cut : List ℕ) → Comes run s d u k cut → (x : ℕ) → Within d (position_of s x) (cut_of cut x)
+comes_within_cut run s Forwards u k cut comes x = comes.1.above x
+comes_within_cut run s Backwards u k cut comes x = comes.1.below x
 
 -- it goes no further than another that takes the thread as far
-comes_no_further : (run : List Step) (s : Stub) (d : Direction) (u k t j : ℕ) (own cut : List ℕ) → Comes run s d u k own → Comes run s d t j cut
+comes_within_other_cut : (run : List Step) (s : Stub) (d : Direction) (u k t j : ℕ) (own cut : List ℕ) → Comes run s d u k own → Comes run s d t j cut
     → Within d k (cut_of cut u) → (x : ℕ) → Within d (cut_of own x) (cut_of cut x)
-comes_no_further run s Forwards u k t j own cut comes goes way x = comes.1.least (cut_of cut) goes.1.cut goes.1.consistent goes.1.above way x
-comes_no_further run s Backwards u k t j own cut comes goes way x = comes.1.greatest (cut_of cut) goes.1.cut goes.1.consistent goes.1.below way x
+comes_within_other_cut run s Forwards u k t j own cut comes goes way x = comes.1.least (cut_of cut) goes.1.cut goes.1.consistent goes.1.above way x
+comes_within_other_cut run s Backwards u k t j own cut comes goes way x = comes.1.greatest (cut_of cut) goes.1.cut goes.1.consistent goes.1.below way x
 
-comes_to_position : (run : List Step) (s : Stub) (d : Direction) (u k : ℕ) (cut : List ℕ) → Comes run s d u k cut → Within d k (cut_of cut u)
-comes_to_position run s Forwards u k cut comes = comes.1.reaches
-comes_to_position run s Backwards u k cut comes = comes.1.reaches
+comes_past_position : (run : List Step) (s : Stub) (d : Direction) (u k : ℕ) (cut : List ℕ) → Comes run s d u k cut → Within d k (cut_of cut u)
+comes_past_position run s Forwards u k cut comes = comes.1.reaches
+comes_past_position run s Backwards u k cut comes = comes.1.reaches
 
-pub comes_exactly : (run : List Step) (s : Stub) → Stands run s → (d : Direction) (u k : ℕ) (cut : List ℕ) → Within d (position_of s u) k
+pub comes_exactly_there : (run : List Step) (s : Stub) → Stands run s → (d : Direction) (u k : ℕ) (cut : List ℕ) → Within d (position_of s u) k
     → Comes run s d u k cut → cut_of cut u ≡ k
-comes_exactly run s stands Forwards u k cut ahead comes =
+comes_exactly_there run s stands Forwards u k cut ahead comes =
     let f = s.desk.fitted in
     let within = comes.1.cut u in
     let reaches = comes.1.reaches in
-    least_cut_exact_at_thread (machine_of f) (guest_machine_is_lawful f) (start_of f) (state_invariant_at_guest_start f) run stands.whole.1.runs
+    least_exact_at_thread (machine_of f) (guest_machine_is_lawful f) (start_of f) (guest_start_invariant f) run stands.whole.1.runs
     (cut_of s.desk.at) (cut_of cut) u k stands.cut stands.consistent ahead (omega (arith, within, reaches)) comes.1
-comes_exactly run s stands Backwards u k cut behind comes =
+comes_exactly_there run s stands Backwards u k cut behind comes =
     let f = s.desk.fitted in
-    greatest_cut_exact_at_thread (machine_of f) (guest_machine_is_lawful f) (start_of f) (state_invariant_at_guest_start f) run stands.whole.1.runs
+    greatest_exact_at_thread (machine_of f) (guest_machine_is_lawful f) (start_of f) (guest_start_invariant f) run stands.whole.1.runs
     (cut_of s.desk.at) (cut_of cut) u k stands.cut stands.consistent behind comes.1
 
 -- two threads that come to one cut, at which some thread has moved, are the same
-threads_that_come_to_one_cut_are_same : (run : List Step) (s : Stub) → Stands run s → (d : Direction) (t j u k : ℕ) (cut own : List ℕ) → Comes run s d t j cut
+same_cut_same_thread : (run : List Step) (s : Stub) → Stands run s → (d : Direction) (t j u k : ℕ) (cut own : List ℕ) → Comes run s d t j cut
     → Comes run s d u k own → ((x : ℕ) → cut_of own x ≡ cut_of cut x) → (x : ℕ) → position_of s x ≢ cut_of cut x → t ≡ u
-threads_that_come_to_one_cut_are_same run s stands Forwards t j u k cut own goes comes same x moved =
+same_cut_same_thread run s stands Forwards t j u k cut own goes comes same x moved =
     let f = s.desk.fitted in
     let up = goes.1.above x in
-    threads_with_one_least_cut_are_same (machine_of f) (guest_machine_is_lawful f) (start_of f) (state_invariant_at_guest_start f) run stands.whole.1.runs
-    (threads_of f) (no_step_of_missing_thread f run stands.whole) (cut_of s.desk.at) (cut_of cut) t j u k stands.consistent goes.1 least x
+    same_least_same_thread (machine_of f) (guest_machine_is_lawful f) (start_of f) (guest_start_invariant f) run stands.whole.1.runs
+    (threads_of f) (missing_thread_no_step f run stands.whole) (cut_of s.desk.at) (cut_of cut) t j u k stands.consistent goes.1 least x
     (elim (cases_lt (position_of s x) (cut_of cut x)) [
       | inl less ↦ less
       | inr from ↦ absurd (moved (omega (arith, up, from)))
@@ -116,10 +116,10 @@ threads_that_come_to_one_cut_are_same run s stands Forwards t j u k cut own goes
       reaches = (let reach = comes.1.reaches in let e = same u in omega (arith, reach, e));
       least = λ c is con above reach y. (let le = comes.1.least c is con above reach y in let e = same y in omega (arith, le, e));
     }
-threads_that_come_to_one_cut_are_same run s stands Backwards t j u k cut own goes comes same x moved =
+same_cut_same_thread run s stands Backwards t j u k cut own goes comes same x moved =
     let f = s.desk.fitted in
     let down = goes.1.below x in
-    threads_with_one_greatest_cut_are_same (machine_of f) (guest_machine_is_lawful f) (start_of f) (state_invariant_at_guest_start f) run stands.whole.1.runs
+    same_greatest_thread (machine_of f) (guest_machine_is_lawful f) (start_of f) (guest_start_invariant f) run stands.whole.1.runs
     (cut_of s.desk.at) (cut_of cut) t j u k stands.cut stands.consistent goes.1 greatest x
     (elim (cases_lt (cut_of cut x) (position_of s x)) [
       | inl less ↦ less
@@ -161,12 +161,12 @@ meets_if_hit_on_way s d each cut u is =
     ∙ ap (λ (b : Bool). b && is_on_way d (stop_among each u).position (cut_of cut u)) is.hit ∙ is.way
 
 -- a thread that isn't free of the others meets one
-meeting_thread_if_not_free : (s : Stub) (d : Direction) (each : List Stopped) (cut : List ℕ) (t n : ℕ) → is_free s d each cut t n ≡ false
+not_free_has_meeting : (s : Stub) (d : Direction) (each : List Stopped) (cut : List ℕ) (t n : ℕ) → is_free s d each cut t n ≡ false
     → (v : ℕ) × (v < n) × (v ≢ t) × (meets s d each cut v ≡ true)
 unfolding is_free
-meeting_thread_if_not_free s d each cut t zero test = absurd (cc test)
-meeting_thread_if_not_free s d each cut t (suc n) test = by (and_cases (is_free s d each cut t n) (passes s d each cut t n) test)
-    (λ not_free. meeting_thread_if_not_free s d each cut t n not_free)
+not_free_has_meeting s d each cut t zero test = absurd (cc test)
+not_free_has_meeting s d each cut t (suc n) test = by (and_cases (is_free s d each cut t n) (passes s d each cut t n) test)
+    (λ not_free. not_free_has_meeting s d each cut t n not_free)
   where
     next : passes s d each cut t n ≡ false → (v : ℕ) × (v < suc n) × (v ≢ t) × (meets s d each cut v ≡ true)
     next stays = let parts = or_parts (n == t) (not (meets s d each cut n)) stays in
@@ -203,16 +203,16 @@ meets_none_of_free s d each cut t (suc n) test v below other = by (conjuncts_are
 -- ---- the thread that is blocked by none
 
 -- what thread u meets on its way, t meets on its own
-met_further_on : (run : List Step) (s : Stub) (d : Direction) (each : List Stopped) (u k t j v : ℕ) (own cut : List ℕ) → Comes run s d u k own
+met_within_further_cut : (run : List Step) (s : Stub) (d : Direction) (each : List Stopped) (u k t j v : ℕ) (own cut : List ℕ) → Comes run s d u k own
     → Comes run s d t j cut → Within d k (cut_of cut u) → meets s d each own v ≡ true → meets s d each cut v ≡ true
-met_further_on run s d each u k t j v own cut comes goes way test =
+met_within_further_cut run s d each u k t j v own cut comes goes way test =
     let met = hit_on_way_if_meets s d each own v test in
-    let further = comes_no_further run s d u k t j own cut comes goes way v in
+    let further = comes_within_other_cut run s d u k t j own cut comes goes way v in
     meets_if_hit_on_way s d each cut v (record {
-      moved = moved_if_nearer_moved d (position_of s v) (cut_of own v) (cut_of cut v) (comes_on run s d u k own comes v) further met.moved;
+      moved = moved_if_nearer_moved d (position_of s v) (cut_of own v) (cut_of cut v) (comes_within_cut run s d u k own comes v) further met.moved;
       hit = met.hit;
       way = on_way_if_within d (stop_among each v).position (cut_of cut v)
-          (within_step d (stop_among each v).position (cut_of own v) (cut_of cut v)
+          (within_transitive d (stop_among each v).position (cut_of own v) (cut_of cut v)
           (within_if_on_way d (stop_among each v).position (cut_of own v) met.way) further);
     })
 
@@ -222,22 +222,22 @@ IsNearest s d each t j = (k : ℕ) → position_of s t ≢ k → Within d (posit
     → Within d (stop_among each t).position k → Within d j k
 
 -- where u meets t and goes no further than t, they come to one cut
-one_cut_if_mover_is_met : (run : List Step) (s : Stub) → Stands run s → (d : Direction) (each : List Stopped) (u t j : ℕ) (own cut : List ℕ)
+met_mover_is_thread : (run : List Step) (s : Stub) → Stands run s → (d : Direction) (each : List Stopped) (u t j : ℕ) (own cut : List ℕ)
     → Comes run s d u (stop_among each u).position own → Comes run s d t j cut → IsNearest s d each t j
     → Within d (stop_among each u).position (cut_of cut u) → meets s d each own t ≡ true → t ≡ u
-one_cut_if_mover_is_met run s stands d each u t j own cut comes goes near way test =
+met_mover_is_thread run s stands d each u t j own cut comes goes near way test =
     let met = hit_on_way_if_meets s d each own t test in
     let k = (stop_among each u).position in
-    let there = near (cut_of own t) met.moved (comes_on run s d u k own comes t) met.hit
+    let there = near (cut_of own t) met.moved (comes_within_cut run s d u k own comes t) met.hit
     (within_if_on_way d (stop_among each t).position (cut_of own t) met.way) in
-    let same = λ (x : ℕ). same_if_within_both_ways d (cut_of own x) (cut_of cut x) (comes_no_further run s d u k t j own cut comes goes way x)
-    (comes_no_further run s d t j u k cut own goes comes there x) in
-    threads_that_come_to_one_cut_are_same run s stands d t j u k cut own goes comes same t (λ is. met.moved (is ∙ sym (same t)))
+    let same = λ (x : ℕ). within_antisymmetric d (cut_of own x) (cut_of cut x) (comes_within_other_cut run s d u k t j own cut comes goes way x)
+    (comes_within_other_cut run s d t j u k cut own goes comes there x) in
+    same_cut_same_thread run s stands d t j u k cut own goes comes same t (λ is. met.moved (is ∙ sym (same t)))
 
 -- two cuts differ below a number, or don't
-differs_or_same : (p q : Cut) (n : ℕ) → ((x : ℕ) × (x < n) × (p x ≢ q x)) ⊎ ((x : ℕ) → x < n → p x ≡ q x)
-differs_or_same p q zero = inr (λ x below. absurd (omega (arith, below)))
-differs_or_same p q (suc n) = elim (differs_or_same p q n) [
+cuts_differ_or_same : (p q : Cut) (n : ℕ) → ((x : ℕ) × (x < n) × (p x ≢ q x)) ⊎ ((x : ℕ) → x < n → p x ≡ q x)
+cuts_differ_or_same p q zero = inr (λ x below. absurd (omega (arith, below)))
+cuts_differ_or_same p q (suc n) = elim (cuts_differ_or_same p q n) [
   | inl found ↦ inl (found.0, (let l = found.1 in omega (arith, l)), found.2)
   | inr all ↦ elim (cases_eq (p n) (q n)) [
     | inr ne ↦ inl (n, omega arith, ne)
@@ -249,11 +249,11 @@ differs_or_same p q (suc n) = elim (differs_or_same p q n) [
 ]
 
 -- a thread that another meets goes less far
-met_thread_goes_less : (run : List Step) (s : Stub) → Stands run s → (d : Direction) (each : List Stopped) (u v : ℕ) (own next : List ℕ) → v ≢ u
+met_thread_lowers_gone : (run : List Step) (s : Stub) → Stands run s → (d : Direction) (each : List Stopped) (u v : ℕ) (own next : List ℕ) → v ≢ u
     → Comes run s d u (stop_among each u).position own → Comes run s d v (stop_among each v).position next → meets s d each own v ≡ true
     → sum_below (threads_of s.desk.fitted) (λ x. gone d (position_of s x) (cut_of next x))
     < sum_below (threads_of s.desk.fitted) (λ x. gone d (position_of s x) (cut_of own x))
-met_thread_goes_less run s stands d each u v own next other comes goes test = by (differs_or_same (cut_of next) (cut_of own) (threads_of s.desk.fitted))
+met_thread_lowers_gone run s stands d each u v own next other comes goes test = by (cuts_differ_or_same (cut_of next) (cut_of own) (threads_of s.desk.fitted))
   where
     n : ℕ
     n = threads_of s.desk.fitted
@@ -262,7 +262,7 @@ met_thread_goes_less run s stands d each u v own next other comes goes test = by
     met = hit_on_way_if_meets s d each own v test
 
     within : (x : ℕ) → Within d (cut_of next x) (cut_of own x)
-    within = comes_no_further run s d v (stop_among each v).position u (stop_among each u).position next own goes comes
+    within = comes_within_other_cut run s d v (stop_among each v).position u (stop_among each u).position next own goes comes
         (within_if_on_way d (stop_among each v).position (cut_of own v) met.way)
 
     missing : (x : ℕ) → n ≤ x → cut_of next x ≡ cut_of own x
@@ -271,18 +271,18 @@ met_thread_goes_less run s stands d each u v own next other comes goes test = by
         zero_both : (d : Direction) (next own : List ℕ) → Comes run s d v (stop_among each v).position next → Comes run s d u (stop_among each u).position own
             → cut_of next x ≡ cut_of own x
         zero_both Forwards next own goes comes =
-            let a = goes.1.cut x in let b = comes.1.cut x in let none = no_step_of_missing_thread s.desk.fitted run stands.whole x past in omega (arith, a, b, none)
+            let a = goes.1.cut x in let b = comes.1.cut x in let none = missing_thread_no_step s.desk.fitted run stands.whole x past in omega (arith, a, b, none)
         zero_both Backwards next own goes comes =
-            let a = goes.1.cut x in let b = comes.1.cut x in let none = no_step_of_missing_thread s.desk.fitted run stands.whole x past in omega (arith, a, b, none)
+            let a = goes.1.cut x in let b = comes.1.cut x in let none = missing_thread_no_step s.desk.fitted run stands.whole x past in omega (arith, a, b, none)
 
     by : ((x : ℕ) × (x < n) × (cut_of next x ≢ cut_of own x)) ⊎ ((x : ℕ) → x < n → cut_of next x ≡ cut_of own x)
         → sum_below n (λ x. gone d (position_of s x) (cut_of next x)) < sum_below n (λ x. gone d (position_of s x) (cut_of own x))
-    by (inl (x, below, differs)) = sum_below_less_if_one_less n x (λ y. gone d (position_of s y) (cut_of next y)) (λ y. gone d (position_of s y) (cut_of own y)) below
-        (gone_less d (position_of s x) (cut_of next x) (cut_of own x) (comes_on run s d v (stop_among each v).position next goes x) (within x) differs)
-        (λ y. gone_within d (position_of s y) (cut_of next y) (cut_of own y) (within y))
+    by (inl (x, below, differs)) = sum_below_less n x (λ y. gone d (position_of s y) (cut_of next y)) (λ y. gone d (position_of s y) (cut_of own y)) below
+        (gone_falls_if_nearer d (position_of s x) (cut_of next x) (cut_of own x) (comes_within_cut run s d v (stop_among each v).position next goes x) (within x) differs)
+        (λ y. gone_never_falls d (position_of s y) (cut_of next y) (cut_of own y) (within y))
     by (inr all) =
         let same : (x : ℕ) → cut_of next x ≡ cut_of own x = λ x. elim (cases_lt x n) [ inl below ↦ all x below | inr past ↦ missing x past ] in
-        absurd (other (sym (threads_that_come_to_one_cut_are_same run s stands d u (stop_among each u).position v (stop_among each v).position own next comes goes
+        absurd (other (sym (same_cut_same_thread run s stands d u (stop_among each u).position v (stop_among each v).position own next comes goes
         same v met.moved)))
 
 -- how far all threads go to a cut
@@ -297,12 +297,12 @@ record IsBlocked (run : List Step) (s : Stub) (d : Direction) (each : List Stopp
   blocked : is_all_free s d each own u ≡ false
 
 -- it is blocked by another such, which goes less far
-blocked_by_another : (run : List Step) (s : Stub) → Stands run s → (d : Direction) (each : List Stopped) (t j : ℕ) (cut : List ℕ) → Comes run s d t j cut
+blocked_by_nearer_thread : (run : List Step) (s : Stub) → Stands run s → (d : Direction) (each : List Stopped) (t j : ℕ) (cut : List ℕ) → Comes run s d t j cut
     → IsNearest s d each t j → NoneMet run s d each cut t (threads_of s.desk.fitted)
     → (u : ℕ) (own : List ℕ) → IsBlocked run s d each t cut u own
     → (v : ℕ) × (next : List ℕ) × IsBlocked run s d each t cut v next × (distance s d next < distance s d own)
-blocked_by_another run s stands d each t j cut goes near none u own is =
-    by (meeting_thread_if_not_free s d each own u (threads_of s.desk.fitted) is.blocked)
+blocked_by_nearer_thread run s stands d each t j cut goes near none u own is =
+    by (not_free_has_meeting s d each own u (threads_of s.desk.fitted) is.blocked)
   where
     Found : Type 0
     Found = (v : ℕ) × (next : List ℕ) × IsBlocked run s d each t cut v next × (distance s d next < distance s d own)
@@ -316,34 +316,34 @@ blocked_by_another run s stands d each t j cut goes near none u own is =
       v,
       next,
       record { other = not_mover; met = further; comes = on; blocked = blocks },
-      met_thread_goes_less run s stands d each u v own next differs is.comes on met,
+      met_thread_lowers_gone run s stands d each u v own next differs is.comes on met,
     )
 
     by : (v : ℕ) × (v < threads_of s.desk.fitted) × (v ≢ u) × (meets s d each own v ≡ true) → Found
     by (v, below, differs, met) = elim (cases_eq v t) [
-      | inl same ↦ absurd (is.other (sym (one_cut_if_mover_is_met run s stands d each u t j own cut is.comes goes near way
+      | inl same ↦ absurd (is.other (sym (met_mover_is_thread run s stands d each u t j own cut is.comes goes near way
           (subst (λ (x : ℕ). meets s d each own x ≡ true) same met))))
       | inr not_mover ↦ of_thread v differs not_mover met
-          (met_further_on run s d each u (stop_among each u).position t j v own cut is.comes goes way met) (none v below not_mover)
+          (met_within_further_cut run s d each u (stop_among each u).position t j v own cut is.comes goes way met) (none v below not_mover)
     ]
 
 -- blocked hits lead from one to the next, each less far, and so to none
-no_blocked_hit : (run : List Step) (s : Stub) → Stands run s → (d : Direction) (each : List Stopped) (t j : ℕ) (cut : List ℕ) → Comes run s d t j cut
+no_thread_stays_blocked : (run : List Step) (s : Stub) → Stands run s → (d : Direction) (each : List Stopped) (t j : ℕ) (cut : List ℕ) → Comes run s d t j cut
     → IsNearest s d each t j → NoneMet run s d each cut t (threads_of s.desk.fitted)
     → (left u : ℕ) (own : List ℕ) → IsBlocked run s d each t cut u own → distance s d own ≤ left → ⊥
-no_blocked_hit run s stands d each t j cut goes near none zero u own is within =
-    let (v, next, blocked, less) = blocked_by_another run s stands d each t j cut goes near none u own is in omega (arith, less, within)
-no_blocked_hit run s stands d each t j cut goes near none (suc left) u own is within =
-    let (v, next, blocked, less) = blocked_by_another run s stands d each t j cut goes near none u own is in
-    no_blocked_hit run s stands d each t j cut goes near none left v next blocked (omega (arith, less, within))
+no_thread_stays_blocked run s stands d each t j cut goes near none zero u own is within =
+    let (v, next, blocked, less) = blocked_by_nearer_thread run s stands d each t j cut goes near none u own is in omega (arith, less, within)
+no_thread_stays_blocked run s stands d each t j cut goes near none (suc left) u own is within =
+    let (v, next, blocked, less) = blocked_by_nearer_thread run s stands d each t j cut goes near none u own is in
+    no_thread_stays_blocked run s stands d each t j cut goes near none left v next blocked (omega (arith, less, within))
 
 -- where no thread is met, none has a hit on the way
-pub no_hit_on_way_if_none_met : (run : List Step) (s : Stub) → Stands run s → (d : Direction) (each : List Stopped) (t j : ℕ) (cut : List ℕ)
+pub none_met_on_way : (run : List Step) (s : Stub) → Stands run s → (d : Direction) (each : List Stopped) (t j : ℕ) (cut : List ℕ)
     → Comes run s d t j cut → IsNearest s d each t j → NoneMet run s d each cut t (threads_of s.desk.fitted) → (u : ℕ) → u < threads_of s.desk.fitted → u ≢ t → meets s d each cut u ≡ false
-no_hit_on_way_if_none_met run s stands d each t j cut goes near none u below other = by (meets s d each cut u) refl (none u below other)
+none_met_on_way run s stands d each t j cut goes near none u below other = by (meets s d each cut u) refl (none u below other)
   where
     by : (b : Bool) → meets s d each cut u ≡ b → IsNotMet run s d each cut u → b ≡ false
     by false is not_met = refl
     by true is (inl isnt) = absurd (cc (is, isnt))
-    by true is (inr (own, comes, blocks)) = absurd (no_blocked_hit run s stands d each t j cut goes near none (distance s d own) u own
+    by true is (inr (own, comes, blocks)) = absurd (no_thread_stays_blocked run s stands d each t j cut goes near none (distance s d own) u own
         (record { other = other; met = is; comes = comes; blocked = blocks }) (omega arith))

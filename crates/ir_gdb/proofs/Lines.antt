@@ -13,11 +13,11 @@ use Rattle.ir_gdb.specs.declared.console.Answered.{Answered}
 use Rattle.ir_gdb.specs.Connection.{Link, with_desk, Responds, Consults}
 
 -- the answer's text is one that the small machine may reply with
-pub responds_by_session_answer : (asked : Result (Option Command) Refusal) (line : List ℕ) (s next : Stub) (old new : Debugging) (answer : Answer) (P : List ℕ → Type 0)
+pub responds_by_answer : (asked : Result (Option Command) Refusal) (line : List ℕ) (s next : Stub) (old new : Debugging) (answer : Answer) (P : List ℕ → Type 0)
     → asked ≡ command_of line → s.desk ≡ old.desk → next ≡ with_desk s new.desk → IsAnswer asked old new answer → IsText new answer P
     → Responds s line next P
 unfolding Replies
-responds_by_session_answer asked line s next old new answer P is same after a t = (t.0, new.desk, replies, after, t.2)
+responds_by_answer asked line s next old new answer P is same after a t = (t.0, new.desk, replies, after, t.2)
   where
     replies : Replies s.desk line t.0 new.desk
     replies = subst (λ (d : Desk). Replies d line t.0 new.desk) (sym same) (λ run of.
@@ -27,26 +27,26 @@ responds_by_session_answer asked line s next old new answer P is same after a t 
         (subst (λ (text : List ℕ). RepliesBy asked run old.desk text new.desk) (sym (t.1 run at)) (a.answers run of)))
 
 -- a line without words has no answer
-pub responds_nothing_to_line_without_command : (asked : Result (Option Command) Refusal) (line : List ℕ) (s : Stub) (P : List ℕ → Type 0) → asked ≡ command_of line
+pub no_command_no_response : (asked : Result (Option Command) Refusal) (line : List ℕ) (s : Stub) (P : List ℕ → Type 0) → asked ≡ command_of line
     → asked ≡ Ok None → P [] → Responds s line s P
 unfolding Replies
-responds_nothing_to_line_without_command asked line s P is none p = ([], s.desk, replies, refl, p)
+no_command_no_response asked line s P is none p = ([], s.desk, replies, refl, p)
   where
     replies : Replies s.desk line [] s.desk
     replies = λ run of. subst (λ (x : Result (Option Command) Refusal). RepliesBy x run s.desk [] s.desk) (sym none ∙ is) (refl, refl)
 
 -- ---- a line that is read
 
-pub line_quits_if_text_quits : (line text : List ℕ) (b : Bool) → b ≡ quits text → text ≡ line → b ≡ true → quits line ≡ true
-line_quits_if_text_quits line text b is same q = sym (ap quits same) ∙ sym is ∙ q
+pub line_quits_by_text : (line text : List ℕ) (b : Bool) → b ≡ quits text → text ≡ line → b ≡ true → quits line ≡ true
+line_quits_by_text line text b is same q = sym (ap quits same) ∙ sym is ∙ q
 
-pub line_does_not_quit_if_text_does_not : (line text : List ℕ) (b : Bool) → b ≡ quits text → text ≡ line → b ≡ false → quits line ≡ false
-line_does_not_quit_if_text_does_not line text b is same q = sym (ap quits same) ∙ sym is ∙ q
+pub line_does_not_quit : (line text : List ℕ) (b : Bool) → b ≡ quits text → text ≡ line → b ≡ false → quits line ≡ false
+line_does_not_quit line text b is same q = sym (ap quits same) ∙ sym is ∙ q
 
 -- what a session answers, kept from nothing on
-pub responds_kept_text_if_kept_from_empty : (s s0 : Stub) (text line : List ℕ) (next : Stub) (old new : List ℕ) → s ≡ s0 → text ≡ line → old ≡ []
+pub responds_kept_text : (s s0 : Stub) (text line : List ℕ) (next : Stub) (old new : List ℕ) → s ≡ s0 → text ≡ line → old ≡ []
     → Responds s text next (λ answer. new ≡ old ++ answer) → Responds s0 line next (λ answer. new ≡ answer)
-responds_kept_text_if_kept_from_empty s s0 text line next old new same is none r = (
+responds_kept_text s s0 text line next old new same is none r = (
   r.0,
   r.1,
   subst (λ (x : Stub). Replies x.desk line r.0 r.1) same (subst (λ (x : List ℕ). Replies s.desk x r.0 r.1) is r.2),

@@ -13,33 +13,33 @@ use Rattle.ir_gdb.specs.Points.{word_points, watched_words, watch_points, break_
 
 -- ---- words, one by one
 
-pub word_points_of_nonzero_count_is_first_and_rest : (t number n address : ℕ) → (n ≡ 0 → ⊥)
+pub word_points_cons : (t number n address : ℕ) → (n ≡ 0 → ⊥)
     → word_points t number n address ≡ record { number = number; point = Watch t address } ∷ word_points t number (n - 1) (address + 4)
 unfolding word_points
-word_points_of_nonzero_count_is_first_and_rest t number zero address some = absurd (some refl)
-word_points_of_nonzero_count_is_first_and_rest t number (suc n) address some =
+word_points_cons t number zero address some = absurd (some refl)
+word_points_cons t number (suc n) address some =
     let less : n ≡ suc n - 1 = omega arith in
     ap (λ k. record { number = number; point = Watch t address } ∷ word_points t number k (address + 4)) less
 
-pub append_of_push_is_append_of_cons : (old items new tail whole : List Numbered) (x : Numbered) → items ≡ old ++ x ∷ [] → whole ≡ x ∷ tail → new ≡ items ++ tail
+pub append_push_is_cons : (old items new tail whole : List Numbered) (x : Numbered) → items ≡ old ++ x ∷ [] → whole ≡ x ∷ tail → new ≡ items ++ tail
     → new ≡ old ++ whole
-append_of_push_is_append_of_cons old items new tail whole x pushed is put =
+append_push_is_cons old items new tail whole x pushed is put =
     put ∙ ap (λ xs. xs ++ tail) pushed ∙ append_assoc old (x ∷ []) tail ∙ ap (λ xs. old ++ xs) (sym is)
 
 -- ---- watched words below the objects' are words of private memory
 
-appended_points_are_watchable : (xs ys : List Numbered) → AreWatchable xs → AreWatchable ys → AreWatchable (xs ++ ys)
-appended_points_are_watchable [] ys first rest = rest
-appended_points_are_watchable (x ∷ xs) ys first rest = (first.0, appended_points_are_watchable xs ys first.1 rest)
+watchable_append : (xs ys : List Numbered) → AreWatchable xs → AreWatchable ys → AreWatchable (xs ++ ys)
+watchable_append [] ys first rest = rest
+watchable_append (x ∷ xs) ys first rest = (first.0, watchable_append xs ys first.1 rest)
 
-word_points_are_watchable : (t number n address : ℕ) → address % 4 ≡ 0 → memory_start ≤ address
+word_points_watchable : (t number n address : ℕ) → address % 4 ≡ 0 → memory_start ≤ address
     → (address < objects_start → address + 4 * n ≤ memory_start + memory_size)
     → AreWatchable (word_points t number n address)
 unfolding word_points
-word_points_are_watchable t number zero address aligned low high = tt
-word_points_are_watchable t number (suc n) address aligned low high = (
+word_points_watchable t number zero address aligned low high = tt
+word_points_watchable t number (suc n) address aligned low high = (
   λ own. record { aligned = aligned; low = low; high = let within = high own in omega (arith, within) },
-  word_points_are_watchable t number n (address + 4) (omega (arith, aligned)) (omega (arith, low)) (λ own. let within = high (omega (arith, own)) in omega (arith, within)),
+  word_points_watchable t number n (address + 4) (omega (arith, aligned)) (omega (arith, low)) (λ own. let within = high (omega (arith, own)) in omega (arith, within)),
 )
 
 -- the words of a watch that isn't of the objects end where private memory does, or before
@@ -50,38 +50,38 @@ words_end_in_memory w is less =
     let low = is.low in
     omega (arith, low, own)
 
-watch_points_are_watchable : (t number : ℕ) (ws : List Watched) → AllByRecursion IsWatched ws → AreWatchable (watch_points t number ws)
+watches_are_watchable : (t number : ℕ) (ws : List Watched) → AllByRecursion IsWatched ws → AreWatchable (watch_points t number ws)
 unfolding watch_points
-watch_points_are_watchable t number [] all = tt
-watch_points_are_watchable t number (w ∷ ws) all =
+watches_are_watchable t number [] all = tt
+watches_are_watchable t number (w ∷ ws) all =
     let first = all.0 in
-    appended_points_are_watchable (word_points t number (watched_words w) (w.address / 4 * 4)) (watch_points t (number + 1) ws)
-    (word_points_are_watchable t number (watched_words w) (w.address / 4 * 4) (omega arith) (omega (arith, first.low)) (words_end_in_memory w first))
-    (watch_points_are_watchable t (number + 1) ws all.1)
+    watchable_append (word_points t number (watched_words w) (w.address / 4 * 4)) (watch_points t (number + 1) ws)
+    (word_points_watchable t number (watched_words w) (w.address / 4 * 4) (omega arith) (omega (arith, first.low)) (words_end_in_memory w first))
+    (watches_are_watchable t (number + 1) ws all.1)
 
-break_points_are_watchable : (t number : ℕ) (bs : List Breakpoint) → AreWatchable (break_points t number bs)
+breaks_are_watchable : (t number : ℕ) (bs : List Breakpoint) → AreWatchable (break_points t number bs)
 unfolding break_points
-break_points_are_watchable t number [] = tt
-break_points_are_watchable t number (b ∷ bs) = (tt, break_points_are_watchable t (number + 1) bs)
+breaks_are_watchable t number [] = tt
+breaks_are_watchable t number (b ∷ bs) = (tt, breaks_are_watchable t (number + 1) bs)
 
-own_points_are_watchable : (number : ℕ) (ps : List Numbered) → AreWatchable ps → AreWatchable (own_points number ps)
+own_are_watchable : (number : ℕ) (ps : List Numbered) → AreWatchable ps → AreWatchable (own_points number ps)
 unfolding own_points
-own_points_are_watchable number [] all = tt
-own_points_are_watchable number (p ∷ ps) all = (all.0, own_points_are_watchable number ps all.1)
+own_are_watchable number [] all = tt
+own_are_watchable number (p ∷ ps) all = (all.0, own_are_watchable number ps all.1)
 
-pub put_watch_points_are_watchable : (items : List Numbered) (t : ℕ) (ws : List Watched) → items ≡ watch_points t 0 ws → AllByRecursion IsWatched ws → AreWatchable items
-put_watch_points_are_watchable items t ws is all = subst AreWatchable (sym is) (watch_points_are_watchable t 0 ws all)
+pub put_are_watchable : (items : List Numbered) (t : ℕ) (ws : List Watched) → items ≡ watch_points t 0 ws → AllByRecursion IsWatched ws → AreWatchable items
+put_are_watchable items t ws is all = subst AreWatchable (sym is) (watches_are_watchable t 0 ws all)
 
-pub points_upwards_are_watchable : (items : List Numbered) (t : ℕ) (ws : List Watched) (bs : List Breakpoint) (own : List Numbered)
+pub upwards_are_watchable : (items : List Numbered) (t : ℕ) (ws : List Watched) (bs : List Breakpoint) (own : List Numbered)
     → items ≡ points_upwards t ws bs own → AllByRecursion IsWatched ws → AreWatchable own → AreWatchable items
-points_upwards_are_watchable items t ws bs own is all mine =
-    let first = appended_points_are_watchable (watch_points t 0 ws) (break_points t (length ws) bs) (watch_points_are_watchable t 0 ws all) (break_points_are_watchable t (length ws) bs) in
-    subst AreWatchable (sym is) (appended_points_are_watchable (watch_points t 0 ws ++ break_points t (length ws) bs) (own_points (length ws + length bs) own) first
-    (own_points_are_watchable (length ws + length bs) own mine))
+upwards_are_watchable items t ws bs own is all mine =
+    let first = watchable_append (watch_points t 0 ws) (break_points t (length ws) bs) (watches_are_watchable t 0 ws all) (breaks_are_watchable t (length ws) bs) in
+    subst AreWatchable (sym is) (watchable_append (watch_points t 0 ws ++ break_points t (length ws) bs) (own_points (length ws + length bs) own) first
+    (own_are_watchable (length ws + length bs) own mine))
 
-pub points_downwards_are_watchable : (items : List Numbered) (t : ℕ) (ws : List Watched) (bs : List Breakpoint) (own : List Numbered)
+pub downwards_are_watchable : (items : List Numbered) (t : ℕ) (ws : List Watched) (bs : List Breakpoint) (own : List Numbered)
     → items ≡ points_downwards t ws bs own → AllByRecursion IsWatched ws → AreWatchable own → AreWatchable items
-points_downwards_are_watchable items t ws bs own is all mine =
-    let first = appended_points_are_watchable (break_points t 0 bs) (watch_points t (length bs) ws) (break_points_are_watchable t 0 bs) (watch_points_are_watchable t (length bs) ws all) in
-    subst AreWatchable (sym is) (appended_points_are_watchable (break_points t 0 bs ++ watch_points t (length bs) ws) (own_points (length bs + length ws) own) first
-    (own_points_are_watchable (length bs + length ws) own mine))
+downwards_are_watchable items t ws bs own is all mine =
+    let first = watchable_append (break_points t 0 bs) (watch_points t (length bs) ws) (breaks_are_watchable t 0 bs) (watches_are_watchable t (length bs) ws all) in
+    subst AreWatchable (sym is) (watchable_append (break_points t 0 bs ++ watch_points t (length bs) ws) (own_points (length bs + length ws) own) first
+    (own_are_watchable (length bs + length ws) own mine))

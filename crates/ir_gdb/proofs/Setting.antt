@@ -3,22 +3,22 @@ use Rattle.std.proofs.Common.{◌≡◌, ◌<◌, ◌≤◌, ◌+◌, ◌*◌, �
 use Rattle.std.specs.Prelude.{◌&&◌, ◌||◌, if◌then◌else◌}
 use Rattle.std.specs.List.{AllByRecursion, filter}
 use Rattle.std.proofs.lemmas.List.Elements.{filter-append}
-use Rattle.ir_lemmas.proofs.CallerLemmas.{all_by_recursion_after_push, length_of_append_item}
+use Rattle.ir_lemmas.proofs.CallerLemmas.{all_of_push, length_of_append_item, conjuncts_are_true}
 use Rattle.ir_image.specs.Guest.{Guest, object_count, most_objects}
 use Rattle.ir_mach.specs.Core.{memory_start, memory_size}
 use Rattle.ir_mach.specs.Execution.{lies_in_memory}
 use Rattle.ir_hits.specs.Hits.{objects_start, object_size}
-use Rattle.ir_debug.proofs.CallerLemmas.{filter_keeps_property_of_all, filter_is_not_longer}
+use Rattle.ir_debug.proofs.CallerLemmas.{filter_keeps_all, filter_is_not_longer}
 use Rattle.ir_gdb.specs.declared.point.Breakpoint.{Breakpoint}
 use Rattle.ir_gdb.specs.declared.point.Watched.{Watched}
-use Rattle.ir_gdb.specs.Stub.{Stub, IsStub, IsWatched, is_shared, shared_of, most_stub_points, most_watched}
+use Rattle.ir_gdb.specs.Stub.{Stub, IsStub, IsWatched, is_shared_break, shared_breaks, most_stub_points, most_watched}
 use Rattle.ir_gdb.specs.Setting.{lies_in_objects, can_watch, is_same_break, is_same_watch, breaks_without, watches_without}
 
 -- ---- a point more
 
-pub stub_with_break_is_stub_if_points_have_room : (s : Stub) (b : Breakpoint) → IsStub s → length s.breaks + length s.watches < most_stub_points
+pub stub_with_break_is_stub : (s : Stub) (b : Breakpoint) → IsStub s → length s.breaks + length s.watches < most_stub_points
     → IsStub (record s { breaks = s.breaks ++ b ∷ [] })
-stub_with_break_is_stub_if_points_have_room s b is room = record {
+stub_with_break_is_stub s b is room = record {
   general = is.general;
   chosen = is.chosen;
   current = is.current;
@@ -33,41 +33,36 @@ each_of_three_is_true true true false e = absurd cc
 each_of_three_is_true true false c e = absurd cc
 each_of_three_is_true false b c e = absurd cc
 
-both_are_true : (a b : Bool) → (a && b) ≡ true → (a ≡ true) × (b ≡ true)
-both_are_true true true e = (refl, refl)
-both_are_true true false e = absurd cc
-both_are_true false b e = absurd cc
-
 -- where bytes lie that can be watched
 record IsPlaced (w : Watched) : Type 0 where
   low : memory_start ≤ w.address
   high : w.address + w.size ≤ objects_start + object_size * most_objects
-  own : is_shared w ≡ false → w.address + w.size ≤ memory_start + memory_size
+  own : is_shared_break w ≡ false → w.address + w.size ≤ memory_start + memory_size
 
 placed_in_memory : (w : Watched) → lies_in_memory w.size w.address ≡ true → IsPlaced w
 placed_in_memory w is =
-    let both = both_are_true (leb memory_start w.address) (leb (w.address + w.size) (memory_start + memory_size)) is in
+    let both = conjuncts_are_true (leb memory_start w.address) (leb (w.address + w.size) (memory_start + memory_size)) is in
     let low = leb-true memory_start w.address both.0 in
     let high = leb-true (w.address + w.size) (memory_start + memory_size) both.1 in
     record { low = low; high = omega (arith, high); own = λ private. high }
 
 placed_in_objects : (g : Guest) (w : Watched) → object_count g ≤ most_objects → lies_in_objects g w.size w.address ≡ true → IsPlaced w
 placed_in_objects g w few is =
-    let both = both_are_true (leb objects_start w.address) (leb (w.address + w.size) (objects_start + object_size * object_count g)) is in
+    let both = conjuncts_are_true (leb objects_start w.address) (leb (w.address + w.size) (objects_start + object_size * object_count g)) is in
     let low = leb-true objects_start w.address both.0 in
     let high = leb-true (w.address + w.size) (objects_start + object_size * object_count g) both.1 in
     record { low = omega (arith, low); high = omega (arith, high, few); own = λ private. absurd (true≢false (sym both.0 ∙ private)) }
 
-placed_if_one_is : (g : Guest) (w : Watched) (a b : Bool) → object_count g ≤ most_objects → lies_in_memory w.size w.address ≡ a
+placed_in_memory_or_objects : (g : Guest) (w : Watched) (a b : Bool) → object_count g ≤ most_objects → lies_in_memory w.size w.address ≡ a
     → lies_in_objects g w.size w.address ≡ b → (a || b) ≡ true → IsPlaced w
-placed_if_one_is g w true b few first second one = placed_in_memory w first
-placed_if_one_is g w false true few first second one = placed_in_objects g w few second
-placed_if_one_is g w false false few first second one = absurd cc
+placed_in_memory_or_objects g w true b few first second one = placed_in_memory w first
+placed_in_memory_or_objects g w false true few first second one = placed_in_objects g w few second
+placed_in_memory_or_objects g w false false few first second one = absurd cc
 
 pub watched_if_can_watch : (g : Guest) (w : Watched) → object_count g ≤ most_objects → can_watch g w ≡ true → IsWatched w
 watched_if_can_watch g w few can =
     let each = each_of_three_is_true (ltb 0 w.size) (leb w.size most_watched) (lies_in_memory w.size w.address || lies_in_objects g w.size w.address) can in
-    let placed = placed_if_one_is g w (lies_in_memory w.size w.address) (lies_in_objects g w.size w.address) few refl refl each.2 in
+    let placed = placed_in_memory_or_objects g w (lies_in_memory w.size w.address) (lies_in_objects g w.size w.address) few refl refl each.2 in
     record {
       some = ltb-true 0 w.size each.0;
       few = leb-true w.size most_watched each.1;
@@ -76,15 +71,15 @@ watched_if_can_watch g w few can =
       own = placed.own;
     }
 
-pub stub_with_watch_is_stub_if_room_and_can_watch : (s : Stub) (w : Watched) → IsStub s → object_count s.desk.fitted.guest ≤ most_objects
+pub stub_with_watch_is_stub : (s : Stub) (w : Watched) → IsStub s → object_count s.desk.fitted.guest ≤ most_objects
     → can_watch s.desk.fitted.guest w ≡ true → length s.breaks + length s.watches < most_stub_points
     → IsStub (record s { watches = s.watches ++ w ∷ [] })
-stub_with_watch_is_stub_if_room_and_can_watch s w is objects can room = record {
+stub_with_watch_is_stub s w is objects can room = record {
   general = is.general;
   chosen = is.chosen;
   current = is.current;
   told = is.told;
-  watches = all_by_recursion_after_push IsWatched s.watches w is.watches (watched_if_can_watch s.desk.fitted.guest w objects can);
+  watches = all_of_push IsWatched s.watches w is.watches (watched_if_can_watch s.desk.fitted.guest w objects can);
   few = let more = length_of_append_item s.watches w in omega (arith, more, room);
 }
 
@@ -106,66 +101,66 @@ stub_without_watch_is_stub s w is = record {
   chosen = is.chosen;
   current = is.current;
   told = is.told;
-  watches = filter_keeps_property_of_all IsWatched (λ x. not (is_same_watch x w)) s.watches is.watches;
+  watches = filter_keeps_all IsWatched (λ x. not (is_same_watch x w)) s.watches is.watches;
   few = let less = filter_is_not_longer (λ x. not (is_same_watch x w)) s.watches in let all = is.few in omega (arith, less, all);
 }
 
 -- ---- the watches of the objects
 
-pub shared_watches_are_watched : (ws : List Watched) → AllByRecursion IsWatched ws → AllByRecursion IsWatched (shared_of ws)
-shared_watches_are_watched ws all = filter_keeps_property_of_all IsWatched is_shared ws all
+pub shared_are_watched : (ws : List Watched) → AllByRecursion IsWatched ws → AllByRecursion IsWatched (shared_breaks ws)
+shared_are_watched ws all = filter_keeps_all IsWatched is_shared_break ws all
 
-pub shared_watches_are_not_more : (ws : List Watched) → length (shared_of ws) ≤ length ws
-shared_watches_are_not_more ws = filter_is_not_longer is_shared ws
+pub shared_are_not_more : (ws : List Watched) → length (shared_breaks ws) ≤ length ws
+shared_are_not_more ws = filter_is_not_longer is_shared_break ws
 
-pub shared_watches_are_few : (n : ℕ) (ws shared : List Watched) → shared ≡ shared_of ws → n + length ws ≤ most_stub_points → n + length shared ≤ most_stub_points
-shared_watches_are_few n ws shared same few = let less = shared_watches_are_not_more ws in let as_many = ap length same in omega (arith, less, few, as_many)
+pub shared_watches_are_few : (n : ℕ) (ws shared : List Watched) → shared ≡ shared_breaks ws → n + length ws ≤ most_stub_points → n + length shared ≤ most_stub_points
+shared_watches_are_few n ws shared same few = let less = shared_are_not_more ws in let as_many = ap length same in omega (arith, less, few, as_many)
 
 abbrev added_if : Bool → Watched → List Watched
 added_if true w = w ∷ []
 added_if false w = []
 
-filter_of_one : (w : Watched) (b : Bool) → is_shared w ≡ b → shared_of (w ∷ []) ≡ added_if b w
-filter_of_one w b is = ap (λ c. if c then w ∷ [] else []) is ∙ by b
+shared_of_single_watch : (w : Watched) (b : Bool) → is_shared_break w ≡ b → shared_breaks (w ∷ []) ≡ added_if b w
+shared_of_single_watch w b is = ap (λ c. if c then w ∷ [] else []) is ∙ by b
   where
     by : (b : Bool) → (if b then w ∷ [] else []) ≡ added_if b w
     by true = refl
     by false = refl
 
-pub shared_of_more_with_shared : (ws shared : List Watched) (w : Watched) → shared ≡ shared_of ws → is_shared w ≡ true
-    → shared ++ w ∷ [] ≡ shared_of (ws ++ w ∷ [])
-shared_of_more_with_shared ws shared w same is =
-    ap (λ xs. xs ++ w ∷ []) same ∙ ap (λ xs. shared_of ws ++ xs) (sym (filter_of_one w true is)) ∙ sym (filter-append is_shared ws (w ∷ []))
+pub shared_of_more_shared : (ws shared : List Watched) (w : Watched) → shared ≡ shared_breaks ws → is_shared_break w ≡ true
+    → shared ++ w ∷ [] ≡ shared_breaks (ws ++ w ∷ [])
+shared_of_more_shared ws shared w same is =
+    ap (λ xs. xs ++ w ∷ []) same ∙ ap (λ xs. shared_breaks ws ++ xs) (sym (shared_of_single_watch w true is)) ∙ sym (filter-append is_shared_break ws (w ∷ []))
 
 append_none : (ws : List Watched) → ws ++ [] ≡ ws
 append_none [] = refl
 append_none (w ∷ ws) = ap (λ xs. w ∷ xs) (append_none ws)
 
-pub shared_of_more_with_private : (ws shared : List Watched) (w : Watched) → shared ≡ shared_of ws → is_shared w ≡ false → shared ≡ shared_of (ws ++ w ∷ [])
-shared_of_more_with_private ws shared w same is =
-    same ∙ sym (append_none (shared_of ws)) ∙ ap (λ xs. shared_of ws ++ xs) (sym (filter_of_one w false is)) ∙ sym (filter-append is_shared ws (w ∷ []))
+pub shared_of_more_private : (ws shared : List Watched) (w : Watched) → shared ≡ shared_breaks ws → is_shared_break w ≡ false → shared ≡ shared_breaks (ws ++ w ∷ [])
+shared_of_more_private ws shared w same is =
+    same ∙ sym (append_none (shared_breaks ws)) ∙ ap (λ xs. shared_breaks ws ++ xs) (sym (shared_of_single_watch w false is)) ∙ sym (filter-append is_shared_break ws (w ∷ []))
 
-one_kept : (r : Watched → Bool) (w : Watched) (xs : List Watched) → r w ≡ true → filter r (w ∷ xs) ≡ w ∷ filter r xs
-one_kept r w xs is = ap (λ b. if b then w ∷ filter r xs else filter r xs) is
+filter_keeps_passing_head : (r : Watched → Bool) (w : Watched) (xs : List Watched) → r w ≡ true → filter r (w ∷ xs) ≡ w ∷ filter r xs
+filter_keeps_passing_head r w xs is = ap (λ b. if b then w ∷ filter r xs else filter r xs) is
 
-one_left_out : (r : Watched → Bool) (w : Watched) (xs : List Watched) → r w ≡ false → filter r (w ∷ xs) ≡ filter r xs
-one_left_out r w xs isnt = ap (λ b. if b then w ∷ filter r xs else filter r xs) isnt
+filter_drops_failing_head : (r : Watched → Bool) (w : Watched) (xs : List Watched) → r w ≡ false → filter r (w ∷ xs) ≡ filter r xs
+filter_drops_failing_head r w xs isnt = ap (λ b. if b then w ∷ filter r xs else filter r xs) isnt
 
-tests_commute_with_one : (p q : Watched → Bool) (w : Watched) (ws : List Watched) (a b : Bool) → p w ≡ a → q w ≡ b
+filters_commute_on_cons : (p q : Watched → Bool) (w : Watched) (ws : List Watched) (a b : Bool) → p w ≡ a → q w ≡ b
     → filter p (filter q ws) ≡ filter q (filter p ws) → filter p (filter q (w ∷ ws)) ≡ filter q (filter p (w ∷ ws))
-tests_commute_with_one p q w ws true true one two rest =
-    ap (filter p) (one_kept q w ws two) ∙ one_kept p w (filter q ws) one ∙ ap (λ xs. w ∷ xs) rest
-    ∙ sym (ap (filter q) (one_kept p w ws one) ∙ one_kept q w (filter p ws) two)
-tests_commute_with_one p q w ws true false one two rest =
-    ap (filter p) (one_left_out q w ws two) ∙ rest ∙ sym (ap (filter q) (one_kept p w ws one) ∙ one_left_out q w (filter p ws) two)
-tests_commute_with_one p q w ws false true one two rest =
-    ap (filter p) (one_kept q w ws two) ∙ one_left_out p w (filter q ws) one ∙ rest ∙ sym (ap (filter q) (one_left_out p w ws one))
-tests_commute_with_one p q w ws false false one two rest =
-    ap (filter p) (one_left_out q w ws two) ∙ rest ∙ sym (ap (filter q) (one_left_out p w ws one))
+filters_commute_on_cons p q w ws true true one two rest =
+    ap (filter p) (filter_keeps_passing_head q w ws two) ∙ filter_keeps_passing_head p w (filter q ws) one ∙ ap (λ xs. w ∷ xs) rest
+    ∙ sym (ap (filter q) (filter_keeps_passing_head p w ws one) ∙ filter_keeps_passing_head q w (filter p ws) two)
+filters_commute_on_cons p q w ws true false one two rest =
+    ap (filter p) (filter_drops_failing_head q w ws two) ∙ rest ∙ sym (ap (filter q) (filter_keeps_passing_head p w ws one) ∙ filter_drops_failing_head q w (filter p ws) two)
+filters_commute_on_cons p q w ws false true one two rest =
+    ap (filter p) (filter_keeps_passing_head q w ws two) ∙ filter_drops_failing_head p w (filter q ws) one ∙ rest ∙ sym (ap (filter q) (filter_drops_failing_head p w ws one))
+filters_commute_on_cons p q w ws false false one two rest =
+    ap (filter p) (filter_drops_failing_head q w ws two) ∙ rest ∙ sym (ap (filter q) (filter_drops_failing_head p w ws one))
 
-tests_commute : (p q : Watched → Bool) (ws : List Watched) → filter p (filter q ws) ≡ filter q (filter p ws)
-tests_commute p q [] = refl
-tests_commute p q (w ∷ ws) = tests_commute_with_one p q w ws (p w) (q w) refl refl (tests_commute p q ws)
+filters_commute : (p q : Watched → Bool) (ws : List Watched) → filter p (filter q ws) ≡ filter q (filter p ws)
+filters_commute p q [] = refl
+filters_commute p q (w ∷ ws) = filters_commute_on_cons p q w ws (p w) (q w) refl refl (filters_commute p q ws)
 
-pub shared_of_fewer : (ws shared : List Watched) (w : Watched) → shared ≡ shared_of ws → watches_without shared w ≡ shared_of (watches_without ws w)
-shared_of_fewer ws shared w same = ap (λ xs. watches_without xs w) same ∙ tests_commute (λ x. not (is_same_watch x w)) is_shared ws
+pub shared_of_fewer : (ws shared : List Watched) (w : Watched) → shared ≡ shared_breaks ws → watches_without shared w ≡ shared_breaks (watches_without ws w)
+shared_of_fewer ws shared w same = ap (λ xs. watches_without xs w) same ∙ filters_commute (λ x. not (is_same_watch x w)) is_shared_break ws

@@ -13,13 +13,13 @@ use Rattle.ir_packet.specs.declared.reply.Reason.{Reason}
 use Rattle.ir_gdb.specs.declared.point.Watched.{Watched}
 use Rattle.ir_gdb.specs.declared.stopped.Stopped.{Stopped}
 use Rattle.ir_gdb.specs.Points.{points_upwards, points_downwards}
-use Rattle.ir_gdb.specs.Stub.{Stub, shared_of}
+use Rattle.ir_gdb.specs.Stub.{Stub, shared_breaks}
 use Rattle.ir_gdb.specs.Stops.{position_of, watches_if, upwards_of, downwards_of, end_above, end_below, is_hit, StopsInDirection, BackBy, StopsBelow, ContinuesBackBy, reason_at_end}
 use Rattle.ir_gdb.specs.Together.{Halt, halt, Comes, stop_among, is_on_way, AreStops, FirstMet, meets, halt_or, own_halt, met_or, StopsAmong, FirstStop, furthest, ContinuesAmong}
 use Rattle.ir_gdb.specs.Laws.{MeetsNone, PassesNone, PassesNoHit, Stands, stub_behind, ShowsHit, ContinuesToEnd, IsHitBeyond, ShowsAt, IsShownOnce}
 use Rattle.ir_gdb.proofs.Alone.{no_watch_is_next, stop_above_is_at_hit, stop_below_is_at_hit}
-use Rattle.ir_gdb.proofs.Blocked.{Within, comes_on, comes_exactly, hit_on_way_if_meets}
-use Rattle.ir_gdb.proofs.Unpassed.{continuing_passes_no_hit, no_hit_without_stop}
+use Rattle.ir_gdb.proofs.Blocked.{Within, comes_within_cut, comes_exactly_there, hit_on_way_if_meets}
+use Rattle.ir_gdb.proofs.Unpassed.{continue_passes_no_hit, no_stop_is_no_hit}
 use Rattle.ir_gdb.proofs.Ways.{meets_none_if_not_met, meets_by}
 
 -- ---- positions beyond a thread's own
@@ -28,23 +28,23 @@ abbrev pub Beyond : Direction → ℕ → ℕ → Type 0
 Beyond Forwards here there = here < there
 Beyond Backwards here there = there < here
 
-beyond_if_within : (d : Direction) (a b c : ℕ) → Within d a b → Beyond d b c → Beyond d a c
-beyond_if_within Forwards a b c one two = omega (arith, one, two)
-beyond_if_within Backwards a b c one two = omega (arith, one, two)
+beyond_after_within : (d : Direction) (a b c : ℕ) → Within d a b → Beyond d b c → Beyond d a c
+beyond_after_within Forwards a b c one two = omega (arith, one, two)
+beyond_after_within Backwards a b c one two = omega (arith, one, two)
 
 within_if_beyond : (d : Direction) (a b : ℕ) → Beyond d a b → Within d a b
 within_if_beyond Forwards a b one = omega (arith, one)
 within_if_beyond Backwards a b one = omega (arith, one)
 
-not_beyond_itself : (d : Direction) (a b : ℕ) → Beyond d a b → b ≢ a
-not_beyond_itself Forwards a b one same = omega (arith, one, same)
-not_beyond_itself Backwards a b one same = omega (arith, one, same)
+beyond_is_not_equal : (d : Direction) (a b : ℕ) → Beyond d a b → b ≢ a
+beyond_is_not_equal Forwards a b one same = omega (arith, one, same)
+beyond_is_not_equal Backwards a b one same = omega (arith, one, same)
 
 -- ---- without watches
 
 watches_if_none : (s : Stub) (w : Bool) → s.watches ≡ [] → watches_if s w ≡ []
 watches_if_none s true none = none
-watches_if_none s false none = ap shared_of none
+watches_if_none s false none = ap shared_breaks none
 
 upwards_of_any : (s : Stub) (u : ℕ) (w : Bool) → s.watches ≡ [] → upwards_of s u false ≡ upwards_of s u w
 upwards_of_any s u w none = ap (λ (ws : List Watched). points_upwards u ws s.breaks s.desk.points) (watches_if_none s false none ∙ sym (watches_if_none s w none))
@@ -53,16 +53,16 @@ downwards_of_any : (s : Stub) (u : ℕ) (w : Bool) → s.watches ≡ [] → down
 downwards_of_any s u w none = ap (λ (ws : List Watched). points_downwards u ws s.breaks s.desk.points) (watches_if_none s false none ∙ sym (watches_if_none s w none))
 
 -- a hit is at the position to which a thread comes, or beyond
-hit_not_passed : (run : List Step) (s : Stub) (d : Direction) (u k c : ℕ) (w : Bool) → s.watches ≡ [] → PassesNone run s d u w c → IsHitBeyond run s d u k
+hit_not_passed_is_beyond : (run : List Step) (s : Stub) (d : Direction) (u k c : ℕ) (w : Bool) → s.watches ≡ [] → PassesNone run s d u w c → IsHitBeyond run s d u k
     → (k ≡ c) ⊎ Beyond d c k
-hit_not_passed run s Forwards u k c w none passes (beyond, (n, hits)) = elim (cases_lt c k) [
+hit_not_passed_is_beyond run s Forwards u k c w none passes (beyond, (n, hits)) = elim (cases_lt c k) [
   | inl less ↦ inr less
   | inr from ↦ elim (cases_lt k c) [
     | inl less ↦ absurd (passes k n beyond less (subst (λ points. HitByNumber s.desk.fitted run points u k n) (upwards_of_any s u w none) hits))
     | inr back ↦ inl (omega (arith, from, back))
   ]
 ]
-hit_not_passed run s Backwards u k c w none passes (beyond, (n, hits)) = elim (cases_lt k c) [
+hit_not_passed_is_beyond run s Backwards u k c w none passes (beyond, (n, hits)) = elim (cases_lt k c) [
   | inl less ↦ inr less
   | inr from ↦ elim (cases_lt c k) [
     | inl less ↦ absurd (passes.0 k n less beyond (subst (λ points. HitByNumber s.desk.fitted run points u k n) (downwards_of_any s u w none) hits))
@@ -71,21 +71,21 @@ hit_not_passed run s Backwards u k c w none passes (beyond, (n, hits)) = elim (c
 ]
 
 -- a hit is beyond the position to which a thread comes that meets none
-hit_not_met : (run : List Step) (s : Stub) (d : Direction) (u k c : ℕ) (w : Bool) → s.watches ≡ [] → MeetsNone run s d u w c → IsHitBeyond run s d u k → Beyond d c k
-hit_not_met run s Forwards u k c w none meets (beyond, (n, hits)) = elim (cases_lt c k) [
+hit_not_met_is_beyond : (run : List Step) (s : Stub) (d : Direction) (u k c : ℕ) (w : Bool) → s.watches ≡ [] → MeetsNone run s d u w c → IsHitBeyond run s d u k → Beyond d c k
+hit_not_met_is_beyond run s Forwards u k c w none meets (beyond, (n, hits)) = elim (cases_lt c k) [
   | inl less ↦ less
   | inr from ↦ absurd (meets k n beyond (omega (arith, from)) (subst (λ points. HitByNumber s.desk.fitted run points u k n) (upwards_of_any s u w none) hits))
 ]
-hit_not_met run s Backwards u k c w none meets (beyond, (n, hits)) = elim (cases_lt k c) [
+hit_not_met_is_beyond run s Backwards u k c w none meets (beyond, (n, hits)) = elim (cases_lt k c) [
   | inl less ↦ less
   | inr from ↦ absurd (meets.0 k n from beyond (subst (λ points. HitByNumber s.desk.fitted run points u k n) (downwards_of_any s u w none) hits))
 ]
 
 -- a hit that is beyond a stop is so from there on
-hit_beyond_stop : (run : List Step) (s : Stub) (d : Direction) (u k : ℕ) (h : Halt) → Beyond d (cut_of h.cut u) k → IsHitBeyond run s d u k
+hit_past_stop_is_beyond : (run : List Step) (s : Stub) (d : Direction) (u k : ℕ) (h : Halt) → Beyond d (cut_of h.cut u) k → IsHitBeyond run s d u k
     → IsHitBeyond run (stub_behind s h) d u k
-hit_beyond_stop run s Forwards u k h beyond hit = (beyond, hit.1)
-hit_beyond_stop run s Backwards u k h beyond hit = (beyond, hit.1)
+hit_past_stop_is_beyond run s Forwards u k h beyond hit = (beyond, hit.1)
+hit_past_stop_is_beyond run s Backwards u k h beyond hit = (beyond, hit.1)
 
 -- a thread's own stop at a hit is beyond its position
 own_hit_is_beyond : (run : List Step) (s : Stub) (d : Direction) (u : ℕ) (w : Bool) (to : Stopped) → s.watches ≡ [] → StopsInDirection d run s u w to → is_hit to.reason ≡ true
@@ -165,16 +165,16 @@ NoneBeyond run s d = (u k : ℕ) → u < threads_of s.desk.fitted → IsHitBeyon
 not_met_without_hit : (d : Direction) (p : ℕ) (to : Stopped) (k : ℕ) → is_hit to.reason ≡ false → meets_by d p to k ≡ false
 not_met_without_hit d p to k none = ap (λ (b : Bool). not (p == k) && (b && is_on_way d to.position k)) none ∙ conjunction_with_false (not (p == k))
 
-none_beyond_without_stop : (run : List Step) (s : Stub) (d : Direction) (t : ℕ) (each : List Stopped) → s.watches ≡ [] → AreStops run s d t each
+no_stop_none_beyond : (run : List Step) (s : Stub) (d : Direction) (t : ℕ) (each : List Stopped) → s.watches ≡ [] → AreStops run s d t each
     → FirstStop run s d each t None → NoneBeyond run s d
-none_beyond_without_stop run s d t each none stops (mine, all) u k below hit = not_beyond_itself d k k
-    (hit_not_met run s d u k k (u == t) none (meets_none_if_not_met run s d u k (u == t) (stop_among each u) (stops.own u below)
+no_stop_none_beyond run s d t each none stops (mine, all) u k below hit = beyond_is_not_equal d k k
+    (hit_not_met_is_beyond run s d u k k (u == t) none (meets_none_if_not_met run s d u k (u == t) (stop_among each u) (stops.own u below)
     (not_met_without_hit d (position_of s u) (stop_among each u) k hitless)) hit) refl
   where
     hitless : is_hit (stop_among each u).reason ≡ false
     hitless = elim (cases_eq u t) [
-      | inl same ↦ subst (λ (x : ℕ). is_hit (stop_among each x).reason ≡ false) (sym same) (no_hit_without_stop run s d t each mine)
-      | inr other ↦ no_hit_without_stop run s d u each (all u below other)
+      | inl same ↦ subst (λ (x : ℕ). is_hit (stop_among each x).reason ≡ false) (sym same) (no_stop_is_no_hit run s d t each mine)
+      | inr other ↦ no_stop_is_no_hit run s d u each (all u below other)
     ]
 
 end_is_no_hit : (d : Direction) → is_hit (reason_at_end d) ≡ false
@@ -188,14 +188,14 @@ hit_stop_or_none_beyond run s d t h none below (each, stops, (stop, first, is)) 
   where
     by : (stop : Option Halt) → FirstStop run s d each t stop → h ≡ halt_or stop (halt t (furthest s d) (reason_at_end d))
         → IsHitStop run s d h ⊎ ((is_hit h.reason ≡ false) × NoneBeyond run s d)
-    by None first is = inr (ap (λ (x : Halt). is_hit x.reason) is ∙ end_is_no_hit d, none_beyond_without_stop run s d t each none stops first)
+    by None first is = inr (ap (λ (x : Halt). is_hit x.reason) is ∙ end_is_no_hit d, no_stop_none_beyond run s d t each none stops first)
     by (Some other) (inl mine) is = inl (subst (IsHitStop run s d) (sym is) (stop_among_is_hit_stop run s d t t each other stops below mine))
     by (Some other) (inr (free, (k, less, differs, others, its))) is =
         inl (subst (IsHitStop run s d) (sym is) (stop_among_is_hit_stop run s d t k each other stops less its))
 
-hit_stop_if_told : (run : List Step) (s : Stub) (d : Direction) (t : ℕ) (h : Halt) → s.watches ≡ [] → t < threads_of s.desk.fitted → ContinuesAmong run s t d h
+hit_stop_if_reason_is_hit : (run : List Step) (s : Stub) (d : Direction) (t : ℕ) (h : Halt) → s.watches ≡ [] → t < threads_of s.desk.fitted → ContinuesAmong run s t d h
     → is_hit h.reason ≡ true → IsHitStop run s d h
-hit_stop_if_told run s d t h none below continues told = elim (hit_stop_or_none_beyond run s d t h none below continues) [
+hit_stop_if_reason_is_hit run s d t h none below continues told = elim (hit_stop_or_none_beyond run s d t h none below continues) [
   | inl stop ↦ stop
   | inr (isnt, all) ↦ absurd (true≢false (sym told ∙ isnt))
 ]
@@ -208,88 +208,88 @@ none_beyond_if_not_told run s d t h none below continues isnt = elim (hit_stop_o
 ]
 
 -- all threads are then at a consistent cut
-stands_at_stop : (run : List Step) (s : Stub) (d : Direction) (h : Halt) → Stands run s → IsHitStop run s d h → Stands run (stub_behind s h)
-stands_at_stop run s Forwards h stands stop = record { whole = stands.whole; cut = stop.comes.1.cut; consistent = stop.comes.1.consistent }
-stands_at_stop run s Backwards h stands stop = record { whole = stands.whole; cut = stop.comes.1.cut; consistent = stop.comes.1.consistent }
+stub_stands_at_stop : (run : List Step) (s : Stub) (d : Direction) (h : Halt) → Stands run s → IsHitStop run s d h → Stands run (stub_behind s h)
+stub_stands_at_stop run s Forwards h stands stop = record { whole = stands.whole; cut = stop.comes.1.cut; consistent = stop.comes.1.consistent }
+stub_stands_at_stop run s Backwards h stands stop = record { whole = stands.whole; cut = stop.comes.1.cut; consistent = stop.comes.1.consistent }
 
 -- its thread has gone on
 stop_is_beyond : (run : List Step) (s : Stub) (d : Direction) (h : Halt) → Stands run s → s.watches ≡ [] → IsHitStop run s d h
     → Beyond d (position_of s h.thread) (cut_of h.cut h.thread)
 stop_is_beyond run s d h stands none stop =
     let beyond = own_hit_is_beyond run s d h.thread stop.watched stop.to none stop.goes stop.hit in
-    subst (Beyond d (position_of s h.thread)) (sym (comes_exactly run s stands d h.thread stop.to.position h.cut
+    subst (Beyond d (position_of s h.thread)) (sym (comes_exactly_there run s stands d h.thread stop.to.position h.cut
     (within_if_beyond d (position_of s h.thread) stop.to.position beyond) stop.comes)) beyond
 
 -- ---- a stop and those behind it
 
-shown_by_first : (m : ℕ × Halt) (ms : List (ℕ × Halt)) (u k : ℕ) → ShowsAt (m ∷ ms) u k 0 → ShowsHit u k m.1
-shown_by_first m ms u k (x, at, shows) = let same : m ≡ x = cc at in subst (λ (y : ℕ × Halt). ShowsHit u k y.1) (sym same) shows
+first_shows_hit : (m : ℕ × Halt) (ms : List (ℕ × Halt)) (u k : ℕ) → ShowsAt (m ∷ ms) u k 0 → ShowsHit u k m.1
+first_shows_hit m ms u k (x, at, shows) = let same : m ≡ x = cc at in subst (λ (y : ℕ × Halt). ShowsHit u k y.1) (sym same) shows
 
 -- what is shown from a stub on is beyond it
-shown_is_beyond : (run : List Step) (s : Stub) (d : Direction) (ms : List (ℕ × Halt)) → Stands run s → s.watches ≡ [] → ContinuesToEnd run s d ms
+shown_hit_is_beyond : (run : List Step) (s : Stub) (d : Direction) (ms : List (ℕ × Halt)) → Stands run s → s.watches ≡ [] → ContinuesToEnd run s d ms
     → (u k i : ℕ) → ShowsAt ms u k i → Beyond d (position_of s u) k
 unfolding ContinuesToEnd
-shown_is_beyond run s d [] stands none continues u k i shows = absurd continues
-shown_is_beyond run s d (m ∷ []) stands none continues u k zero shows =
-    let mine = shown_by_first m [] u k shows in absurd (true≢false (sym mine.2 ∙ continues.2))
-shown_is_beyond run s d (m ∷ []) stands none continues u k (suc i) (x, at, shows) = absurd (true≢false (ap is_none at))
-shown_is_beyond run s d (m ∷ next ∷ ms) stands none continues u k zero shows =
-    let mine = shown_by_first m (next ∷ ms) u k shows in
-    let stop = hit_stop_if_told run s d m.0 m.1 none continues.0 continues.1 continues.2 in
+shown_hit_is_beyond run s d [] stands none continues u k i shows = absurd continues
+shown_hit_is_beyond run s d (m ∷ []) stands none continues u k zero shows =
+    let mine = first_shows_hit m [] u k shows in absurd (true≢false (sym mine.2 ∙ continues.2))
+shown_hit_is_beyond run s d (m ∷ []) stands none continues u k (suc i) (x, at, shows) = absurd (true≢false (ap is_none at))
+shown_hit_is_beyond run s d (m ∷ next ∷ ms) stands none continues u k zero shows =
+    let mine = first_shows_hit m (next ∷ ms) u k shows in
+    let stop = hit_stop_if_reason_is_hit run s d m.0 m.1 none continues.0 continues.1 continues.2 in
     let beyond = subst (λ (x : ℕ). Beyond d (position_of s x) (cut_of m.1.cut x)) mine.0 (stop_is_beyond run s d m.1 stands none stop) in
     subst (Beyond d (position_of s u)) mine.1 beyond
-shown_is_beyond run s d (m ∷ next ∷ ms) stands none continues u k (suc i) shows =
-    let stop = hit_stop_if_told run s d m.0 m.1 none continues.0 continues.1 continues.2 in
-    let later = shown_is_beyond run (stub_behind s m.1) d (next ∷ ms) (stands_at_stop run s d m.1 stands stop) none continues.3 u k i shows in
-    beyond_if_within d (position_of s u) (cut_of m.1.cut u) k (comes_on run s d m.1.thread stop.to.position m.1.cut stop.comes u) later
+shown_hit_is_beyond run s d (m ∷ next ∷ ms) stands none continues u k (suc i) shows =
+    let stop = hit_stop_if_reason_is_hit run s d m.0 m.1 none continues.0 continues.1 continues.2 in
+    let later = shown_hit_is_beyond run (stub_behind s m.1) d (next ∷ ms) (stub_stands_at_stop run s d m.1 stands stop) none continues.3 u k i shows in
+    beyond_after_within d (position_of s u) (cut_of m.1.cut u) k (comes_within_cut run s d m.1.thread stop.to.position m.1.cut stop.comes u) later
 
 -- by the first stop, and by none behind it
-shown_first : (m : ℕ × Halt) (ms : List (ℕ × Halt)) (u k : ℕ) → ShowsHit u k m.1 → ((i : ℕ) → ShowsAt ms u k i → ⊥) → IsShownOnce (m ∷ ms) u k
-shown_first m ms u k shows none = (0, (m, refl, shows), λ j is. by j is)
+shown_once_by_first : (m : ℕ × Halt) (ms : List (ℕ × Halt)) (u k : ℕ) → ShowsHit u k m.1 → ((i : ℕ) → ShowsAt ms u k i → ⊥) → IsShownOnce (m ∷ ms) u k
+shown_once_by_first m ms u k shows none = (0, (m, refl, shows), λ j is. by j is)
   where
     by : (j : ℕ) → ShowsAt (m ∷ ms) u k j → j ≡ 0
     by zero is = refl
     by (suc j) is = absurd (none j is)
 
 -- by one behind the first, and not by that
-shown_later : (m : ℕ × Halt) (ms : List (ℕ × Halt)) (u k : ℕ) → (ShowsHit u k m.1 → ⊥) → IsShownOnce ms u k → IsShownOnce (m ∷ ms) u k
-shown_later m ms u k not (i, shows, only) = (suc i, shows, λ j is. by j is)
+shown_once_by_later : (m : ℕ × Halt) (ms : List (ℕ × Halt)) (u k : ℕ) → (ShowsHit u k m.1 → ⊥) → IsShownOnce ms u k → IsShownOnce (m ∷ ms) u k
+shown_once_by_later m ms u k not (i, shows, only) = (suc i, shows, λ j is. by j is)
   where
     by : (j : ℕ) → ShowsAt (m ∷ ms) u k j → j ≡ suc i
-    by zero is = absurd (not (shown_by_first m ms u k is))
+    by zero is = absurd (not (first_shows_hit m ms u k is))
     by (suc j) is = ap suc (only j is)
 
-pub each_hit_beyond_is_shown_once : (run : List Step) (s : Stub) (d : Direction) (ms : List (ℕ × Halt)) → Stands run s → s.watches ≡ []
+pub hit_beyond_shown_once : (run : List Step) (s : Stub) (d : Direction) (ms : List (ℕ × Halt)) → Stands run s → s.watches ≡ []
     → ContinuesToEnd run s d ms → (u k : ℕ) → u < threads_of s.desk.fitted → IsHitBeyond run s d u k → IsShownOnce ms u k
 unfolding ContinuesToEnd
-each_hit_beyond_is_shown_once run s d [] stands none continues u k below hit = absurd continues
-each_hit_beyond_is_shown_once run s d (m ∷ []) stands none continues u k below hit =
+hit_beyond_shown_once run s d [] stands none continues u k below hit = absurd continues
+hit_beyond_shown_once run s d (m ∷ []) stands none continues u k below hit =
     absurd (none_beyond_if_not_told run s d m.0 m.1 none continues.0 continues.1 continues.2 u k below hit)
-each_hit_beyond_is_shown_once run s d (m ∷ next ∷ ms) stands none continues u k below hit =
-    by (λ beyond. each_hit_beyond_is_shown_once run (stub_behind s m.1) d (next ∷ ms) (stands_at_stop run s d m.1 stands stop) none continues.3 u k below
-    (hit_beyond_stop run s d u k m.1 beyond hit))
+hit_beyond_shown_once run s d (m ∷ next ∷ ms) stands none continues u k below hit =
+    by (λ beyond. hit_beyond_shown_once run (stub_behind s m.1) d (next ∷ ms) (stub_stands_at_stop run s d m.1 stands stop) none continues.3 u k below
+    (hit_past_stop_is_beyond run s d u k m.1 beyond hit))
   where
     stop : IsHitStop run s d m.1
-    stop = hit_stop_if_told run s d m.0 m.1 none continues.0 continues.1 continues.2
+    stop = hit_stop_if_reason_is_hit run s d m.0 m.1 none continues.0 continues.1 continues.2
 
     passes : PassesNoHit run s m.0 d m.1
-    passes = continuing_passes_no_hit run s stands d m.0 m.1 continues.0 continues.1
+    passes = continue_passes_no_hit run s stands d m.0 m.1 continues.0 continues.1
 
     not_here : Beyond d (cut_of m.1.cut u) k → ShowsHit u k m.1 → ⊥
-    not_here beyond shows = not_beyond_itself d (cut_of m.1.cut u) k beyond (sym shows.1)
+    not_here beyond shows = beyond_is_not_equal d (cut_of m.1.cut u) k beyond (sym shows.1)
 
     not_later : k ≡ cut_of m.1.cut u → (i : ℕ) → ShowsAt (next ∷ ms) u k i → ⊥
-    not_later at i shows = not_beyond_itself d (cut_of m.1.cut u) k
-        (shown_is_beyond run (stub_behind s m.1) d (next ∷ ms) (stands_at_stop run s d m.1 stands stop) none continues.3 u k i shows) at
+    not_later at i shows = beyond_is_not_equal d (cut_of m.1.cut u) k
+        (shown_hit_is_beyond run (stub_behind s m.1) d (next ∷ ms) (stub_stands_at_stop run s d m.1 stands stop) none continues.3 u k i shows) at
 
     by : (Beyond d (cut_of m.1.cut u) k → IsShownOnce (next ∷ ms) u k) → IsShownOnce (m ∷ next ∷ ms) u k
     by later = elim (cases_eq m.1.thread u) [
       | inr other ↦
-          let beyond = hit_not_met run s d u k (cut_of m.1.cut u) (u == m.0) none (passes.others u below (λ same. other (sym same))) hit in
-          shown_later m (next ∷ ms) u k (not_here beyond) (later beyond)
-      | inl same ↦ elim (hit_not_passed run s d u k (cut_of m.1.cut u) (u == m.0) none
+          let beyond = hit_not_met_is_beyond run s d u k (cut_of m.1.cut u) (u == m.0) none (passes.others u below (λ same. other (sym same))) hit in
+          shown_once_by_later m (next ∷ ms) u k (not_here beyond) (later beyond)
+      | inl same ↦ elim (hit_not_passed_is_beyond run s d u k (cut_of m.1.cut u) (u == m.0) none
           (subst (λ (x : ℕ). PassesNone run s d x (x == m.0) (cut_of m.1.cut x)) same passes.own) hit) [
-            | inl at ↦ shown_first m (next ∷ ms) u k (same, sym at, stop.told) (not_later at)
-            | inr beyond ↦ shown_later m (next ∷ ms) u k (not_here beyond) (later beyond)
+            | inl at ↦ shown_once_by_first m (next ∷ ms) u k (same, sym at, stop.told) (not_later at)
+            | inr beyond ↦ shown_once_by_later m (next ∷ ms) u k (not_here beyond) (later beyond)
           ]
     ]

@@ -17,7 +17,9 @@ use Rattle.ir_gdb.specs.declared.stopped.Stopped.{Stopped}
 use Rattle.ir_gdb.specs.Points.{watch_points, points_downwards}
 use Rattle.ir_gdb.specs.Serving.{Serving}
 use Rattle.ir_gdb.specs.Stub.{Stub, stub_spoken}
-use Rattle.ir_gdb.specs.Stops.{watches_if, downwards_of, position_of, WatchNext, StepsBy, StepsTo, after_step, StepsBackBy, StepsBackTo, after_back, StopsBelow, BackBy, ContinuesBackBy, ContinuesBackTo, upwards_of, ContinuesTo, end_above, end_below, watch_reason}
+use Rattle.ir_gdb.specs.Stops.{watches_if, downwards_of, position_of, WatchNext, StepsBy, StepsTo, after_step, StepsBackBy, StepsBackTo}
+use Rattle.ir_gdb.specs.Stops.{after_back, StopsBelow, BackBy, ContinuesBackBy, ContinuesBackTo, upwards_of, ContinuesTo, end_above}
+use Rattle.ir_gdb.specs.Stops.{end_below, watch_reason}
 use Rattle.ir_gdb.proofs.Bounds.{end_above_within_last}
 
 -- the value seen of what a function holds
@@ -30,8 +32,8 @@ watches_if_ignores_desk : (u : Stub) (e : Desk) (w : Bool) → watches_if (recor
 watches_if_ignores_desk u e true = refl
 watches_if_ignores_desk u e false = refl
 
-pub watches_if_ignores_spoken_and_desk : (s u : Stub) (e : Desk) (w : Bool) → u ≡ stub_spoken s → watches_if (record u { desk = e }) w ≡ watches_if s w
-watches_if_ignores_spoken_and_desk s u e w same =
+pub watches_if_ignores_both : (s u : Stub) (e : Desk) (w : Bool) → u ≡ stub_spoken s → watches_if (record u { desk = e }) w ≡ watches_if s w
+watches_if_ignores_both s u e w same =
     watches_if_ignores_desk u e w ∙ ap (λ (x : Stub). watches_if x w) same ∙ watches_if_ignores_desk s (stub_spoken s).desk w
 
 pub watches_if_ignores_spoken : (s u : Stub) (w : Bool) → u ≡ stub_spoken s → watches_if u w ≡ watches_if s w
@@ -39,11 +41,11 @@ watches_if_ignores_spoken s u w same = ap (λ (x : Stub). watches_if x w) same �
 
 -- ---- the next watch
 
-pub watch_next_is_reason_of_found_hit : (f : FittedTrace) (s : Stub) (t p to : ℕ) (w : Bool) (points : List Numbered) (hit : Option Hit) (first : List Watched)
+pub watch_next_of_hit : (f : FittedTrace) (s : Stub) (t p to : ℕ) (w : Bool) (points : List Numbered) (hit : Option Hit) (first : List Watched)
     (reason : Option Reason) → f ≡ s.desk.fitted → points ≡ watch_points t 0 (watches_if s w) → first ≡ watches_if s w → to ≡ p + 1
     → EachRun f (λ run. IsNextHit f run points t p to hit) → reason ≡ option_map (λ (h : Hit). watch_reason first h.number) hit
     → EachRun s.desk.fitted (λ run. WatchNext run s t w p reason)
-watch_next_is_reason_of_found_hit f s t p to w points hit first reason same are mine is finds why run whole =
+watch_next_of_hit f s t p to w points hit first reason same are mine is finds why run whole =
     let found = subst (λ (g : FittedTrace). EachRun g (λ r. IsNextHit g r points t p to hit)) same finds run whole in
     let by_points = subst (λ (ps : List Numbered). IsNextHit s.desk.fitted run ps t p to hit) are found in
     let by_to = subst (λ (n : ℕ). IsNextHit s.desk.fitted run (watch_points t 0 (watches_if s w)) t p n hit) is by_points in
@@ -53,128 +55,128 @@ abbrev IsNoPoint : Option Numbered → Type 0
 IsNoPoint None = ⊤
 IsNoPoint (Some p) = ⊥
 
-no_next_hit_without_points : (f : FittedTrace) (run : List Step) (t p to : ℕ) → IsNextHit f run [] t p to None
-no_next_hit_without_points f run t p to j n low high hit = let (i, q, at, number, hits) = hit in subst IsNoPoint at tt
+no_points_no_next_hit : (f : FittedTrace) (run : List Step) (t p to : ℕ) → IsNextHit f run [] t p to None
+no_points_no_next_hit f run t p to j n low high hit = let (i, q, at, number, hits) = hit in subst IsNoPoint at tt
 
-no_next_hit_without_watches : (f : FittedTrace) (run : List Step) (t p to : ℕ) (ws : List Watched) → length ws ≡ 0 → IsNextHit f run (watch_points t 0 ws) t p to None
+no_watches_no_next_hit : (f : FittedTrace) (run : List Step) (t p to : ℕ) (ws : List Watched) → length ws ≡ 0 → IsNextHit f run (watch_points t 0 ws) t p to None
 unfolding watch_points
-no_next_hit_without_watches f run t p to [] empty = no_next_hit_without_points f run t p to
-no_next_hit_without_watches f run t p to (x ∷ xs) empty = absurd (omega (arith, empty))
+no_watches_no_next_hit f run t p to [] empty = no_points_no_next_hit f run t p to
+no_watches_no_next_hit f run t p to (x ∷ xs) empty = absurd (omega (arith, empty))
 
-pub length_is_zero_if_zero_test_is_true : (ws : List Watched) → true ≡ (length ws == 0) → length ws ≡ 0
-length_is_zero_if_zero_test_is_true ws empty = grind (arith, nat_tests, empty)
+pub zero_test_empty : (ws : List Watched) → true ≡ (length ws == 0) → length ws ≡ 0
+zero_test_empty ws empty = grind (arith, nat_tests, empty)
 
-pub watch_next_is_none_without_watches : (s u : Stub) (t p : ℕ) (w : Bool) (ws : List Watched) → u ≡ stub_spoken s → ws ≡ watches_if u w → length ws ≡ 0
+pub watch_next_none : (s u : Stub) (t p : ℕ) (w : Bool) (ws : List Watched) → u ≡ stub_spoken s → ws ≡ watches_if u w → length ws ≡ 0
     → EachRun s.desk.fitted (λ run. WatchNext run s t w p None)
-watch_next_is_none_without_watches s u t p w ws same are empty run whole = (
+watch_next_none s u t p w ws same are empty run whole = (
   None,
   subst (λ (x : List Watched). IsNextHit s.desk.fitted run (watch_points t 0 x) t p (p + 1) None) (are ∙ watches_if_ignores_spoken s u w same)
-      (no_next_hit_without_watches s.desk.fitted run t p (p + 1) ws empty),
+      (no_watches_no_next_hit s.desk.fitted run t p (p + 1) ws empty),
   refl,
 )
 
-watch_next_if_watch_next_of_spoken : (run : List Step) (s : Stub) (t p : ℕ) (w : Bool) (why : Option Reason) → WatchNext run (stub_spoken s) t w p why → WatchNext run s t w p why
-watch_next_if_watch_next_of_spoken run s t p true why next = next
-watch_next_if_watch_next_of_spoken run s t p false why next = next
+watch_next_from_spoken : (run : List Step) (s : Stub) (t p : ℕ) (w : Bool) (why : Option Reason) → WatchNext run (stub_spoken s) t w p why → WatchNext run s t w p why
+watch_next_from_spoken run s t p true why next = next
+watch_next_from_spoken run s t p false why next = next
 
-pub watch_next_in_each_run_if_watch_next_of_spoken : (s u : Stub) (t p : ℕ) (w : Bool) (why : Option Reason) → u ≡ stub_spoken s
+pub runs_watch_next_spoken : (s u : Stub) (t p : ℕ) (w : Bool) (why : Option Reason) → u ≡ stub_spoken s
     → EachRun u.desk.fitted (λ run. WatchNext run u t w p why) → EachRun s.desk.fitted (λ run. WatchNext run s t w p why)
-watch_next_in_each_run_if_watch_next_of_spoken s u t p w why same next run whole =
-    watch_next_if_watch_next_of_spoken run s t p w why (subst (λ (x : Stub). EachRun x.desk.fitted (λ r. WatchNext r x t w p why)) same next run whole)
+runs_watch_next_spoken s u t p w why same next run whole =
+    watch_next_from_spoken run s t p w why (subst (λ (x : Stub). EachRun x.desk.fitted (λ r. WatchNext r x t w p why)) same next run whole)
 
 -- ---- steps
 
-pub own_position_is_below_last_if_not_at_last : (p l other here last : ℕ) → (p ≡ l → ⊥) → l ≡ other → l ≡ last → p ≡ here → p ≤ other → here < last
-own_position_is_below_last_if_not_at_last p l other here last differ same is at within = grind (arith, differ, same, is, at, within)
+pub own_position_below_last : (p l other here last : ℕ) → (p ≡ l → ⊥) → l ≡ other → l ≡ last → p ≡ here → p ≤ other → here < last
+own_position_below_last p l other here last differ same is at within = grind (arith, differ, same, is, at, within)
 
-pub steps_to_position_after_step_if_below_last : (s u : Stub) (t p : ℕ) (w : Bool) (why : Option Reason) (to : Stopped) → u ≡ stub_spoken s → p ≡ position_of s t
+pub steps_to_after_step : (s u : Stub) (t p : ℕ) (w : Bool) (why : Option Reason) (to : Stopped) → u ≡ stub_spoken s → p ≡ position_of s t
     → position_of s t < last_of s.desk.fitted t → EachRun u.desk.fitted (λ run. WatchNext run u t w p why) → to ≡ after_step p why
     → EachRun s.desk.fitted (λ run. StepsTo run s t w to)
-steps_to_position_after_step_if_below_last s u t p w why to same here below next is run whole =
+steps_to_after_step s u t p w why to same here below next is run whole =
     let less : nat_lt (position_of s t) (last_of s.desk.fitted t) ≡ true = grind (arith, nat_tests, below) in
-    let found = subst (λ (n : ℕ). WatchNext run s t w n why) here (watch_next_in_each_run_if_watch_next_of_spoken s u t p w why same next run whole) in
+    let found = subst (λ (n : ℕ). WatchNext run s t w n why) here (runs_watch_next_spoken s u t p w why same next run whole) in
     let at = subst (λ (n : ℕ). to ≡ after_step n why) here is in
     subst (λ (b : Bool). StepsBy b run s t w (position_of s t) to) (sym less) (why, found, at)
 
-steps_back_by_watch_next_if_count_is_positive : (run : List Step) (s : Stub) (t n : ℕ) (w : Bool) (why : Option Reason) (to : Stopped) → 0 < n → WatchNext run s t w (n - 1) why
+steps_back_by_watch : (run : List Step) (s : Stub) (t n : ℕ) (w : Bool) (why : Option Reason) (to : Stopped) → 0 < n → WatchNext run s t w (n - 1) why
     → to ≡ after_back (n - 1) why → StepsBackBy run s t w n to
-steps_back_by_watch_next_if_count_is_positive run s t zero w why to above next is = absurd (omega (arith, above))
-steps_back_by_watch_next_if_count_is_positive run s t (suc n) w why to above next is =
+steps_back_by_watch run s t zero w why to above next is = absurd (omega (arith, above))
+steps_back_by_watch run s t (suc n) w why to above next is =
     let less : suc n - 1 ≡ n = omega arith in
     (why, subst (λ (k : ℕ). WatchNext run s t w k why) less next, subst (λ (k : ℕ). to ≡ after_back k why) less is)
 
-pub steps_back_to_by_watch_next_if_position_is_positive : (s : Stub) (t : ℕ) (w : Bool) (why : Option Reason) (to : Stopped) → 0 < position_of s t
+pub steps_back_to_watch : (s : Stub) (t : ℕ) (w : Bool) (why : Option Reason) (to : Stopped) → 0 < position_of s t
     → EachRun s.desk.fitted (λ run. WatchNext run s t w (position_of s t - 1) why) → to ≡ after_back (position_of s t - 1) why
     → EachRun s.desk.fitted (λ run. StepsBackTo run s t w to)
-steps_back_to_by_watch_next_if_position_is_positive s t w why to above next is run whole = steps_back_by_watch_next_if_count_is_positive run s t (position_of s t) w why to above (next run whole) is
+steps_back_to_watch s t w why to above next is run whole = steps_back_by_watch run s t (position_of s t) w why to above (next run whole) is
 
 pub positive_if_not_zero : (p here : ℕ) → (p ≡ 0 → ⊥) → p ≡ here → 0 < here
 positive_if_not_zero p here some at = grind (arith, some, at)
 
-pub position_before_is_below_last : (k p here last : ℕ) → k ≡ p - 1 → p ≡ here → 0 < here → p ≤ last → k < last
-position_before_is_below_last k p here last is at above within = omega (arith, is, at, above, within)
+pub before_is_below_last : (k p here last : ℕ) → k ≡ p - 1 → p ≡ here → 0 < here → p ≤ last → k < last
+before_is_below_last k p here last is at above within = omega (arith, is, at, above, within)
 
 -- ---- searches
 
-stops_below_if_stops_below_of_spoken : (run : List Step) (s : Stub) (t : ℕ) (w : Bool) (to : Stopped) → StopsBelow run (stub_spoken s) t w to → StopsBelow run s t w to
-stops_below_if_stops_below_of_spoken run s t true to stops = stops
-stops_below_if_stops_below_of_spoken run s t false to stops = stops
+stops_below_from_spoken : (run : List Step) (s : Stub) (t : ℕ) (w : Bool) (to : Stopped) → StopsBelow run (stub_spoken s) t w to → StopsBelow run s t w to
+stops_below_from_spoken run s t true to stops = stops
+stops_below_from_spoken run s t false to stops = stops
 
-pub search_points_are_downwards_of : (u : Stub) (t : ℕ) (w : Bool) (points : List Numbered) (ws : List Watched) (bs : List Breakpoint) (own : List Numbered)
+pub search_is_downwards_of : (u : Stub) (t : ℕ) (w : Bool) (points : List Numbered) (ws : List Watched) (bs : List Breakpoint) (own : List Numbered)
     → points ≡ points_downwards t ws bs own → ws ≡ watches_if u w → bs ≡ u.breaks → own ≡ u.desk.points → points ≡ downwards_of u t w
-search_points_are_downwards_of u t w points ws bs own is watches breaks mine =
+search_is_downwards_of u t w points ws bs own is watches breaks mine =
     is ∙ ap (λ (x : List Watched). points_downwards t x bs own) watches ∙ ap (λ (x : List Breakpoint). points_downwards t (watches_if u w) x own) breaks
     ∙ ap (λ (x : List Numbered). points_downwards t (watches_if u w) u.breaks x) mine
 
-pub stops_below_at_end_of_search : (s u : Stub) (e : Desk) (t : ℕ) (w : Bool) (points : List Numbered) (hit : Option Hit) (ws : List Watched) (bs : List Breakpoint)
+pub search_end_stops_below : (s u : Stub) (e : Desk) (t : ℕ) (w : Bool) (points : List Numbered) (hit : Option Hit) (ws : List Watched) (bs : List Breakpoint)
     (to : Stopped) → u ≡ stub_spoken s → points ≡ downwards_of u t w
     → EachRun u.desk.fitted (λ run. IsLastHit u.desk.fitted run points t (position_of u t) hit) → ws ≡ watches_if (record u { desk = e }) w
     → bs ≡ u.breaks → to ≡ end_below ws bs hit → EachRun s.desk.fitted (λ run. StopsBelow run s t w to)
-stops_below_at_end_of_search s u e t w points hit ws bs to same are finds watches breaks is run whole =
+search_end_stops_below s u e t w points hit ws bs to same are finds watches breaks is run whole =
     let end = is ∙ ap (λ (x : List Watched). end_below x bs hit) (watches ∙ watches_if_ignores_desk u e w)
     ∙ ap (λ (x : List Breakpoint). end_below (watches_if u w) x hit) breaks in
     let stops : EachRun u.desk.fitted (λ r. StopsBelow r u t w to) = λ r all.
     (hit, subst (λ (ps : List Numbered). IsLastHit u.desk.fitted r ps t (position_of u t) hit) are (finds r all), end) in
-    stops_below_if_stops_below_of_spoken run s t w to (subst (λ (x : Stub). EachRun x.desk.fitted (λ r. StopsBelow r x t w to)) same stops run whole)
+    stops_below_from_spoken run s t w to (subst (λ (x : Stub). EachRun x.desk.fitted (λ r. StopsBelow r x t w to)) same stops run whole)
 
-continues_back_by_stop_below_if_no_watch_is_next : (run : List Step) (s : Stub) (t n : ℕ) (w : Bool) (why : Option Reason) (to : Stopped) → 0 < n → WatchNext run s t w (n - 1) why
+continues_back_by_stop : (run : List Step) (s : Stub) (t n : ℕ) (w : Bool) (why : Option Reason) (to : Stopped) → 0 < n → WatchNext run s t w (n - 1) why
     → why ≡ None → StopsBelow run s t w to → ContinuesBackBy run s t w n to
-continues_back_by_stop_below_if_no_watch_is_next run s t zero w why to above next none stops = absurd (omega (arith, above))
-continues_back_by_stop_below_if_no_watch_is_next run s t (suc n) w why to above next none stops =
+continues_back_by_stop run s t zero w why to above next none stops = absurd (omega (arith, above))
+continues_back_by_stop run s t (suc n) w why to above next none stops =
     let less : suc n - 1 ≡ n = omega arith in
     (why, subst (λ (k : ℕ). WatchNext run s t w k why) less next, subst (λ (x : Option Reason). BackBy run s t w (suc n) x to) (sym none) stops)
 
-pub continues_back_to_stop_below_if_no_watch_is_next : (s u : Stub) (t : ℕ) (w : Bool) (why : Option Reason) (to : Stopped) → u ≡ stub_spoken s → 0 < position_of s t
+pub continues_back_to_stop : (s u : Stub) (t : ℕ) (w : Bool) (why : Option Reason) (to : Stopped) → u ≡ stub_spoken s → 0 < position_of s t
     → EachRun s.desk.fitted (λ run. WatchNext run s t w (position_of s t - 1) why) → why ≡ None
     → EachRun u.desk.fitted (λ run. StopsBelow run u t w to) → EachRun s.desk.fitted (λ run. ContinuesBackTo run s t w to)
-continues_back_to_stop_below_if_no_watch_is_next s u t w why to same above next none stops run whole =
-    continues_back_by_stop_below_if_no_watch_is_next run s t (position_of s t) w why to above (next run whole) none
-    (stops_below_if_stops_below_of_spoken run s t w to (subst (λ (x : Stub). EachRun x.desk.fitted (λ r. StopsBelow r x t w to)) same stops run whole))
+continues_back_to_stop s u t w why to same above next none stops run whole =
+    continues_back_by_stop run s t (position_of s t) w why to above (next run whole) none
+    (stops_below_from_spoken run s t w to (subst (λ (x : Stub). EachRun x.desk.fitted (λ r. StopsBelow r x t w to)) same stops run whole))
 
-upwards_of_ignores_spoken : (s : Stub) (t : ℕ) (w : Bool) → upwards_of (stub_spoken s) t w ≡ upwards_of s t w
-upwards_of_ignores_spoken s t true = refl
-upwards_of_ignores_spoken s t false = refl
+upwards_ignores_spoken : (s : Stub) (t : ℕ) (w : Bool) → upwards_of (stub_spoken s) t w ≡ upwards_of s t w
+upwards_ignores_spoken s t true = refl
+upwards_ignores_spoken s t false = refl
 
-continues_to_if_continues_to_of_spoken : (run : List Step) (s : Stub) (t : ℕ) (w : Bool) (to : Stopped) → ContinuesTo run (stub_spoken s) t w to → ContinuesTo run s t w to
-continues_to_if_continues_to_of_spoken run s t true to stops = stops
-continues_to_if_continues_to_of_spoken run s t false to stops = stops
+continues_from_spoken : (run : List Step) (s : Stub) (t : ℕ) (w : Bool) (to : Stopped) → ContinuesTo run (stub_spoken s) t w to → ContinuesTo run s t w to
+continues_from_spoken run s t true to stops = stops
+continues_from_spoken run s t false to stops = stops
 
-pub continues_to_end_of_search : (s u v : Stub) (e : Desk) (t last : ℕ) (w : Bool) (points : List Numbered) (hit : Option Hit) (ws : List Watched) (bs : List Breakpoint)
+pub continues_to_search_end : (s u v : Stub) (e : Desk) (t last : ℕ) (w : Bool) (points : List Numbered) (hit : Option Hit) (ws : List Watched) (bs : List Breakpoint)
     (to : Stopped) → u ≡ stub_spoken s → v ≡ stub_spoken s → points ≡ upwards_of v t w
     → EachRun u.desk.fitted (λ run. IsFirstHit u.desk.fitted run points t (position_of u t) hit) → ws ≡ watches_if (record u { desk = e }) w
     → bs ≡ u.breaks → last ≡ last_of u.desk.fitted t → to ≡ end_above ws bs last hit → EachRun s.desk.fitted (λ run. ContinuesTo run s t w to)
-continues_to_end_of_search s u v e t last w points hit ws bs to same other are finds watches breaks at is run whole =
+continues_to_search_end s u v e t last w points hit ws bs to same other are finds watches breaks at is run whole =
     let end = is ∙ ap (λ (x : List Watched). end_above x bs last hit) (watches ∙ watches_if_ignores_desk u e w)
     ∙ ap (λ (x : List Breakpoint). end_above (watches_if u w) x last hit) breaks ∙ ap (λ (n : ℕ). end_above (watches_if u w) u.breaks n hit) at in
     let mine = are ∙ ap (λ (x : Stub). upwards_of x t w) (other ∙ sym same) in
     let stops : EachRun u.desk.fitted (λ r. ContinuesTo r u t w to) = λ r all.
     (hit, subst (λ (ps : List Numbered). IsFirstHit u.desk.fitted r ps t (position_of u t) hit) mine (finds r all), end) in
-    continues_to_if_continues_to_of_spoken run s t w to (subst (λ (x : Stub). EachRun x.desk.fitted (λ r. ContinuesTo r x t w to)) same stops run whole)
+    continues_from_spoken run s t w to (subst (λ (x : Stub). EachRun x.desk.fitted (λ r. ContinuesTo r x t w to)) same stops run whole)
 
 -- the end of a search upwards is at a position of the thread
-pub end_of_search_within_last : (f other : FittedTrace) (points : List Numbered) (t p last : ℕ) (ws : List Watched) (bs : List Breakpoint) (hit : Option Hit)
+pub search_end_within_last : (f other : FittedTrace) (points : List Numbered) (t p last : ℕ) (ws : List Watched) (bs : List Breakpoint) (hit : Option Hit)
     (to : Stopped) → f ≡ other → HasRun f → t < threads_of f → EachRun f (λ run. Finds run f points t p Forwards hit) → last ≡ last_of f t
     → to ≡ end_above ws bs last hit → to.position ≤ last_of other t
-end_of_search_within_last f other points t p last ws bs hit to same has l finds at is =
+search_end_within_last f other points t p last ws bs hit to same has l finds at is =
     let end = subst (λ (n : ℕ). (end_above ws bs n hit).position ≤ last_of f t) (sym at) (end_above_within_last f points t p ws bs hit has l finds) in
     subst (λ (g : FittedTrace). to.position ≤ last_of g t) same (subst (λ (x : Stopped). x.position ≤ last_of f t) (sym is) end)

@@ -5,22 +5,22 @@ use Rattle.ir_flat.specs.Flat.{idle}
 use Rattle.ir_fit.specs.Fit.{FittedTrace, HasRun}
 use Rattle.ir_cut.specs.Laws.{GreatestExact}
 use Rattle.ir_cut.specs.Positions.{EachRun, IsConsistentCut, cut_of, threads_of, thread_at}
-use Rattle.ir_weave.specs.Standing.{StandsAt}
+use Rattle.ir_weave.specs.Standing.{StandsAtCut}
 use Rattle.ir_debug.specs.Debugging.{ToGreatest}
 use Rattle.ir_gdb.specs.Serving.{Serving}
 
-pub guest_thread_is_below_number_of_threads_in_hand : (s : Serving) (cut : List ℕ) (t : ℕ) → StandsAt s.stub.desk.fitted (cut_of cut) s.state → t < threads_of s.stub.desk.fitted
+pub guest_thread_is_in_hand : (s : Serving) (cut : List ℕ) (t : ℕ) → StandsAtCut s.stub.desk.fitted (cut_of cut) s.state → t < threads_of s.stub.desk.fitted
     → t < length s.state.threads
-guest_thread_is_below_number_of_threads_in_hand s cut t there below = subst (λ (n : ℕ). t < n) (sym there.at.threads) below
+guest_thread_is_in_hand s cut t there below = subst (λ (n : ℕ). t < n) (sym there.at.threads) below
 
-pub thread_in_hand_is_at_cut : (s : Serving) (cut : List ℕ) (t : ℕ) → StandsAt s.stub.desk.fitted (cut_of cut) s.state
+pub hand_thread_at_cut : (s : Serving) (cut : List ℕ) (t : ℕ) → StandsAtCut s.stub.desk.fitted (cut_of cut) s.state
     → EachRun s.stub.desk.fitted (λ run. slice_index_or s.state.threads t idle ≡ thread_at s.stub.desk.fitted run t (cut_of cut t))
-thread_in_hand_is_at_cut s cut t there run is = (there.at.each run is).threads t
+hand_thread_at_cut s cut t there run is = (there.at.each run is).threads t
 
 -- the greatest cut with thread t at a position that isn't above its own has it there
-pub greatest_cut_to_position_behind_is_exactly_there : GreatestExact → (f : FittedTrace) (at cut : List ℕ) (t k : ℕ) → HasRun f → IsConsistentCut f at → k ≤ cut_of at t
+pub greatest_behind_exact : GreatestExact → (f : FittedTrace) (at cut : List ℕ) (t k : ℕ) → HasRun f → IsConsistentCut f at → k ≤ cut_of at t
     → EachRun f (λ run. ToGreatest run f at t k cut) → cut_of cut t ≡ k
-greatest_cut_to_position_behind_is_exactly_there law f at cut t k has held low greatest =
+greatest_behind_exact law f at cut t k has held low greatest =
     law f.guest f.recorded.budget f.recorded.profile has.run has.whole.1.runs (cut_of at) (cut_of cut) t k (held has.run has.whole).0
     (held has.run has.whole).1 low (greatest has.run has.whole).1
 

@@ -1,5 +1,6 @@
 -- A move of the threads together passes no hit.
-use Rattle.std.proofs.Common.{◌≡◌, ◌≢◌, ◌<◌, ◌≤◌, ◌+◌, ◌-◌, ◌⊎◌, ◌∙◌, ℕ, zero, suc, Bool, true, false, List, Option, Some, None, is_some, is_none, true≢false, inl, inr, refl, sym, ap, subst, arith, eq-eqb, ne_eqb}
+use Rattle.std.proofs.Common.{◌≡◌, ◌≢◌, ◌<◌, ◌≤◌, ◌+◌, ◌-◌, ◌⊎◌, ◌∙◌, ℕ, zero, suc, Bool, true, false, List, Option, Some, None, is_some}
+use Rattle.std.proofs.Common.{is_none, true≢false, inl, inr, refl, sym, ap, subst, arith, eq-eqb, ne_eqb}
 use Rattle.std.specs.Prelude.{◌&&◌, ◌==◌, not, nat_lt, length, option_map, if◌then◌else◌}
 use Rattle.std.proofs.lemmas.Bool.{cases_eq, cases_lt, eqb-true, or_parts}
 use Rattle.ir_lemmas.proofs.CallerLemmas.{conjunction_with_false}
@@ -19,11 +20,15 @@ use Rattle.ir_gdb.specs.declared.point.Watched.{Watched}
 use Rattle.ir_gdb.specs.declared.stopped.Stopped.{Stopped}
 use Rattle.ir_gdb.specs.Points.{watch_points}
 use Rattle.ir_gdb.specs.Stub.{Stub}
-use Rattle.ir_gdb.specs.Stops.{stopped, position_of, watches_if, upwards_of, break_reason, watch_reason, stop_above, end_above, is_hit, after_step, StepsBy, StepsTo, end_of_range, after_range, Leaves, RangesTo, after_back, StepsBackBy, StopsInDirection, direction_of, reason_at_end}
-use Rattle.ir_gdb.specs.Together.{Halt, halt, Comes, stop_among, AreStops, is_on_way, meets, FirstMet, halt_or, moves, moves_other, MetBy, own_halt, met_or, StopsAmong, FirstStop, furthest, ContinuesAmong, MovesAmong}
+use Rattle.ir_gdb.specs.Stops.{stopped, position_of, watches_if, upwards_of, break_reason, watch_reason, stop_above, end_above, is_hit}
+use Rattle.ir_gdb.specs.Stops.{after_step, StepsBy, StepsTo, end_of_range, after_range, Leaves, RangesTo, after_back, StepsBackBy}
+use Rattle.ir_gdb.specs.Stops.{StopsInDirection, direction_of, reason_at_end}
+use Rattle.ir_gdb.specs.Together.{Halt, halt, Comes, stop_among, AreStops, is_on_way, meets, FirstMet, halt_or, moves, moves_other, MetBy}
+use Rattle.ir_gdb.specs.Together.{own_halt, met_or, StopsAmong, FirstStop, furthest, ContinuesAmong, MovesAmong}
 use Rattle.ir_gdb.specs.Laws.{MeetsNone, PassesNone, PassesNoHit, Stands}
-use Rattle.ir_gdb.proofs.Ways.{stop_above_is_not_above_hit, stop_above_is_next_to_hit, meets_none_if_not_met, meets_none_if_it_stays, passes_none_to_own_stop, passes_none_if_meets_none, own_stop_is_behind, own_stop_is_ahead}
-use Rattle.ir_gdb.proofs.Blocked.{Within, comes_exactly, meets_none_of_free, no_hit_on_way_if_none_met}
+use Rattle.ir_gdb.proofs.Ways.{stop_above_le_hit, hit_le_suc_stop_above, meets_none_if_not_met, meets_none_if_it_stays}
+use Rattle.ir_gdb.proofs.Ways.{passes_none_to_own_stop, meets_none_passes_none, own_stop_is_behind, own_stop_is_ahead}
+use Rattle.ir_gdb.proofs.Blocked.{Within, comes_exactly_there, meets_none_of_free, none_met_on_way}
 
 here_within_last : (run : List Step) (s : Stub) → Stands run s → (t : ℕ) → t < threads_of s.desk.fitted → position_of s t ≤ last_of s.desk.fitted t
 here_within_last run s stands t below =
@@ -100,9 +105,9 @@ step_back_is_move run s t (suc p) to here (why, (hit, next, told), is) = by hit 
 -- ---- a range
 
 -- the first hit of a thread in a window is its first of all
-one_first_position : (f : FittedTrace) (run : List Step) (points : List Numbered) (t p to : ℕ) (h k : Hit) → IsNextHit f run points t p to (Some h)
+first_hit_position_unique : (f : FittedTrace) (run : List Step) (points : List Numbered) (t p to : ℕ) (h k : Hit) → IsNextHit f run points t p to (Some h)
     → IsFirstHit f run points t p (Some k) → h.position ≡ k.position
-one_first_position f run points t p to h k next first = elim (cases_lt h.position k.position) [
+first_hit_position_unique f run points t p to h k next first = elim (cases_lt h.position k.position) [
   | inl less ↦ (let up = next.0 in absurd (first.1 h.position h.number up less next.3.hits))
   | inr from ↦ elim (cases_lt k.position h.position) [
     | inl less ↦ (let up = first.0 in absurd (next.2 k.position k.number up less first.2.hits))
@@ -110,9 +115,9 @@ one_first_position f run points t p to h k next first = elim (cases_lt h.positio
   ]
 ]
 
-one_lowest_number : (f : FittedTrace) (run : List Step) (points : List Numbered) (t i j n m : ℕ) → i ≡ j → IsLowest f run points t i n
+lowest_number_unique : (f : FittedTrace) (run : List Step) (points : List Numbered) (t i j n m : ℕ) → i ≡ j → IsLowest f run points t i n
     → IsLowest f run points t j m → n ≡ m
-one_lowest_number f run points t i j n m same one two =
+lowest_number_unique f run points t i j n m same one two =
     let le = one.lowest m (subst (λ (k : ℕ). HitByNumber f run points t k m) (sym same) two.hits) in
     let ge = two.lowest n (subst (λ (k : ℕ). HitByNumber f run points t k n) same one.hits) in
     omega (arith, le, ge)
@@ -121,14 +126,14 @@ stop_above_at : List Watched → List Breakpoint → ℕ → ℕ → ℕ
 stop_above_at ws bs position number = (if nat_lt number (length ws) then stopped (position - 1) (watch_reason ws number)
     else stopped position (break_reason bs (number - length ws))).position
 
-one_stop_above : (ws : List Watched) (bs : List Breakpoint) (h k : Hit) → h.position ≡ k.position → h.number ≡ k.number
+stop_above_by_equal_hits : (ws : List Watched) (bs : List Breakpoint) (h k : Hit) → h.position ≡ k.position → h.number ≡ k.number
     → (stop_above ws bs h).position ≡ (stop_above ws bs k).position
 unfolding stop_above_at
-one_stop_above ws bs h k place number = ap (λ (p : ℕ). stop_above_at ws bs p h.number) place ∙ ap (λ (n : ℕ). stop_above_at ws bs k.position n) number
+stop_above_by_equal_hits ws bs h k place number = ap (λ (p : ℕ). stop_above_at ws bs p h.number) place ∙ ap (λ (n : ℕ). stop_above_at ws bs k.position n) number
 
-after_range_is_at_its_end : (last : ℕ) (left : Option ℕ) → (after_range last left).position ≡ end_of_range last left
-after_range_is_at_its_end last None = refl
-after_range_is_at_its_end last (Some k) = refl
+after_range_at_end : (last : ℕ) (left : Option ℕ) → (after_range last left).position ≡ end_of_range last left
+after_range_at_end last None = refl
+after_range_at_end last (Some k) = refl
 
 range_ends_ahead : (run : List Step) (s : Stub) (t low high : ℕ) (left : Option ℕ) → position_of s t ≤ last_of s.desk.fitted t → Leaves run s t low high left
     → position_of s t ≤ end_of_range (last_of s.desk.fitted t) left
@@ -150,7 +155,7 @@ range_to_end_is_move run s t end to ahead at none = record {
     of_hit own (Some h) first ends k hit way = elim (cases_lt end h.position) [
       | inl less ↦
           let place = ap (λ (x : Stopped). x.position) ends in
-          let next = stop_above_is_next_to_hit (watches_if s true) s.breaks h in
+          let next = hit_le_suc_stop_above (watches_if s true) s.breaks h in
           omega (arith, less, place, next, way, at)
       | inr from ↦ (let up = first.0 in absurd (none h.position h.number up (omega (arith, from)) first.2.hits))
     ]
@@ -164,8 +169,8 @@ range_to_hit_is_move : (run : List Step) (s : Stub) (t end : ℕ) (h : Hit) (to 
 range_to_hit_is_move run s t end h to next is =
     let at = ap (λ (x : Stopped). x.position) is in
     let up = next.0 in
-    let near = stop_above_is_next_to_hit (watches_if s true) s.breaks h in
-    let under = stop_above_is_not_above_hit (watches_if s true) s.breaks h in
+    let near = hit_le_suc_stop_above (watches_if s true) s.breaks h in
+    let under = stop_above_le_hit (watches_if s true) s.breaks h in
     record {
       ahead = omega (arith, at, up, near);
       none = λ j n low high hits. next.2 j n low (omega (arith, high, at, under)) hits;
@@ -176,9 +181,9 @@ range_to_hit_is_move run s t end h to next is =
         → own ≡ end_above (watches_if s true) s.breaks (last_of s.desk.fitted t) other → (k : ℕ) → is_hit own.reason ≡ true → own.position ≤ k → to.position ≤ k
     of_hit own None first ends k hit way = absurd (true≢false (sym hit ∙ ap (λ (x : Stopped). is_hit x.reason) ends))
     of_hit own (Some other) first ends k hit way =
-        let place = one_first_position s.desk.fitted run (upwards_of s t true) t (position_of s t) end h other next first in
-        let number = one_lowest_number s.desk.fitted run (upwards_of s t true) t h.position other.position h.number other.number place next.3 first.2 in
-        let same = one_stop_above (watches_if s true) s.breaks h other place number in
+        let place = first_hit_position_unique s.desk.fitted run (upwards_of s t true) t (position_of s t) end h other next first in
+        let number = lowest_number_unique s.desk.fitted run (upwards_of s t true) t h.position other.position h.number other.number place next.3 first.2 in
+        let same = stop_above_by_equal_hits (watches_if s true) s.breaks h other place number in
         let here = ap (λ (x : Stopped). x.position) is in
         let there = ap (λ (x : Stopped). x.position) ends in
         omega (arith, same, here, there, way)
@@ -190,35 +195,35 @@ range_is_move : (run : List Step) (s : Stub) (t low high : ℕ) (to : Stopped) �
     → IsMove run s Forwards t to
 range_is_move run s t low high to within (left, leaves, (None, next, is)) =
     range_to_end_is_move run s t (end_of_range (last_of s.desk.fitted t) left) to (range_ends_ahead run s t low high left within leaves)
-    (ap (λ (x : Stopped). x.position) is ∙ after_range_is_at_its_end (last_of s.desk.fitted t) left) next
+    (ap (λ (x : Stopped). x.position) is ∙ after_range_at_end (last_of s.desk.fitted t) left) next
 range_is_move run s t low high to within (left, leaves, (Some h, next, is)) =
     range_to_hit_is_move run s t (end_of_range (last_of s.desk.fitted t) left) h to next is
 
 -- ---- the stop of a thread that is met
 
 -- another thread that has no hit on the way to the stop has passed none
-others_meet_none : (run : List Step) (s : Stub) (d : Direction) (t : ℕ) (each : List Stopped) (h : Halt) → AreStops run s d t each
+others_meet_no_hit : (run : List Step) (s : Stub) (d : Direction) (t : ℕ) (each : List Stopped) (h : Halt) → AreStops run s d t each
     → ((u : ℕ) → u < threads_of s.desk.fitted → u ≢ h.thread → meets s d each h.cut u ≡ false)
     → (u : ℕ) → u < threads_of s.desk.fitted → u ≢ h.thread → MeetsNone run s d u (u == t) (cut_of h.cut u)
-others_meet_none run s d t each h stops none u below other =
+others_meet_no_hit run s d t each h stops none u below other =
     meets_none_if_not_met run s d u (cut_of h.cut u) (u == t) (stop_among each u) (stops.own u below) (none u below other)
 
 -- a thread's own stop isn't behind it
-own_stop_within : (run : List Step) (s : Stub) → Stands run s → (d : Direction) (u : ℕ) (w : Bool) (to : Stopped) → u < threads_of s.desk.fitted → StopsInDirection d run s u w to
+own_stop_is_within : (run : List Step) (s : Stub) → Stands run s → (d : Direction) (u : ℕ) (w : Bool) (to : Stopped) → u < threads_of s.desk.fitted → StopsInDirection d run s u w to
     → Within d (position_of s u) to.position
-own_stop_within run s stands Forwards u w to below goes =
+own_stop_is_within run s stands Forwards u w to below goes =
     own_stop_is_ahead run s u (last_of s.desk.fitted u) w to (here_within_last run s stands u below) refl goes
-own_stop_within run s stands Backwards u w to below goes = own_stop_is_behind run s u w to goes
+own_stop_is_within run s stands Backwards u w to below goes = own_stop_is_behind run s u w to goes
 
 -- a thread that comes to its own stop, with no hit of another on the way
 own_stop_passes_no_hit : (run : List Step) (s : Stub) → Stands run s → (d : Direction) (t : ℕ) (each : List Stopped) (h : Halt) → AreStops run s d t each
     → h.thread < threads_of s.desk.fitted → Comes run s d h.thread (stop_among each h.thread).position h.cut
     → ((u : ℕ) → u < threads_of s.desk.fitted → u ≢ h.thread → meets s d each h.cut u ≡ false) → PassesNoHit run s t d h
 own_stop_passes_no_hit run s stands d t each h stops below comes none = record {
-  others = others_meet_none run s d t each h stops none;
+  others = others_meet_no_hit run s d t each h stops none;
   own = passes_none_to_own_stop run s d h.thread (cut_of h.cut h.thread) (h.thread == t) (stop_among each h.thread) (stops.own h.thread below)
-      (comes_exactly run s stands d h.thread (stop_among each h.thread).position h.cut
-      (own_stop_within run s stands d h.thread (h.thread == t) (stop_among each h.thread) below (stops.own h.thread below)) comes);
+      (comes_exactly_there run s stands d h.thread (stop_among each h.thread).position h.cut
+      (own_stop_is_within run s stands d h.thread (h.thread == t) (stop_among each h.thread) below (stops.own h.thread below)) comes);
 }
 
 met_stop_passes_no_hit : (run : List Step) (s : Stub) → Stands run s → (d : Direction) (t n : ℕ) (each : List Stopped) (cut : List ℕ) (h : Halt) → AreStops run s d n each
@@ -229,15 +234,15 @@ met_stop_passes_no_hit run s stands d t n each cut h stops first =
 -- ---- all continue
 
 -- thread k, which continues to its own stop, is met by none
-pub none_blocked_on_way_to_own_stop : (run : List Step) (s : Stub) → Stands run s → (d : Direction) (t : ℕ) (each : List Stopped) (cut : List ℕ)
+pub none_meets_on_way : (run : List Step) (s : Stub) → Stands run s → (d : Direction) (t : ℕ) (each : List Stopped) (cut : List ℕ)
     → Comes run s d t (stop_among each t).position cut → FirstMet run s d each cut t None
     → (u : ℕ) → u < threads_of s.desk.fitted → u ≢ t → meets s d each cut u ≡ false
-none_blocked_on_way_to_own_stop run s stands d t each cut comes none =
-    no_hit_on_way_if_none_met run s stands d each t (stop_among each t).position cut comes (λ k moved on hit way. way) none
+none_meets_on_way run s stands d t each cut comes none =
+    none_met_on_way run s stands d each t (stop_among each t).position cut comes (λ k moved on hit way. way) none
 
-stop_among_passes_no_hit : (run : List Step) (s : Stub) → Stands run s → (d : Direction) (t k : ℕ) (each : List Stopped) (h : Halt) → AreStops run s d t each
+stop_passes_no_hit : (run : List Step) (s : Stub) → Stands run s → (d : Direction) (t k : ℕ) (each : List Stopped) (h : Halt) → AreStops run s d t each
     → k < threads_of s.desk.fitted → StopsAmong run s d each k (Some h) → PassesNoHit run s t d h
-stop_among_passes_no_hit run s stands d t k each h stops below (cut, comes, (met, first, is)) = by met (is_hit (stop_among each k).reason) first is
+stop_passes_no_hit run s stands d t k each h stops below (cut, comes, (met, first, is)) = by met (is_hit (stop_among each k).reason) first is
   where
     by : (met : Option Halt) (hit : Bool) → FirstMet run s d each cut k met → Some h ≡ met_or met (own_halt hit (halt k cut (stop_among each k).reason))
         → PassesNoHit run s t d h
@@ -246,16 +251,16 @@ stop_among_passes_no_hit run s stands d t k each h stops below (cut, comes, (met
     by None true none is =
         let same : h ≡ halt k cut (stop_among each k).reason = cc is in
         subst (PassesNoHit run s t d) (sym same) (own_stop_passes_no_hit run s stands d t each (halt k cut (stop_among each k).reason) stops below comes
-        (none_blocked_on_way_to_own_stop run s stands d k each cut comes none))
+        (none_meets_on_way run s stands d k each cut comes none))
     by None false none is = absurd (some_is_not_none is)
       where
         some_is_not_none : {A : Type 0} {x : A} → ◌≡◌ {A = Option A} (Some x) None → ⊥
         some_is_not_none is = true≢false (ap is_some is)
 
 -- a thread that has no stop has no hit
-pub no_hit_without_stop : (run : List Step) (s : Stub) (d : Direction) (k : ℕ) (each : List Stopped) → StopsAmong run s d each k None
+pub no_stop_is_no_hit : (run : List Step) (s : Stub) (d : Direction) (k : ℕ) (each : List Stopped) → StopsAmong run s d each k None
     → is_hit (stop_among each k).reason ≡ false
-no_hit_without_stop run s d k each (cut, comes, (met, first, is)) = by met (is_hit (stop_among each k).reason) is
+no_stop_is_no_hit run s d k each (cut, comes, (met, first, is)) = by met (is_hit (stop_among each k).reason) is
   where
     some_is_not_none : {A : Type 0} {x : A} → ◌≡◌ {A = Option A} None (Some x) → ⊥
     some_is_not_none is = true≢false (ap is_none is)
@@ -265,8 +270,8 @@ no_hit_without_stop run s d k each (cut, comes, (met, first, is)) = by met (is_h
     by None true is = absurd (some_is_not_none is)
     by (Some other) hit is = absurd (some_is_not_none is)
 
-not_met_without_hit : (s : Stub) (d : Direction) (each : List Stopped) (cut : List ℕ) (u : ℕ) → is_hit (stop_among each u).reason ≡ false → meets s d each cut u ≡ false
-not_met_without_hit s d each cut u none =
+no_hit_reason_meets_none : (s : Stub) (d : Direction) (each : List Stopped) (cut : List ℕ) (u : ℕ) → is_hit (stop_among each u).reason ≡ false → meets s d each cut u ≡ false
+no_hit_reason_meets_none s d each cut u none =
     ap (λ (b : Bool). not (position_of s u == cut_of cut u) && (b && is_on_way d (stop_among each u).position (cut_of cut u))) none
     ∙ conjunction_with_false (not (position_of s u == cut_of cut u))
 
@@ -274,36 +279,36 @@ no_stop_passes_no_hit : (run : List Step) (s : Stub) (d : Direction) (t : ℕ) (
     → h.thread ≡ t → FirstStop run s d each t None → PassesNoHit run s t d h
 no_stop_passes_no_hit run s d t each h stops below at (mine, all) = record {
   others = λ u less other. of_thread u less;
-  own = passes_none_if_meets_none run s d h.thread (cut_of h.cut h.thread) (h.thread == t) (of_thread h.thread (omega (arith, below, at)));
+  own = meets_none_passes_none run s d h.thread (cut_of h.cut h.thread) (h.thread == t) (of_thread h.thread (omega (arith, below, at)));
 }
   where
     hitless : (u : ℕ) → u < threads_of s.desk.fitted → is_hit (stop_among each u).reason ≡ false
     hitless u less = elim (cases_eq u t) [
-      | inl same ↦ subst (λ (x : ℕ). is_hit (stop_among each x).reason ≡ false) (sym same) (no_hit_without_stop run s d t each mine)
-      | inr other ↦ no_hit_without_stop run s d u each (all u less other)
+      | inl same ↦ subst (λ (x : ℕ). is_hit (stop_among each x).reason ≡ false) (sym same) (no_stop_is_no_hit run s d t each mine)
+      | inr other ↦ no_stop_is_no_hit run s d u each (all u less other)
     ]
 
     of_thread : (u : ℕ) → u < threads_of s.desk.fitted → MeetsNone run s d u (u == t) (cut_of h.cut u)
     of_thread u less = meets_none_if_not_met run s d u (cut_of h.cut u) (u == t) (stop_among each u) (stops.own u less)
-        (not_met_without_hit s d each h.cut u (hitless u less))
+        (no_hit_reason_meets_none s d each h.cut u (hitless u less))
 
-pub continuing_passes_no_hit : (run : List Step) (s : Stub) → Stands run s → (d : Direction) (t : ℕ) (h : Halt) → t < threads_of s.desk.fitted → ContinuesAmong run s t d h
+pub continue_passes_no_hit : (run : List Step) (s : Stub) → Stands run s → (d : Direction) (t : ℕ) (h : Halt) → t < threads_of s.desk.fitted → ContinuesAmong run s t d h
     → PassesNoHit run s t d h
-continuing_passes_no_hit run s stands d t h below (each, stops, (stop, first, is)) = by stop first is
+continue_passes_no_hit run s stands d t h below (each, stops, (stop, first, is)) = by stop first is
   where
     by : (stop : Option Halt) → FirstStop run s d each t stop → h ≡ halt_or stop (halt t (furthest s d) (reason_at_end d)) → PassesNoHit run s t d h
     by None first is = no_stop_passes_no_hit run s d t each h stops below (ap (λ (x : Halt). x.thread) is) first
-    by (Some other) (inl mine) is = subst (PassesNoHit run s t d) (sym is) (stop_among_passes_no_hit run s stands d t t each other stops below mine)
+    by (Some other) (inl mine) is = subst (PassesNoHit run s t d) (sym is) (stop_passes_no_hit run s stands d t t each other stops below mine)
     by (Some other) (inr (none, (k, less, differs, others, its))) is =
-        subst (PassesNoHit run s t d) (sym is) (stop_among_passes_no_hit run s stands d t k each other stops less its)
+        subst (PassesNoHit run s t d) (sym is) (stop_passes_no_hit run s stands d t k each other stops less its)
 
 -- ---- a few steps
 
-stays_if_not_moved : (s : Stub) (cut : List ℕ) (t n : ℕ) → moves_other s cut t n ≡ false → (u : ℕ) → u < n → u ≢ t → position_of s u ≡ cut_of cut u
+unmoved_thread_stays : (s : Stub) (cut : List ℕ) (t n : ℕ) → moves_other s cut t n ≡ false → (u : ℕ) → u < n → u ≢ t → position_of s u ≡ cut_of cut u
 unfolding moves_other
-stays_if_not_moved s cut t zero test u below other = absurd (omega (arith, below))
-stays_if_not_moved s cut t (suc n) test u below other = by (or_parts (moves_other s cut t n) (moves s cut t n) test) (cases_eq u n)
-    (λ earlier less. stays_if_not_moved s cut t n earlier u less other)
+unmoved_thread_stays s cut t zero test u below other = absurd (omega (arith, below))
+unmoved_thread_stays s cut t (suc n) test u below other = by (or_parts (moves_other s cut t n) (moves s cut t n) test) (cases_eq u n)
+    (λ earlier less. unmoved_thread_stays s cut t n earlier u less other)
   where
     unmoved : (a b : Bool) → a ≡ false → (not a && not b) ≡ false → b ≡ true
     unmoved true b is test = absurd (true≢false is)
@@ -323,7 +328,7 @@ few_steps_pass_no_hit run s stands d t to cut h below move comes met_by = by (mo
   where
     own : PassesNone run s d t (t == t) (cut_of cut t)
     own = subst (λ (b : Bool). PassesNone run s d t b (cut_of cut t)) (sym (eq-eqb t t refl))
-        (subst (PassesNone run s d t true) (sym (comes_exactly run s stands d t to.position cut move.ahead comes)) move.none)
+        (subst (PassesNone run s d t true) (sym (comes_exactly_there run s stands d t to.position cut move.ahead comes)) move.none)
 
     of_none : ((u : ℕ) → u < threads_of s.desk.fitted → u ≢ t → MeetsNone run s d u (u == t) (cut_of cut u)) → h ≡ halt t cut to.reason → PassesNoHit run s t d h
     of_none others is = subst (PassesNoHit run s t d) (sym is) (record { others = others; own = own })
@@ -331,22 +336,22 @@ few_steps_pass_no_hit run s stands d t to cut h below move comes met_by = by (mo
     of_met : (each : List Stopped) → AreStops run s d t each → (met : Option Halt) → FirstMet run s d each cut t met → h ≡ halt_or met (halt t cut to.reason)
         → PassesNoHit run s t d h
     of_met each stops (Some other) first is = subst (PassesNoHit run s t d) (sym is) (met_stop_passes_no_hit run s stands d t t each cut other stops first)
-    of_met each stops None none is = of_none (others_meet_none run s d t each (halt t cut to.reason) stops
-        (no_hit_on_way_if_none_met run s stands d each t to.position cut comes
+    of_met each stops None none is = of_none (others_meet_no_hit run s d t each (halt t cut to.reason) stops
+        (none_met_on_way run s stands d each t to.position cut comes
         (move.near (stop_among each t) (subst (λ (b : Bool). StopsInDirection d run s t b (stop_among each t)) (eq-eqb t t refl) (stops.own t below))) none)) is
 
     by : (b : Bool) → moves_other s cut t (threads_of s.desk.fitted) ≡ b → MetBy b run s d cut (halt t cut to.reason) h → PassesNoHit run s t d h
     by false stays is = of_none (λ u less other. meets_none_if_it_stays run s d u (cut_of cut u) (u == t)
-        (stays_if_not_moved s cut t (threads_of s.desk.fitted) stays u less other)) is
+        (unmoved_thread_stays s cut t (threads_of s.desk.fitted) stays u less other)) is
     by true moved (each, stops, (met, first, is)) = of_met each stops met first is
 
-pub move_among_passes_no_hit : (run : List Step) (s : Stub) (t : ℕ) (m : Motion) (h : Halt) → Stands run s → t < threads_of s.desk.fitted → MovesAmong run s t m h
+pub move_passes_no_hit : (run : List Step) (s : Stub) (t : ℕ) (m : Motion) (h : Halt) → Stands run s → t < threads_of s.desk.fitted → MovesAmong run s t m h
     → PassesNoHit run s t (direction_of m) h
-move_among_passes_no_hit run s t motion.Step h stands below (to, steps, (cut, comes, met_by)) =
+move_passes_no_hit run s t motion.Step h stands below (to, steps, (cut, comes, met_by)) =
     few_steps_pass_no_hit run s stands Forwards t to cut h below (steps_are_move run s t to steps) comes met_by
-move_among_passes_no_hit run s t (motion.Range low high) h stands below (to, ranges, (cut, comes, met_by)) =
+move_passes_no_hit run s t (motion.Range low high) h stands below (to, ranges, (cut, comes, met_by)) =
     few_steps_pass_no_hit run s stands Forwards t to cut h below (range_is_move run s t low high to (here_within_last run s stands t below) ranges) comes met_by
-move_among_passes_no_hit run s t motion.Continue h stands below continues = continuing_passes_no_hit run s stands Forwards t h below continues
-move_among_passes_no_hit run s t motion.StepBack h stands below (to, steps, (cut, comes, met_by)) =
+move_passes_no_hit run s t motion.Continue h stands below continues = continue_passes_no_hit run s stands Forwards t h below continues
+move_passes_no_hit run s t motion.StepBack h stands below (to, steps, (cut, comes, met_by)) =
     few_steps_pass_no_hit run s stands Backwards t to cut h below (step_back_is_move run s t (position_of s t) to refl steps) comes met_by
-move_among_passes_no_hit run s t motion.ContinueBack h stands below continues = continuing_passes_no_hit run s stands Backwards t h below continues
+move_passes_no_hit run s t motion.ContinueBack h stands below continues = continue_passes_no_hit run s stands Backwards t h below continues

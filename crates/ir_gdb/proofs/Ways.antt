@@ -16,7 +16,9 @@ use Rattle.ir_gdb.specs.declared.point.Watched.{Watched}
 use Rattle.ir_gdb.specs.declared.stopped.Stopped.{Stopped}
 use Rattle.ir_gdb.specs.Points.{watch_points}
 use Rattle.ir_gdb.specs.Stub.{Stub}
-use Rattle.ir_gdb.specs.Stops.{stopped, position_of, watches_if, upwards_of, downwards_of, reason_of_break, reason_of_watch, break_of, break_reason, watch_reason, stop_above, stop_below, end_above, end_below, is_hit, ContinuesTo, BackBy, ContinuesBackBy, StopsInDirection}
+use Rattle.ir_gdb.specs.Stops.{stopped, position_of, watches_if, upwards_of, downwards_of, reason_of_break, reason_of_watch, break_of}
+use Rattle.ir_gdb.specs.Stops.{break_reason, watch_reason, stop_above, stop_below, end_above, end_below, is_hit, ContinuesTo, BackBy}
+use Rattle.ir_gdb.specs.Stops.{ContinuesBackBy, StopsInDirection}
 use Rattle.ir_gdb.specs.Together.{is_on_way}
 use Rattle.ir_gdb.specs.Laws.{MeetsNone, PassesNone}
 
@@ -49,22 +51,22 @@ stop_above_is_hit : (ws : List Watched) (bs : List Breakpoint) (h : Hit) → is_
 stop_above_is_hit ws bs h = choice_has_property (λ x. is_hit x.reason ≡ true) (nat_lt h.number (length ws)) (stopped (h.position - 1) (watch_reason ws h.number))
     (stopped h.position (break_reason bs (h.number - length ws))) (watch_reason_is_hit (slice_get ws h.number)) (break_reason_is_hit (slice_get bs (h.number - length ws)))
 
-pub stop_above_is_not_above_hit : (ws : List Watched) (bs : List Breakpoint) (h : Hit) → (stop_above ws bs h).position ≤ h.position
-stop_above_is_not_above_hit ws bs h = choice_has_property (λ x. x.position ≤ h.position) (nat_lt h.number (length ws)) (stopped (h.position - 1) (watch_reason ws h.number))
+pub stop_above_le_hit : (ws : List Watched) (bs : List Breakpoint) (h : Hit) → (stop_above ws bs h).position ≤ h.position
+stop_above_le_hit ws bs h = choice_has_property (λ x. x.position ≤ h.position) (nat_lt h.number (length ws)) (stopped (h.position - 1) (watch_reason ws h.number))
     (stopped h.position (break_reason bs (h.number - length ws))) (omega arith) (omega arith)
 
-pub stop_above_is_next_to_hit : (ws : List Watched) (bs : List Breakpoint) (h : Hit) → h.position ≤ suc (stop_above ws bs h).position
-stop_above_is_next_to_hit ws bs h = choice_has_property (λ x. h.position ≤ suc x.position) (nat_lt h.number (length ws)) (stopped (h.position - 1) (watch_reason ws h.number))
+pub hit_le_suc_stop_above : (ws : List Watched) (bs : List Breakpoint) (h : Hit) → h.position ≤ suc (stop_above ws bs h).position
+hit_le_suc_stop_above ws bs h = choice_has_property (λ x. h.position ≤ suc x.position) (nat_lt h.number (length ws)) (stopped (h.position - 1) (watch_reason ws h.number))
     (stopped h.position (break_reason bs (h.number - length ws))) (omega arith) (omega arith)
 
-first_hit_stops : (f : FittedTrace) (run : List Step) (points : List Numbered) (u p last : ℕ) (ws : List Watched) (bs : List Breakpoint) (hit : Option Hit)
+first_hit_stops_above : (f : FittedTrace) (run : List Step) (points : List Numbered) (u p last : ℕ) (ws : List Watched) (bs : List Breakpoint) (hit : Option Hit)
     → IsFirstHit f run points u p hit → StopsAbove f run points u p (end_above ws bs last hit)
-first_hit_stops f run points u p last ws bs None finds = record {
+first_hit_stops_above f run points u p last ws bs None finds = record {
   met = λ j n above hits. absurd (finds j n above hits);
   none = λ j n low high hits. finds j n low hits;
 }
-first_hit_stops f run points u p last ws bs (Some h) finds =
-    let below = stop_above_is_not_above_hit ws bs h in
+first_hit_stops_above f run points u p last ws bs (Some h) finds =
+    let below = stop_above_le_hit ws bs h in
     record {
       met = λ j n above hits. (
         stop_above_is_hit ws bs h,
@@ -76,10 +78,10 @@ first_hit_stops f run points u p last ws bs (Some h) finds =
       none = λ j n low high hits. finds.1 j n low (omega (arith, high, below)) hits;
     }
 
-goes_above : (run : List Step) (s : Stub) (u : ℕ) (w : Bool) (to : Stopped) → ContinuesTo run s u w to
+continuing_stops_above : (run : List Step) (s : Stub) (u : ℕ) (w : Bool) (to : Stopped) → ContinuesTo run s u w to
     → StopsAbove s.desk.fitted run (upwards_of s u w) u (position_of s u) to
-goes_above run s u w to (hit, finds, ends) = subst (StopsAbove s.desk.fitted run (upwards_of s u w) u (position_of s u)) (sym ends)
-    (first_hit_stops s.desk.fitted run (upwards_of s u w) u (position_of s u) _ (watches_if s w) s.breaks hit finds)
+continuing_stops_above run s u w to (hit, finds, ends) = subst (StopsAbove s.desk.fitted run (upwards_of s u w) u (position_of s u)) (sym ends)
+    (first_hit_stops_above s.desk.fitted run (upwards_of s u w) u (position_of s u) _ (watches_if s w) s.breaks hit finds)
 
 -- ---- downwards
 
@@ -94,20 +96,20 @@ stop_below_is_hit : (ws : List Watched) (bs : List Breakpoint) (h : Hit) → is_
 stop_below_is_hit ws bs h = choice_has_property (λ x. is_hit x.reason ≡ true) (nat_lt h.number (length bs)) (stopped h.position (break_reason bs h.number))
     (stopped h.position (watch_reason ws (h.number - length bs))) (break_reason_is_hit (slice_get bs h.number)) (watch_reason_is_hit (slice_get ws (h.number - length bs)))
 
-stop_below_is_at_its_hit : (ws : List Watched) (bs : List Breakpoint) (h : Hit) → (stop_below ws bs h).position ≡ h.position
-stop_below_is_at_its_hit ws bs h = choice_has_property (λ x. x.position ≡ h.position) (nat_lt h.number (length bs)) (stopped h.position (break_reason bs h.number))
+stop_below_at_hit : (ws : List Watched) (bs : List Breakpoint) (h : Hit) → (stop_below ws bs h).position ≡ h.position
+stop_below_at_hit ws bs h = choice_has_property (λ x. x.position ≡ h.position) (nat_lt h.number (length bs)) (stopped h.position (break_reason bs h.number))
     (stopped h.position (watch_reason ws (h.number - length bs))) refl refl
 
-last_hit_stops : (f : FittedTrace) (run : List Step) (points watches : List Numbered) (u p : ℕ) (ws : List Watched) (bs : List Breakpoint) (hit : Option Hit)
+last_hit_stops_under : (f : FittedTrace) (run : List Step) (points watches : List Numbered) (u p : ℕ) (ws : List Watched) (bs : List Breakpoint) (hit : Option Hit)
     → ((n : ℕ) → HitByNumber f run watches u p n → ⊥) → IsLastHit f run points u p hit → StopsUnder f run points watches u p (end_below ws bs hit)
-last_hit_stops f run points watches u p ws bs None free finds = record {
+last_hit_stops_under f run points watches u p ws bs None free finds = record {
   met = λ j n below hits. absurd (finds j n (omega arith) below hits);
   none = λ j n low high hits. finds j n (omega arith) high hits;
   behind = omega arith;
   here = λ n some hits. absurd (free n hits);
 }
-last_hit_stops f run points watches u p ws bs (Some h) free finds =
-    let at = stop_below_is_at_its_hit ws bs h in
+last_hit_stops_under f run points watches u p ws bs (Some h) free finds =
+    let at = stop_below_at_hit ws bs h in
     let under = finds.0 in
     record {
       met = λ j n below hits. (
@@ -122,9 +124,9 @@ last_hit_stops f run points watches u p ws bs (Some h) free finds =
       here = λ n some hits. absurd (free n hits);
     }
 
-goes_under_by : (run : List Step) (s : Stub) (u : ℕ) (w : Bool) (p : ℕ) (to : Stopped) → p ≡ position_of s u → ContinuesBackBy run s u w p to
+continuing_stops_under : (run : List Step) (s : Stub) (u : ℕ) (w : Bool) (p : ℕ) (to : Stopped) → p ≡ position_of s u → ContinuesBackBy run s u w p to
     → StopsUnder s.desk.fitted run (downwards_of s u w) (watch_points u 0 (watches_if s w)) u p to
-goes_under_by run s u w zero to here is =
+continuing_stops_under run s u w zero to here is =
     let at = ap (λ (x : Stopped). x.position) is in
     record {
       met = λ j n below hits. absurd (omega (arith, below));
@@ -132,7 +134,7 @@ goes_under_by run s u w zero to here is =
       behind = omega (arith, at);
       here = λ n some hits. absurd (omega (arith, some));
     }
-goes_under_by run s u w (suc p) to here (why, (hit, next, is), back) = by hit next why is back
+continuing_stops_under run s u w (suc p) to here (why, (hit, next, is), back) = by hit next why is back
   where
     f : FittedTrace
     f = s.desk.fitted
@@ -149,7 +151,7 @@ goes_under_by run s u w (suc p) to here (why, (hit, next, is), back) = by hit ne
     by None next None is (other, finds, ends) =
         let free : (n : ℕ) → HitByNumber f run watches u (suc p) n → ⊥ = λ n hits. next (suc p) n (omega arith) (omega arith) hits in
         let last = subst (λ (n : ℕ). IsLastHit f run points u n other) (sym here) finds in
-        subst (StopsUnder f run points watches u (suc p)) (sym ends) (last_hit_stops f run points watches u (suc p) (watches_if s w) s.breaks other free last)
+        subst (StopsUnder f run points watches u (suc p)) (sym ends) (last_hit_stops_under f run points watches u (suc p) (watches_if s w) s.breaks other free last)
     by None next (Some r) is back = absurd (cc is)
     by (Some h) next None is back = absurd (cc is)
     by (Some h) next (Some r) is back =
@@ -172,27 +174,27 @@ met_if_parts_are : (d : Direction) (p k : ℕ) (to : Stopped) → p ≢ k → is
 met_if_parts_are d p k to other hit way = ap (λ (b : Bool). not b && (is_hit to.reason && is_on_way d to.position k)) (ne_eqb p k other)
     ∙ ap (λ (b : Bool). b && is_on_way d to.position k) hit ∙ way
 
-not_met_twice : (d : Direction) (p k : ℕ) (to : Stopped) → meets_by d p to k ≡ false → p ≢ k → is_hit to.reason ≡ true → is_on_way d to.position k ≡ true → ⊥
-not_met_twice d p k to isnt other hit way = let is = met_if_parts_are d p k to other hit way in absurd (cc (is, isnt))
+no_meeting_if_unmet : (d : Direction) (p k : ℕ) (to : Stopped) → meets_by d p to k ≡ false → p ≢ k → is_hit to.reason ≡ true → is_on_way d to.position k ≡ true → ⊥
+no_meeting_if_unmet d p k to isnt other hit way = let is = met_if_parts_are d p k to other hit way in absurd (cc (is, isnt))
 
 -- a thread that meets no hit on its way to k has none there
 pub meets_none_if_not_met : (run : List Step) (s : Stub) (d : Direction) (u k : ℕ) (w : Bool) (to : Stopped) → StopsInDirection d run s u w to
     → meets_by d (position_of s u) to k ≡ false → MeetsNone run s d u w k
 meets_none_if_not_met run s Forwards u k w to goes isnt = λ j n low high hits.
-    let own = goes_above run s u w to goes in
+    let own = continuing_stops_above run s u w to goes in
     let met = own.met j n low hits in
-    not_met_twice Forwards (position_of s u) k to isnt (λ same. absurd (omega (arith, same, low, high))) met.0
+    no_meeting_if_unmet Forwards (position_of s u) k to isnt (λ same. absurd (omega (arith, same, low, high))) met.0
     (le-leb to.position k (let le = met.1 in omega (arith, le, high)))
 meets_none_if_not_met run s Backwards u k w to goes isnt =
-    let own = goes_under_by run s u w (position_of s u) to refl goes in (
+    let own = continuing_stops_under run s u w (position_of s u) to refl goes in (
       λ j n low high hits.
           let met = own.met j n high hits in
-          not_met_twice Backwards (position_of s u) k to isnt (λ same. absurd (omega (arith, same, low, high))) met.0
+          no_meeting_if_unmet Backwards (position_of s u) k to isnt (λ same. absurd (omega (arith, same, low, high))) met.0
           (le-leb k to.position (let le = met.1 in omega (arith, le, low))),
       λ moved j n low high hits.
           let at : j ≡ position_of s u = omega (arith, low, high) in
           let met = own.here n (omega (arith, moved)) (subst (λ (i : ℕ). HitByNumber s.desk.fitted run (watch_points u 0 (watches_if s w)) u i n) at hits) in
-          not_met_twice Backwards (position_of s u) k to isnt (λ same. absurd (omega (arith, same, moved))) met.0
+          no_meeting_if_unmet Backwards (position_of s u) k to isnt (λ same. absurd (omega (arith, same, moved))) met.0
           (le-leb k to.position (let e = met.1 in omega (arith, e, moved))),
     )
 
@@ -204,9 +206,9 @@ meets_none_if_it_stays run s Backwards u k w same = (λ j n low high hits. absur
 -- a thread that comes to its own stop has passed no hit
 pub passes_none_to_own_stop : (run : List Step) (s : Stub) (d : Direction) (u k : ℕ) (w : Bool) (to : Stopped) → StopsInDirection d run s u w to → k ≡ to.position
     → PassesNone run s d u w k
-passes_none_to_own_stop run s Forwards u k w to goes same = λ j n low high hits. (goes_above run s u w to goes).none j n low (omega (arith, high, same)) hits
+passes_none_to_own_stop run s Forwards u k w to goes same = λ j n low high hits. (continuing_stops_above run s u w to goes).none j n low (omega (arith, high, same)) hits
 passes_none_to_own_stop run s Backwards u k w to goes same =
-    let own = goes_under_by run s u w (position_of s u) to refl goes in (
+    let own = continuing_stops_under run s u w (position_of s u) to refl goes in (
       λ j n low high hits. own.none j n (omega (arith, low, same)) high hits,
       λ moved j n low high hits.
           let at : j ≡ position_of s u = omega (arith, low, high) in
@@ -215,13 +217,13 @@ passes_none_to_own_stop run s Backwards u k w to goes same =
     )
 
 -- what meets none passes none
-pub passes_none_if_meets_none : (run : List Step) (s : Stub) (d : Direction) (u k : ℕ) (w : Bool) → MeetsNone run s d u w k → PassesNone run s d u w k
-passes_none_if_meets_none run s Forwards u k w none = λ j n low high hits. none j n low (omega (arith, high)) hits
-passes_none_if_meets_none run s Backwards u k w none = (λ j n low high hits. none.0 j n (omega (arith, low)) high hits, none.1)
+pub meets_none_passes_none : (run : List Step) (s : Stub) (d : Direction) (u k : ℕ) (w : Bool) → MeetsNone run s d u w k → PassesNone run s d u w k
+meets_none_passes_none run s Forwards u k w none = λ j n low high hits. none j n low (omega (arith, high)) hits
+meets_none_passes_none run s Backwards u k w none = (λ j n low high hits. none.0 j n (omega (arith, low)) high hits, none.1)
 
 -- a thread's own stop isn't behind it
 pub own_stop_is_behind : (run : List Step) (s : Stub) (u : ℕ) (w : Bool) (to : Stopped) → StopsInDirection Backwards run s u w to → to.position ≤ position_of s u
-own_stop_is_behind run s u w to goes = (goes_under_by run s u w (position_of s u) to refl goes).behind
+own_stop_is_behind run s u w to goes = (continuing_stops_under run s u w (position_of s u) to refl goes).behind
 
 pub own_stop_is_ahead : (run : List Step) (s : Stub) (u last : ℕ) (w : Bool) (to : Stopped) → position_of s u ≤ last → last ≡ last_of s.desk.fitted u
     → StopsInDirection Forwards run s u w to → position_of s u ≤ to.position
@@ -229,5 +231,5 @@ own_stop_is_ahead run s u last w to within is (None, finds, ends) = let at = ap 
 own_stop_is_ahead run s u last w to within is (Some h, finds, ends) =
     let at = ap (λ (x : Stopped). x.position) ends in
     let above = finds.0 in
-    let next = stop_above_is_next_to_hit (watches_if s w) s.breaks h in
+    let next = hit_le_suc_stop_above (watches_if s w) s.breaks h in
     omega (arith, at, above, next)

@@ -1,5 +1,6 @@
 -- A connection of gdb: what is written for what a stream holds.
-use Rattle.std.specs.Prelude.{◌≡◌, ◌⊎◌, ◌&&◌, ◌/◌, ◌+◌, ℕ, zero, suc, Bool, true, false, List, [], ◌∷◌, ◌++◌, codes, take, drop, length, not, nat_lt, ⊤, if◌then◌else◌, Option, Some, None, Result, Ok, Err}
+use Rattle.std.specs.Prelude.{◌≡◌, ◌⊎◌, ◌&&◌, ◌/◌, ◌+◌, ℕ, zero, suc, Bool, true, false, List, [], ◌∷◌, ◌++◌, codes, take, drop, length}
+use Rattle.std.specs.Prelude.{not, nat_lt, ⊤, if◌then◌else◌, Option, Some, None, Result, Ok, Err}
 use Rattle.std.specs.Io.KnownBytes.{Appends}
 use Rattle.ir_stream.specs.Answers.{AppendsPrefix}
 use Rattle.ir_stream.specs.Writing.{WritesOrFails}
@@ -69,8 +70,8 @@ answer_packets zero bytes = []
 answer_packets (suc n) bytes = packet_of (output_reply (take most_piece bytes)) ++ answer_packets n (drop most_piece bytes)
 
 -- an answer, a packet for each piece
-abbrev pub answer_text : List ℕ → List ℕ
-answer_text bytes = answer_packets ((length bytes + 499) / most_piece) bytes
+abbrev pub connection_answer_text : List ℕ → List ℕ
+connection_answer_text bytes = answer_packets ((length bytes + 499) / most_piece) bytes
 
 -- with the small machine in the place of the stub's
 abbrev pub with_desk : Stub → Desk → Stub
@@ -92,7 +93,7 @@ Consults l line (Err e) next = (session.quits line ≡ false)
 abbrev pub AnswersLine : Bool → Link → List ℕ → List ℕ → Link → Type 0
 AnswersLine true l line text next = (text ≡ packet_of (reply_text reply.NotPermitted)) × (next ≡ sent l l.stub (packet_of (reply_text reply.NotPermitted)))
 AnswersLine false l line text next =
-    ((s : Stub) × Responds l.stub line s (λ answer. text ≡ answer_text answer ++ packet_of (reply_text reply.Done)) × (next ≡ sent l s (packet_of (reply_text reply.Done))))
+    ((s : Stub) × Responds l.stub line s (λ answer. text ≡ connection_answer_text answer ++ packet_of (reply_text reply.Done)) × (next ≡ sent l s (packet_of (reply_text reply.Done))))
     ⊎ (((next ≡ sent l l.stub (packet_of (reply_text reply.NoMemory)))
     ⊎ ((s : Stub) × Responds l.stub line s (λ answer. ⊤) × (next ≡ sent l s (packet_of (reply_text reply.NoMemory))))) × (text ≡ packet_of (reply_text reply.NoMemory)))
 
@@ -168,7 +169,7 @@ RepliesToItems l (item ∷ items) ended text last = (first : List ℕ) × (next 
     × Rest (item_ends l item) (RepliesToItems next items) next ended rest last × (text ≡ first ++ rest)
 
 -- the writer took all of the answers, and the connection is then the second
-pub record Wrote (l : Link) (items : List Item) (ended : Bool) (old new : Option (List ℕ)) : Type 0 where
+pub record WroteReplies (l : Link) (items : List Item) (ended : Bool) (old new : Option (List ℕ)) : Type 0 where
   pub text : List ℕ
   pub last : Link
   pub answers : RepliesToItems l items ended text last
@@ -209,12 +210,12 @@ abbrev pub before_reply : Link → Item → List ℕ
 before_reply l item = before_reply_by (is_copy l && is_packet item) l item
 
 -- it took all answers but that to the last item, none of which ends the connection, and a prefix of that one
-pub record WroteInPart (l : Link) (items : List Item) (old new : Option (List ℕ)) : Type 0 where
+pub record WroteRepliesInPart (l : Link) (items : List Item) (old new : Option (List ℕ)) : Type 0 where
   pub before : List Item
   pub item : Item
   pub are : items ≡ before ++ item ∷ []
   pub between : Option (List ℕ)
-  pub all : Wrote l before false old between
+  pub all : WroteReplies l before false old between
   pub part : SentInPart (AnswersItem all.last item) (before_reply all.last item) between new
 
 -- how a connection over an input ends where no device fails, by whether one of its items ends it
@@ -223,7 +224,7 @@ served_by true limit input = Ok Quit
 served_by false limit input = if nat_lt (length input) limit then Ok InputEnd else Err fault.TooLong
 
 -- the input leads to this result, and the writer took the answers to the items that are whole within the limit
-pub record LeadsTo (l : Link) (limit : ℕ) (result : Result Served Fault) (old new : Option (List ℕ)) (input : List ℕ) : Type 0 where
+pub record LeadsToLink (l : Link) (limit : ℕ) (result : Result Served Fault) (old new : Option (List ℕ)) (input : List ℕ) : Type 0 where
   pub ended : Bool
   pub ending : result ≡ served_by ended limit input
-  pub wrote : Wrote l (items (take limit input)) ended old new
+  pub wrote : WroteReplies l (items (take limit input)) ended old new

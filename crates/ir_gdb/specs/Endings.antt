@@ -82,8 +82,8 @@ are_ended f cut zero = true
 are_ended f cut (suc t) = are_ended f cut t && (cut_of cut t == last_of f t)
 
 -- whether a cut is the end of the recording
-abbrev pub is_end : FittedTrace → List ℕ → Bool
-is_end f cut = are_ended f cut (threads_of f)
+abbrev pub is_end_of_thread : FittedTrace → List ℕ → Bool
+is_end_of_thread f cut = are_ended f cut (threads_of f)
 
 abbrev pub or_told : Option Told → Option Told → Option Told
 or_told None next = next
@@ -96,22 +96,22 @@ first_bad_end f (suc t) = or_told (first_bad_end f t) (bad_end f t)
 
 -- that of all, where a move that runs out of history comes to the end of the recording
 abbrev pub last_end : FittedTrace → List ℕ → List ℕ → Bool → Option Told
-last_end f from to out = if out && (is_end f to && not (is_end f from)) then first_bad_end f (threads_of f) else None
+last_end f from to out = if out && (is_end_of_thread f to && not (is_end_of_thread f from)) then first_bad_end f (threads_of f) else None
 
 -- the bad end that a move tells: of the thread that it stops, or else the first
 abbrev pub ended : FittedTrace → List ℕ → List ℕ → ℕ → Bool → Option Told
 ended f from to t out = or_told (own_end f from to t) (last_end f from to out)
 
 -- whether a stop says that there is no more history
-abbrev pub is_over : Reason → Bool
-is_over reason.Step = false
-is_over reason.SoftwareBreak = false
-is_over reason.HardwareBreak = false
-is_over (reason.Watch address) = false
-is_over reason.End = true
-is_over reason.Begin = false
-is_over (reason.Ended how) = false
-is_over reason.Waits = false
+abbrev pub is_thread_over : Reason → Bool
+is_thread_over reason.Step = false
+is_thread_over reason.SoftwareBreak = false
+is_thread_over reason.HardwareBreak = false
+is_thread_over (reason.Watch address) = false
+is_thread_over reason.End = true
+is_thread_over reason.Begin = false
+is_thread_over (reason.Ended how) = false
+is_thread_over reason.Waits = false
 
 abbrev pub told_or : Option Told → Told → Told
 told_or None told = told

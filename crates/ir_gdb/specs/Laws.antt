@@ -19,7 +19,7 @@ use Rattle.ir_gdb.specs.Points.{watch_points, break_points}
 use Rattle.ir_gdb.specs.Stops.{position_of, watches_if, upwards_of, downwards_of, is_hit, direction_of}
 use Rattle.ir_gdb.specs.Together.{Halt, halt, Comes, stop_among, AreStops, meets, FirstMet, ContinuesAmong, MovesAmong}
 use Rattle.ir_gdb.specs.declared.stopped.Moving.{Moving}
-use Rattle.ir_gdb.specs.Endings.{signal_of, end_of_thread, is_end, is_over}
+use Rattle.ir_gdb.specs.Endings.{signal_of, end_of_thread, is_end_of_thread, is_thread_over}
 use Rattle.ir_gdb.specs.Moves.{arrived, with_together, Moves}
 use Rattle.ir_gdb.specs.Over.{waits, pc_here, OtherHasHit, LeadsAlone}
 
@@ -145,5 +145,5 @@ EachHitIsShownOnce = (run : List Step) (s : Stub) (d : Direction) (ms : List (�
 -- where a move of the threads together comes to the end of the recording, and gdb is told only that there is no more history, no thread ended badly
 abbrev pub NoBadEndIsHidden : Type 0
 NoBadEndIsHidden = (run : List Step) (s : Stub) (who : Moving) (m : Motion) (next : Stub) → who.among ≡ true → Moves run s who m next
-    → is_end s.desk.fitted s.desk.at ≡ false → is_end s.desk.fitted next.desk.at ≡ true → is_over next.told.reason ≡ true
+    → is_end_of_thread s.desk.fitted s.desk.at ≡ false → is_end_of_thread s.desk.fitted next.desk.at ≡ true → is_thread_over next.told.reason ≡ true
     → (t : ℕ) → t < threads_of s.desk.fitted → signal_of (end_of_thread s.desk.fitted t) ≡ None

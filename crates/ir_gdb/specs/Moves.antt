@@ -15,7 +15,7 @@ use Rattle.ir_gdb.specs.Stub.{Stub}
 use Rattle.ir_gdb.specs.Reads.{thread_of_id, current_of}
 use Rattle.ir_gdb.specs.Together.{Halt, MovesAmong}
 use Rattle.ir_gdb.specs.Over.{LeadsAlone, after_alone}
-use Rattle.ir_gdb.specs.Endings.{ended, is_over, told_or}
+use Rattle.ir_gdb.specs.Endings.{ended, is_thread_over, told_or}
 
 -- a stop, with the registers that spare gdb a `g`
 abbrev pub stop_with : Told → Core → Stop
@@ -46,7 +46,7 @@ all_at_stop s h = after_told (record s { desk = moved_to s.desk h.cut }) (told_o
 
 -- what gdb is told of a stop: the bad end to which the move has come, or the stop itself
 abbrev pub told_at : Stub → Bool → Halt → Told
-told_at s among h = told_or (ended s.desk.fitted s.desk.at h.cut h.thread (among && is_over h.reason)) (told_of h)
+told_at s among h = told_or (ended s.desk.fitted s.desk.at h.cut h.thread (among && is_thread_over h.reason)) (told_of h)
 
 -- all threads have gone to the cut of a stop, and gdb is told of it
 abbrev pub arrived : Stub → Bool → Halt → Stub

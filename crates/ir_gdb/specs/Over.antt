@@ -11,7 +11,7 @@ use Rattle.ir_packet.specs.declared.reply.Reason.TheVariants as reason
 use Rattle.ir_packet.specs.declared.request.Motion.{Motion}
 use Rattle.ir_packet.specs.declared.request.Motion.TheVariants as motion
 use Rattle.ir_gdb.specs.declared.stopped.Stopped.{Stopped}
-use Rattle.ir_gdb.specs.Points.{with_point}
+use Rattle.ir_gdb.specs.Points.{with_stub_point}
 use Rattle.ir_gdb.specs.Stub.{Stub}
 use Rattle.ir_gdb.specs.Stops.{position_of, upwards_of, StepsTo}
 use Rattle.ir_gdb.specs.Together.{Halt, halt, Comes, MovesAlone}
@@ -22,7 +22,7 @@ pc_here run s t = (thread_at s.desk.fitted run t (position_of s t)).core.pc
 
 -- the points of thread u, and a breakpoint where gdb has taken one out
 abbrev pub points_over : Stub → ℕ → ℕ → List Numbered
-points_over s pc u = with_point (upwards_of s u false) u pc
+points_over s pc u = with_stub_point (upwards_of s u false) u pc
 
 -- the first hit of thread u on its way to a cut, if there is one
 abbrev pub OnWay : List Step → Stub → ℕ → List ℕ → ℕ → Option Hit → Type 0
@@ -52,14 +52,14 @@ abbrev pub reason_over : ℕ → Stopped → Reason
 reason_over last to = if to.position == last then reason.Waits else to.reason
 
 -- where a hit would be passed nothing moves: the thread waits
-abbrev pub over : Bool → Stub → ℕ → List ℕ → Stopped → Halt
-over true s t cut to = halt t s.desk.at reason.Waits
-over false s t cut to = halt t cut (reason_over (last_of s.desk.fitted t) to)
+abbrev pub stepped_over : Bool → Stub → ℕ → List ℕ → Stopped → Halt
+stepped_over true s t cut to = halt t s.desk.at reason.Waits
+stepped_over false s t cut to = halt t cut (reason_over (last_of s.desk.fitted t) to)
 
 -- one step of a thread alone
 abbrev pub StepsOver : List Step → Stub → ℕ → Halt → Type 0
 StepsOver run s t h = (to : Stopped) × StepsTo run s t true to × ((cut : List ℕ) × Comes run s Forwards t to.position cut
-    × ((passes : Bool) × PassesHit s.together passes run s cut t × (h ≡ over passes s t cut to)))
+    × ((passes : Bool) × PassesHit s.together passes run s cut t × (h ≡ stepped_over passes s t cut to)))
 
 -- ---- a move of one thread alone
 

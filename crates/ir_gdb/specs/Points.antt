@@ -40,5 +40,5 @@ points_downwards t watches breaks own = break_points t 0 breaks ++ watch_points 
     (length breaks + length watches) own
 
 -- with one more breakpoint of thread t
-abbrev pub with_point : List Numbered → ℕ → ℕ → List Numbered
-with_point points t address = points ++ record { number = 0; point = Break t address } ∷ []
+abbrev pub with_stub_point : List Numbered → ℕ → ℕ → List Numbered
+with_stub_point points t address = points ++ record { number = 0; point = Break t address } ∷ []

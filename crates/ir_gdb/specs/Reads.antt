@@ -4,7 +4,7 @@ use Rattle.hex.specs.Hex.{encode_lower}
 use Rattle.ir_image.specs.Guest.{object_words, object_count}
 use Rattle.ir_mach.specs.Core.{Core}
 use Rattle.ir_mach.specs.Execution.{byte_at}
-use Rattle.ir_mach.specs.Within.{byte_of}
+use Rattle.ir_mach.specs.Within.{byte_in_word}
 use Rattle.ir_thread.specs.State as thread
 use Rattle.ir_runs.specs.Run.{Step, object_at}
 use Rattle.ir_cut.specs.Positions.{machine_of, start_of, cut_of, threads_of, thread_at}
@@ -80,7 +80,7 @@ register_reply run s n = word_digits (slice_index (register_words (current_of ru
 
 -- the byte of an object at a place: of its first words, the lowest byte of a word first, and 0 behind them
 abbrev pub word_byte : ℕ → (ℕ → ℕ) → ℕ → ℕ
-word_byte count words place = if nat_lt (place / 4) count then byte_of (words (place / 4)) (place % 4) else 0
+word_byte count words place = if nat_lt (place / 4) count then byte_in_word (words (place / 4)) (place % 4) else 0
 
 -- the byte of the objects at the cut, by how far it is from their start
 abbrev pub object_byte : List Step → Stub → ℕ → Option ℕ

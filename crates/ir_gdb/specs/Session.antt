@@ -11,7 +11,7 @@ use Rattle.ir_debug.specs.declared.ended.Ended.{Ended}
 use Rattle.ir_debug.specs.declared.ended.Ended.TheVariants.{Quit, InputEnd, ImageRefused, TraceRefused, NotFit}
 use Rattle.ir_debug.specs.declared.ended.SessionErr.{SessionErr}
 use Rattle.ir_gdb.specs.Stub.{stub_of}
-use Rattle.ir_gdb.specs.Connection.{Link, link_of, Wrote, WroteInPart, LeadsTo}
+use Rattle.ir_gdb.specs.Connection.{Link, link_of, WroteReplies, WroteRepliesInPart, LeadsToLink}
 
 -- a connection to a machine on which nothing was read
 abbrev pub first_link : Desk → Link
@@ -21,7 +21,7 @@ first_link d = link_of (stub_of d)
 pub record ServesItems (d : Desk) (result : Result Ended SessionErr) (old new : Option (List ℕ)) (input : List ℕ) : Type 0 where
   pub served : Result Served Fault
   pub ending : result ≡ ended_by served
-  pub leads : LeadsTo (first_link d) most_input served old new input
+  pub leads : LeadsToLink (first_link d) most_input served old new input
 
 -- how a connection ends that isn't opened
 abbrev pub EndsUnopened : Opening → Ended → Type 0
@@ -59,13 +59,13 @@ pub record Announced (image trace : List ℕ) (result : Result Ended SessionErr)
 pub record RepliedWhole (image trace : List ℕ) (old new : Option (List ℕ)) (consumed : List ℕ) : Type 0 where
   pub desk : Desk
   pub opens : Opens image trace (opening.Ready desk)
-  pub wrote : Wrote (first_link desk) (items consumed) false old new
+  pub wrote : WroteReplies (first_link desk) (items consumed) false old new
 
 -- the writer took the answers to all items but the last, and a prefix of that one's
 pub record RepliedInPart (image trace : List ℕ) (old new : Option (List ℕ)) (consumed : List ℕ) : Type 0 where
   pub desk : Desk
   pub opens : Opens image trace (opening.Ready desk)
-  pub wrote : WroteInPart (first_link desk) (items consumed) old new
+  pub wrote : WroteRepliesInPart (first_link desk) (items consumed) old new
 
 -- unless nothing was opened
 abbrev pub IfNotRefused : Result Ended SessionErr → Type 0 → Type 0

@@ -15,7 +15,7 @@ use Rattle.ir_gdb.specs.declared.point.Breakpoint.{Breakpoint}
 use Rattle.ir_gdb.specs.declared.point.Watched.{Watched}
 use Rattle.ir_gdb.specs.declared.stopped.Stopped.{Stopped}
 use Rattle.ir_gdb.specs.Points.{watch_points, points_upwards, points_downwards}
-use Rattle.ir_gdb.specs.Stub.{Stub, shared_of}
+use Rattle.ir_gdb.specs.Stub.{Stub, shared_breaks}
 
 abbrev pub stopped : ℕ → Reason → Stopped
 stopped k why = record { position = k; reason = why }
@@ -27,7 +27,7 @@ position_of s t = cut_of s.desk.at t
 -- the watches that count for a thread: all for the one that moves, and those of the objects for another
 abbrev pub watches_if : Stub → Bool → List Watched
 watches_if s true = s.watches
-watches_if s false = shared_of s.watches
+watches_if s false = shared_breaks s.watches
 
 -- ---- why a thread stops at a point
 

@@ -70,12 +70,12 @@ abbrev pub most_stub_points : ℕ
 most_stub_points = 64
 
 -- whether a watch is of the objects, which all threads share; any other is of private memory
-abbrev pub is_shared : Watched → Bool
-is_shared w = nat_le objects_start w.address
+abbrev pub is_shared_break : Watched → Bool
+is_shared_break w = nat_le objects_start w.address
 
 -- the watches of the objects
-abbrev pub shared_of : List Watched → List Watched
-shared_of watches = filter is_shared watches
+abbrev pub shared_breaks : List Watched → List Watched
+shared_breaks watches = filter is_shared_break watches
 
 -- a watch is of a few bytes, all of private memory or all of objects
 pub record IsWatched (w : Watched) : Type 0 where
@@ -83,7 +83,7 @@ pub record IsWatched (w : Watched) : Type 0 where
   pub few : w.size ≤ most_watched
   pub low : memory_start ≤ w.address
   pub high : w.address + w.size ≤ objects_start + object_size * most_objects
-  pub own : is_shared w ≡ false → w.address + w.size ≤ memory_start + memory_size
+  pub own : is_shared_break w ≡ false → w.address + w.size ≤ memory_start + memory_size
 
 -- what is always so
 pub record IsStub (s : Stub) : Type 0 where

@@ -4,7 +4,7 @@ ghost use Rattle.std.specs.Prelude.{◌≡◌, true, false, Err, IfOk, IfSome};
 ghost use Rattle.ir_stream.specs.Answers.{ReadsUpTo};
 ghost use Rattle.ir_stream.specs.Endings.{IfEnded};
 ghost use Rattle.ir_packet.specs.Stream.{Between, items};
-ghost use Rattle.ir_gdb.specs.Connection.{link_of, Wrote, WroteInPart, LeadsTo};
+ghost use Rattle.ir_gdb.specs.Connection.{link_of, WroteReplies, WroteRepliesInPart, LeadsToLink};
 
 use crate::remote::Remote;
 use ir_object::Hands;

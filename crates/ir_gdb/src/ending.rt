@@ -2,7 +2,7 @@
 
 ghost use Rattle.std.specs.Prelude.{◌≡◌, ◌<◌, ◌≤◌, ◌+◌, ◌++◌, length, vec_len, vec_capacity, IfSome};
 ghost use Rattle.ir_cut.specs.Positions.{threads_of};
-ghost use Rattle.ir_gdb.specs.Endings.{signal_of, code_text, words_of_end, end_of_thread, bad_end, comes_to_end, own_end, is_end, first_bad_end, last_end, ended, is_over};
+ghost use Rattle.ir_gdb.specs.Endings.{signal_of, code_text, words_of_end, end_of_thread, bad_end, comes_to_end, own_end, is_end_of_thread, first_bad_end, last_end, ended, is_thread_over};
 
 use crate::stopped::Told;
 use ir_cut::Cut;
@@ -125,7 +125,7 @@ fn own_end(fitted: &Fitted, from: &Cut, to: &Cut, thread: u32) -> Option<Told>
 }
 
 // How many threads there are.
-#[tactic(auto, using(ir_image::proofs::CallerLemmas::guest_threads_at_most_limit))]
+#[tactic(auto, using(ir_image::proofs::CallerLemmas::guest_threads_within))]
 fn count(fitted: &Fitted) -> u32
     ensures { result ≡ threads_of fitted.now }
 {
@@ -133,10 +133,10 @@ fn count(fitted: &Fitted) -> u32
 }
 
 // Whether a cut is the end of the recording.
-#[tactic(auto, using(crate::proofs::Endings::no_threads_are_ended, crate::proofs::Endings::are_ended_with_next, crate::proofs::Endings::not_ended_with_one_that_is_not))]
+#[tactic(auto, using(crate::proofs::Endings::no_threads_are_ended, crate::proofs::Endings::are_ended_if_next_ended, crate::proofs::Endings::one_false_not_all_ended))]
 fn is_end(fitted: &Fitted, cut: &Cut) -> bool
     requires { length cut.now ≡ threads_of fitted.now }
-    ensures { result ≡ is_end fitted.now cut.now }
+    ensures { result ≡ is_end_of_thread fitted.now cut.now }
 {
     let count = count(fitted);
     'threads: for thread in 0..count {
@@ -149,7 +149,7 @@ fn is_end(fitted: &Fitted, cut: &Cut) -> bool
 }
 
 // The first bad end of all threads.
-#[tactic(auto, using(crate::proofs::Endings::no_threads_end_badly, crate::proofs::Endings::none_bad_with_next_good, crate::proofs::Endings::first_bad_is_next_if_none_before))]
+#[tactic(auto, using(crate::proofs::Endings::no_threads_end_badly, crate::proofs::Endings::none_bad_if_next_good, crate::proofs::Endings::first_bad_end_is_next))]
 fn first_bad_end(fitted: &Fitted) -> Option<Told>
     ensures value { result ≡ first_bad_end fitted.now (threads_of fitted.now) }
     ensures thread { IfSome result (λ told. told.thread < threads_of fitted.now) }
@@ -178,7 +178,7 @@ fn last_end(fitted: &Fitted, from: &Cut, to: &Cut, out: bool) -> Option<Told>
 
 /// Whether a stop says that there is no more history.
 pub fn is_over(reason: Reason) -> bool
-    ensures { result ≡ is_over reason }
+    ensures { result ≡ is_thread_over reason }
 {
     matches!(reason, Reason::End)
 }

@@ -3,7 +3,7 @@
 ghost use Rattle.std.specs.Prelude.{◌≡◌};
 ghost use Rattle.std.specs.Vec.{vec_capacity};
 ghost use Rattle.ir_gdb.specs.Setting.{is_same_break, is_same_watch, has_break, has_watch, breaks_without, watches_without};
-ghost use Rattle.ir_gdb.specs.Stub.{is_shared, shared_of, most_stub_points};
+ghost use Rattle.ir_gdb.specs.Stub.{is_shared_break, shared_breaks, most_stub_points};
 
 use crate::point::{Breakpoint, Watched};
 use ir_debug::MOST_POINTS;
@@ -27,7 +27,7 @@ pub fn is_same_watch(a: Watched, b: Watched) -> bool
 
 // Whether a watch is of the objects.
 pub fn is_shared(watched: Watched) -> bool
-    ensures { result ≡ is_shared watched }
+    ensures { result ≡ is_shared_break watched }
 {
     OBJECTS_START <= watched.address
 }
@@ -128,13 +128,13 @@ impl Model for Watches {
     ghost use Rattle.std.specs.Prelude.{◌≡◌, ◌≤◌, List};
     ghost use Rattle.std.specs.Vec.{vec_capacity};
     ghost use Rattle.ir_gdb.specs.declared.point.Watched.{Watched};
-    ghost use Rattle.ir_gdb.specs.Stub.{shared_of, most_stub_points};
+    ghost use Rattle.ir_gdb.specs.Stub.{shared_breaks, most_stub_points};
 
     ghost Value = { List Watched };
 
     ghost view = { λ p. p.each.items };
 
-    ghost invariant = { λ p. (most_stub_points ≤ vec_capacity p.each) × (most_stub_points ≤ vec_capacity p.shared) × (p.shared.items ≡ shared_of p.each.items) };
+    ghost invariant = { λ p. (most_stub_points ≤ vec_capacity p.each) × (most_stub_points ≤ vec_capacity p.shared) × (p.shared.items ≡ shared_breaks p.each.items) };
 }
 
 impl Watches {
@@ -161,13 +161,13 @@ impl Watches {
 
     /// Those of the objects.
     pub fn shared(&self) -> &[Watched]
-        ensures { result.now ≡ shared_of self.now }
+        ensures { result.now ≡ shared_breaks self.now }
     {
         self.shared.as_slice()
     }
 
     /// Sets one more, for which there is room. Takes no memory.
-    #[tactic(auto, using(crate::proofs::Setting::shared_of_more_with_shared, crate::proofs::Setting::shared_of_more_with_private, crate::proofs::Setting::shared_watches_are_not_more))]
+    #[tactic(auto, using(crate::proofs::Setting::shared_of_more_shared, crate::proofs::Setting::shared_of_more_private, crate::proofs::Setting::shared_are_not_more))]
     pub fn set(&mut self, point: Watched)
         requires { length self.old < most_stub_points }
         ensures { self.new ≡ self.old ++ point ∷ [] }

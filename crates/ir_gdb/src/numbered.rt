@@ -4,7 +4,7 @@ ghost use Rattle.std.specs.Prelude.{◌≡◌, ◌≤◌, ◌+◌, ◌*◌, ◌^
 ghost use Rattle.std.specs.List.{AllByRecursion};
 ghost use Rattle.ir_gdb.specs.Stub.{IsWatched};
 ghost use Rattle.ir_hits.specs.Watchable.{AreWatchable};
-ghost use Rattle.ir_gdb.specs.Points.{word_points, watch_points, break_points, own_points, watched_words, points_upwards, points_downwards, with_point};
+ghost use Rattle.ir_gdb.specs.Points.{word_points, watch_points, break_points, own_points, watched_words, points_upwards, points_downwards, with_stub_point};
 
 use crate::point::{Breakpoint, Watched};
 use ir_command::Point;
@@ -190,7 +190,7 @@ pub fn points_with(
     requires few { length halts.breaks.now + length halts.watches.now ≤ 64 }
     requires watched { AllByRecursion IsWatched halts.watches.now }
     requires own { AreWatchable halts.own.now }
-    ensures points { IfOk result (λ v. v.items ≡ with_point (points_upwards thread halts.entry.watches.now halts.entry.breaks.now halts.entry.own.now) thread address) }
+    ensures points { IfOk result (λ v. v.items ≡ with_stub_point (points_upwards thread halts.entry.watches.now halts.entry.breaks.now halts.entry.own.now) thread address) }
     ensures watchable { IfOk result (λ v. AreWatchable v.items) }
 {
     let mut points = points_upwards(alloc, thread, halts)?;

@@ -11,7 +11,7 @@ use ir_packet::put_word;
 pub const MOST_REGISTERS: usize = 264;
 
 /// The value of register n of x0 to x31, or pc.
-#[tactic(auto, using(crate::proofs::Words::word_below_32_is_register, crate::proofs::Words::word_32_is_pc))]
+#[tactic(auto, using(crate::proofs::Words::low_word_is_register, crate::proofs::Words::word_32_is_pc))]
 pub fn word_of(mach: &Mach, n: u32) -> u32
     requires { n < 33 }
     ensures { result ≡ slice_index (register_words mach.now) n }
@@ -23,7 +23,7 @@ pub fn word_of(mach: &Mach, n: u32) -> u32
 }
 
 /// Puts all registers at the end.
-#[tactic(auto, using(crate::proofs::Words::word_below_32_is_register, crate::proofs::Words::word_32_is_pc, crate::proofs::Words::length_of_words_of), unfolding(ir_packet::specs::Replies::words_reply))]
+#[tactic(auto, using(crate::proofs::Words::low_word_is_register, crate::proofs::Words::word_32_is_pc, crate::proofs::Words::length_of_words_of), unfolding(ir_packet::specs::Replies::words_reply))]
 pub fn put_registers(out: &mut Vec<u8>, mach: &Mach)
     requires { vec_len out.old + 264 ≤ vec_capacity out.old }
     ensures bytes { out.new.items ≡ out.old.items ++ words_reply (register_words mach.now) }

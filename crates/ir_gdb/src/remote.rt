@@ -107,9 +107,9 @@ fn thread_of_id(fitted: &Fitted, id: u32) -> Option<u32>
 impl Remote {
     ghost use Rattle.std.specs.Prelude.{OnOk, OnErr, IfOk, true, false};
     ghost use Rattle.ir_cut.specs.Positions.{EachRun, cut_of, thread_at};
-    ghost use Rattle.ir_weave.specs.Standing.{StandsAt};
+    ghost use Rattle.ir_weave.specs.Standing.{StandsAtCut};
     ghost use Rattle.ir_gdb.specs.Stub.{stub_of, stub_spoken};
-    ghost use Rattle.ir_gdb.specs.Serving.{IsThere};
+    ghost use Rattle.ir_gdb.specs.Serving.{IsRemoteThere};
     ghost use Rattle.ir_gdb.specs.Reads.{thread_of_id, reply_to, with_current, general_reply, after_general, chosen_reply, after_chosen, current_of};
 
     /// A debugger, with thread 0 current and no points.
@@ -207,16 +207,16 @@ impl Remote {
     // Sees that the run in hand is at the cut.
     fn be_here<H: Hands>(&mut self, hands: &H) -> Result<(), AllocError>
         ensures stub { self.new.stub ≡ self.old.stub }
-        ensures there { OnOk result (IsThere self.new) }
+        ensures there { OnOk result (IsRemoteThere self.new) }
         ensures lacks { OnErr result (self.old.stub.desk.fresh ≡ false) }
     {
         self.debugger.be_here(hands)
     }
 
     // A thread in hand, where all are at a cut.
-    #[tactic(auto, using(crate::proofs::There::thread_in_hand_is_at_cut, crate::proofs::There::guest_thread_is_below_number_of_threads_in_hand))]
+    #[tactic(auto, using(crate::proofs::There::hand_thread_at_cut, crate::proofs::There::guest_thread_is_in_hand))]
     fn visited(&self, cut: &Cut, thread: u32) -> &Thread
-        requires there { StandsAt self.now.stub.desk.fitted (cut_of cut.now) self.now.state }
+        requires there { StandsAtCut self.now.stub.desk.fitted (cut_of cut.now) self.now.state }
         requires thread { thread < threads_of self.now.stub.desk.fitted }
         ensures { EachRun self.now.stub.desk.fitted (λ run. result.now ≡ thread_at self.now.stub.desk.fitted run thread (cut_of cut.now thread)) }
     {
@@ -225,7 +225,7 @@ impl Remote {
 
     // A thread in hand.
     fn thread(&self, thread: u32) -> &Thread
-        requires there { IsThere self.now }
+        requires there { IsRemoteThere self.now }
         requires thread { thread < threads_of self.now.stub.desk.fitted }
         ensures { EachRun self.now.stub.desk.fitted (λ run. result.now ≡ current_of run self.now.stub thread) }
     {
@@ -234,7 +234,7 @@ impl Remote {
 
     // The general thread in hand.
     fn general_thread(&self) -> &Thread
-        requires { IsThere self.now }
+        requires { IsRemoteThere self.now }
         ensures { EachRun self.now.stub.desk.fitted (λ run. result.now ≡ current_of run self.now.stub self.now.stub.general) }
     {
         self.thread(self.general)

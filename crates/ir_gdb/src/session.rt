@@ -7,7 +7,7 @@ ghost use Rattle.ir_packet.specs.Stream.{items};
 ghost use Rattle.ir_debug.specs.Session.{most_input, IfServed, IfRefused, ended_by};
 ghost use Rattle.ir_debug.specs.Openings.{opening_of};
 ghost use Rattle.ir_debug.specs.declared.opening.Opened.TheVariants.{Ready};
-ghost use Rattle.ir_gdb.specs.Connection.{Wrote, WroteInPart};
+ghost use Rattle.ir_gdb.specs.Connection.{WroteReplies, WroteRepliesInPart};
 ghost use Rattle.ir_gdb.specs.Session.{first_link, ServesItems, EndsUnopened, Connected, Announced, RepliedWhole, RepliedInPart, IfNotRefused};
 
 use crate::connection::Connection;

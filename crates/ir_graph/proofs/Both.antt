@@ -8,58 +8,58 @@ use Rattle.ir_world.specs.Sources.{Source}
 use Rattle.ir_thread.specs.State.{ThreadState}
 use Rattle.ir_flat.specs.Flat.{thread_of, cell_of}
 use Rattle.ir_object.specs.Empty.{empty}
-use Rattle.ir_flat.proofs.CallerLemmas.{may_step_iff_can_for_ask}
-use Rattle.ir_lemmas.proofs.CallerLemmas.{get_or_element_satisfies_all_by_recursion, length_of_map}
-use Rattle.ir_freeze.specs.Frozen.{is_over}
-use Rattle.ir_store.specs.declared.spot.Spot.{Spot}
-use Rattle.ir_store.specs.Nodes.{Shared, Node, SourcedFlat, IsNode, IsSourced, IsWithin, HaveWords, AreSameLooks, cell_in, cells_at, sourced_in, with_turn}
-use Rattle.ir_store.specs.Table.{idle_beside, HaveNoTicks}
+use Rattle.ir_flat.proofs.CallerLemmas.{may_step_iff_can_ask}
+use Rattle.ir_lemmas.proofs.CallerLemmas.{get_or_satisfies, length_of_map}
+use Rattle.ir_thread_bytes.specs.Frozen.{is_over}
+use Rattle.ir_state_store.specs.declared.spot.Spot.{Spot}
+use Rattle.ir_state_store.specs.Nodes.{Shared, Node, SourcedFlat, IsNode, IsSourced, IsWithin, HaveWords, AreSameLooks, cell_in, cells_at, sourced_in, with_turn}
+use Rattle.ir_state_store.specs.Table.{idle_beside, HaveNoTicks}
 use Rattle.ir_graph.specs.declared.known.Turn.{Turn}
 use Rattle.ir_graph.specs.Setup.{Setup}
 use Rattle.ir_graph.specs.Ahead.{IsTurnOf}
 use Rattle.ir_graph.specs.Hand.{with_items, with_hand, IsHandOf}
 use Rattle.ir_graph.specs.Lone.{MustWait, TakesTurn}
 use Rattle.ir_graph.specs.Nodes.{LookAlike, AllRest, AreNodes, NodesStay, LeadsFrom}
-use Rattle.ir_graph.specs.Plain.{IsLike, MayGo, result_by}
+use Rattle.ir_graph.specs.Plain.{LooksAlike, MayGo, result_by}
 use Rattle.ir_graph.specs.Reached.{IsReached}
 use Rattle.ir_graph.specs.Times.{LeadsTickless}
-use Rattle.ir_graph.proofs.Alike.{look_alike_by_threads_and_words}
-use Rattle.ir_graph.proofs.Found.{leads_nowhere_if_no_step, reached_like, reached_rests, leads_to_node_if_reached_state_looks_alike, leads_tickless_if_reached_state_is}
+use Rattle.ir_graph.proofs.Alike.{look_alike_by_parts}
+use Rattle.ir_graph.proofs.Found.{no_step_leads_nowhere, reached_like, reached_rests, leads_to_alike_node, leads_tickless}
 use Rattle.ir_graph.proofs.Leads.{no_seen_step_if_done}
-use Rattle.ir_graph.proofs.Hand.{all_of_with_items, hand_as_many, hand_at_place, hand_at_spots, map_of_with_items, number_at_place, with_items_over_set}
-use Rattle.ir_graph.proofs.LoneSteps.{IsLoneTurn, as_many_after_turn, may_not_step_if_it_must_wait, lone_turn_if_takes_turn, ask_may_go_if_it_begins_turn}
-use Rattle.ir_graph.proofs.Over.{ask_of_over_thread_is_done}
+use Rattle.ir_graph.proofs.Hand.{all_of_with_items, length-hand, object_at_hand_place, hand_at_spots, map_of_with_items, number_at_place_satisfies, with_items_over_set}
+use Rattle.ir_graph.proofs.LoneSteps.{IsLoneTurn, turn_keeps_cell_count, waiting_may_not_step, lone_turn_if_takes_turn, turn_ask_may_go}
+use Rattle.ir_graph.proofs.Over.{over_asks_done}
 use Rattle.ir_graph.proofs.Plain.{TakesStep}
-use Rattle.ir_graph.proofs.Reached.{step_of_reached_is_reached}
+use Rattle.ir_graph.proofs.Reached.{reached_after_step}
 
-pub look_alike_if_same_looks : (s u : SourcedFlat) → IsLike s.flat u.flat → length s.sources ≡ length s.flat.threads
+pub same_looks_look_alike : (s u : SourcedFlat) → LooksAlike s.flat u.flat → length s.sources ≡ length s.flat.threads
     → length u.sources ≡ length u.flat.threads → AreSameLooks s.flat.code s u → LookAlike s u
-look_alike_if_same_looks s u like many many' same =
-    look_alike_by_threads_and_words s u like many many' (λ t l. same.threads t l (like.twins t)) same.words
+same_looks_look_alike s u like many many' same =
+    look_alike_by_parts s u like many many' (λ t l. same.threads t l (like.twins t)) same.words
 
 -- a thread that is over has no step
-pub over_thread_leads_nowhere : (states : List SourcedFlat) (t : ℕ) (refused : Bool) (v : ℕ)
+pub over_leads_nowhere : (states : List SourcedFlat) (t : ℕ) (refused : Bool) (v : ℕ)
     → ((s : SourcedFlat) → slice_get states v ≡ Some s → is_over (thread_of s.flat t) ≡ true) → LeadsFrom states t refused v None
-over_thread_leads_nowhere states t refused v over s at e same by can =
-    no_seen_step_if_done s t (ask_of_over_thread_is_done s.flat.code (thread_of s.flat t) (over s at)) e same can
+over_leads_nowhere states t refused v over s at e same by can =
+    no_seen_step_if_done s t (over_asks_done s.flat.code (thread_of s.flat t) (over s at)) e same can
 
 -- a thread that has to wait has no step by this way
-pub waiting_turn_leads_nowhere : (states : List SourcedFlat) (shared : Shared) (s : SourcedFlat) (t : ℕ) (refused : Bool) (v : ℕ) (turn : Turn)
+pub waiting_leads_nowhere : (states : List SourcedFlat) (shared : Shared) (s : SourcedFlat) (t : ℕ) (refused : Bool) (v : ℕ) (turn : Turn)
     → AreNodes states → slice_get states v ≡ Some s → t < length s.flat.threads → IsSourced s → IsTurnOf s.flat.code shared s t refused turn
     → turn.waits ≡ true → LeadsFrom states t refused v None
-waiting_turn_leads_nowhere states shared s t refused v turn nodes at less sourced is waits =
+waiting_leads_nowhere states shared s t refused v turn nodes at less sourced is waits =
     let numbers = turn.numbers.items in
     let o = get_or numbers 0 0 in
     let q = ask_of s.flat.code (thread_of s.flat t) in
-    let there = hand_at_place s.flat.objects numbers (cells_at shared.words turn.spots.items) 0
+    let there = object_at_hand_place s.flat.objects numbers (cells_at shared.words turn.spots.items) 0
     (hand_at_spots shared.words s.flat.objects numbers turn.spots.items is.is.once is.from.there) is.is.some in
     let must : MustWait refused o (cell_of s.flat o).fields q =
     subst (λ z. MustWait z o (cell_of s.flat o).fields q) is.from.way
     (subst (λ (z : Cell). MustWait turn.refused o z.fields q) (sym there)
     (subst (λ (z : ThreadState × Source). MustWait turn.refused o (get_or (cells_at shared.words turn.spots.items) 0 empty).fields (ask_of s.flat.code z.0))
     is.from.here (is.is.waits waits))) in
-    leads_nowhere_if_no_step states s t refused v nodes at less
-    (λ can. may_not_step_if_it_must_wait s.flat o refused q must ((may_step_iff_can_for_ask s.flat t (result_by refused) q sourced.flat less refl).1 can))
+    no_step_leads_nowhere states s t refused v nodes at less
+    (λ can. waiting_may_not_step s.flat o refused q must ((may_step_iff_can_ask s.flat t (result_by refused) q sourced.flat less refl).1 can))
 
 module _ (states : List SourcedFlat) (shared : Shared) (s : SourcedFlat) (t : ℕ) (refused : Bool) (v : ℕ) (turn : Turn) (nodes : AreNodes states)
     (at : slice_get states v ≡ Some s) (less : t < length s.flat.threads) (sourced : IsSourced s) (is : IsTurnOf s.flat.code shared s t refused turn)
@@ -78,9 +78,9 @@ module _ (states : List SourcedFlat) (shared : Shared) (s : SourcedFlat) (t : �
 
   pub both_as_many : length turn.afters.items ≡ length turn.numbers.items
   both_as_many = sym (length_of_map (cell_in shared.words) turn.afters.items)
-      ∙ as_many_after_turn s.flat.code turn.numbers.items refused (slice_index_or shared.threads turn.from idle_beside)
+      ∙ turn_keeps_cell_count s.flat.code turn.numbers.items refused (slice_index_or shared.threads turn.from idle_beside)
       (slice_index_or shared.threads turn.to idle_beside) (cells_at shared.words turn.spots.items) (cells_at shared.words turn.afters.items) takes
-      ∙ hand_as_many s.flat.objects turn.numbers.items (cells_at shared.words turn.spots.items) both_hand
+      ∙ length-hand s.flat.objects turn.numbers.items (cells_at shared.words turn.spots.items) both_hand
 
   goes : (u : SourcedFlat) × IsLoneTurn s t refused u after_turn
   goes = lone_turn_if_takes_turn s t turn.numbers.items refused (slice_index_or shared.threads turn.from idle_beside)
@@ -111,13 +111,13 @@ module _ (states : List SourcedFlat) (shared : Shared) (s : SourcedFlat) (t : �
 
   -- the object that the thread enters or tries to
   pub both_first : get_or turn.numbers.items 0 0 < length s.flat.objects
-  both_first = number_at_place (λ o. o < length s.flat.objects) turn.numbers.items 0 both_hand.within is.is.some
+  both_first = number_at_place_satisfies (λ o. o < length s.flat.objects) turn.numbers.items 0 both_hand.within is.is.some
 
   -- where that object is after the turn
   pub both_spot : (d : Spot) → (get_or turn.afters.items 0 d).words < length shared.words
   both_spot d =
       let a = is.is.some in let b = both_as_many in
-      get_or_element_satisfies_all_by_recursion (λ (x : Spot). x.words < length shared.words) turn.afters.items 0 d is.is.afters (omega (arith, a, b))
+      get_or_satisfies (λ (x : Spot). x.words < length shared.words) turn.afters.items 0 d is.is.afters (omega (arith, a, b))
 
   -- a node that was made of this one by the first object
   pub both_made : (made node : Node) (o : ℕ) (first : Spot) → node ≡ made
@@ -164,7 +164,7 @@ module _ (states : List SourcedFlat) (shared : Shared) (s : SourcedFlat) (t : �
     sourced = subst IsSourced (sym (both_state node objects first made put)) both_sourced;
   }
 
-  pub both_like : (p : ℕ) (k : SourcedFlat) → slice_get states p ≡ Some k → IsLike after_turn.flat k.flat
+  pub both_like : (p : ℕ) (k : SourcedFlat) → slice_get states p ≡ Some k → LooksAlike after_turn.flat k.flat
   both_like = reached_like states s goes.0 after_turn t (result_by refused) v nodes at less step goes.1.goes.goes
 
   pub both_rests : AllRest after_turn.flat
@@ -172,17 +172,17 @@ module _ (states : List SourcedFlat) (shared : Shared) (s : SourcedFlat) (t : �
 
   pub both_reached : (x : Setup) → IsReached x s → IsReached x after_turn
   both_reached x reached =
-      step_of_reached_is_reached x s goes.0 after_turn t (result_by refused) reached (nodes.rest v s at t less) step goes.1.goes.goes
+      reached_after_step x s goes.0 after_turn t (result_by refused) reached (nodes.rest v s at t less) step goes.1.goes.goes
 
   both_may : MayGo refused (ask_of s.flat.code (thread_of s.flat t))
   both_may = subst (λ z. MayGo refused (ask_of s.flat.code z.0)) is.from.here
-      (ask_may_go_if_it_begins_turn (get_or turn.numbers.items 0 0) refused (get_or (cells_at shared.words turn.spots.items) 0 empty).fields
+      (turn_ask_may_go (get_or turn.numbers.items 0 0) refused (get_or (cells_at shared.words turn.spots.items) 0 empty).fields
       (ask_of s.flat.code (slice_index_or shared.threads turn.from idle_beside).0) takes.begins)
 
   pub both_leads : (new : List SourcedFlat) (p : ℕ) → NodesStay states new → ((k : SourcedFlat) → slice_get new p ≡ Some k → LookAlike after_turn k)
       → LeadsFrom new t refused v (Some p)
-  both_leads = leads_to_node_if_reached_state_looks_alike states s goes.0 after_turn t refused v nodes at less both_may step goes.1.goes.goes
+  both_leads = leads_to_alike_node states s goes.0 after_turn t refused v nodes at less both_may step goes.1.goes.goes
 
   pub both_lead_tickless : (new : List SourcedFlat) (p : ℕ) → NodesStay states new → ((k : SourcedFlat) → slice_get new p ≡ Some k → LookAlike after_turn k)
       → HaveNoTicks after_turn.sources → LeadsTickless new t refused v p
-  both_lead_tickless = leads_tickless_if_reached_state_is states s goes.0 after_turn t refused v nodes at less both_may step goes.1.goes.goes
+  both_lead_tickless = leads_tickless states s goes.0 after_turn t refused v nodes at less both_may step goes.1.goes.goes

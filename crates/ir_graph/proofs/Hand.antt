@@ -2,25 +2,25 @@
 use Rattle.std.proofs.Common.{◌≡◌, ◌≢◌, ◌<◌, ℕ, zero, suc, List, [], ◌∷◌, ◌++◌, length, get_or, set, map, refl, sym, ap, ◌∙◌, subst, arith}
 use Rattle.std.specs.List.{AllByRecursion}
 use Rattle.std.proofs.lemmas.List.{set-set, set_comm, set-get_or, get_or-set_same, get_or-set_other, length-set, map-set}
-use Rattle.ir_lemmas.proofs.CallerLemmas.{length_of_map, all_by_recursion_after_push}
+use Rattle.ir_lemmas.proofs.CallerLemmas.{length_of_map, all_of_push, all_of_set}
 use Rattle.ir_flat.specs.Flat.{idle}
 use Rattle.ir_object.specs.Empty.{empty}
-use Rattle.ir_store.specs.declared.spot.Spot.{Spot}
-use Rattle.ir_store.specs.Nodes.{SourcedFlat, sourced_thread, cells_at, HaveWords}
-use Rattle.ir_store.specs.Table.{no_source}
+use Rattle.ir_state_store.specs.declared.spot.Spot.{Spot}
+use Rattle.ir_state_store.specs.Nodes.{SourcedFlat, sourced_thread, cells_at, HaveWords}
+use Rattle.ir_state_store.specs.Table.{no_source}
 use Rattle.ir_object.specs.Cell.{Cell}
 use Rattle.ir_graph.specs.Hand.{with_items, with_hand, IsHandOf, IsNoneOf, EachOnce, AllPairs, IsAtSpot}
 
-pub with_items_as_many : {X : Type 0} (items : List X) (numbers : List ℕ) (new : List X) → length (with_items items numbers new) ≡ length items
-with_items_as_many items [] new = refl
-with_items_as_many items (o ∷ numbers) [] = refl
-with_items_as_many items (o ∷ numbers) (x ∷ new) = with_items_as_many (set items o x) numbers new ∙ length-set items o x
+pub length-with_items : {X : Type 0} (items : List X) (numbers : List ℕ) (new : List X) → length (with_items items numbers new) ≡ length items
+length-with_items items [] new = refl
+length-with_items items (o ∷ numbers) [] = refl
+length-with_items items (o ∷ numbers) (x ∷ new) = length-with_items (set items o x) numbers new ∙ length-set items o x
 
 -- what is so of each number is so of the one at a place
-pub number_at_place : (P : ℕ → Type 0) (numbers : List ℕ) (p : ℕ) → AllByRecursion P numbers → p < length numbers → P (get_or numbers p 0)
-number_at_place P [] p all less = absurd (omega (arith, less))
-number_at_place P (o ∷ numbers) zero all less = all.0
-number_at_place P (o ∷ numbers) (suc p) all less = number_at_place P numbers p all.1 (omega (arith, less))
+pub number_at_place_satisfies : (P : ℕ → Type 0) (numbers : List ℕ) (p : ℕ) → AllByRecursion P numbers → p < length numbers → P (get_or numbers p 0)
+number_at_place_satisfies P [] p all less = absurd (omega (arith, less))
+number_at_place_satisfies P (o ∷ numbers) zero all less = all.0
+number_at_place_satisfies P (o ∷ numbers) (suc p) all less = number_at_place_satisfies P numbers p all.1 (omega (arith, less))
 
 -- an item of one of these numbers that is put before is put over
 pub with_items_over_set : {X : Type 0} (items : List X) (numbers : List ℕ) (new : List X) (p : ℕ) (x : X) → EachOnce numbers → p < length numbers
@@ -30,7 +30,7 @@ with_items_over_set items (o ∷ numbers) [] p x once less each = absurd (omega 
 with_items_over_set items (o ∷ numbers) (y ∷ new) zero x once less each = ap (λ l. with_items l numbers new) (set-set items o x y)
 with_items_over_set items (o ∷ numbers) (y ∷ new) (suc p) x once less each =
     let q = get_or numbers p 0 in
-    let other : q ≢ o = number_at_place (λ r. r ≢ o) numbers p once.0 (omega (arith, less)) in
+    let other : q ≢ o = number_at_place_satisfies (λ r. r ≢ o) numbers p once.0 (omega (arith, less)) in
     ap (λ l. with_items l numbers new) (set_comm items q o x y other)
     ∙ with_items_over_set (set items o y) numbers new p x once.1 (omega (arith, less)) (omega (arith, each))
 
@@ -48,21 +48,16 @@ map_of_with_items f items (o ∷ numbers) [] = refl
 map_of_with_items f items (o ∷ numbers) (x ∷ new) =
     map_of_with_items f (set items o x) numbers new ∙ ap (λ l. with_items l numbers (map f new)) (map-set f items o x)
 
-all_after_set : {X : Type 0} (P : X → Type 0) (items : List X) (o : ℕ) (x : X) → AllByRecursion P items → P x → AllByRecursion P (set items o x)
-all_after_set P [] o x all is = tt
-all_after_set P (y ∷ items) zero x all is = (is, all.1)
-all_after_set P (y ∷ items) (suc o) x all is = (all.0, all_after_set P items o x all.1 is)
-
 pub all_of_with_items : {X : Type 0} (P : X → Type 0) (items : List X) (numbers : List ℕ) (new : List X) → AllByRecursion P items
     → AllByRecursion P new → AllByRecursion P (with_items items numbers new)
 all_of_with_items P items [] new all too = all
 all_of_with_items P items (o ∷ numbers) [] all too = all
-all_of_with_items P items (o ∷ numbers) (x ∷ new) all too = all_of_with_items P (set items o x) numbers new (all_after_set P items o x all too.0) too.1
+all_of_with_items P items (o ∷ numbers) (x ∷ new) all too = all_of_with_items P (set items o x) numbers new (all_of_set P items o x all too.0) too.1
 
 -- a state with its own thread and objects is the state
-pub with_own_hand : (s : SourcedFlat) (t : ℕ) (numbers : List ℕ) (cells : List Cell) → IsHandOf s.flat.objects numbers cells
+pub with_own_hand_is_same : (s : SourcedFlat) (t : ℕ) (numbers : List ℕ) (cells : List Cell) → IsHandOf s.flat.objects numbers cells
     → with_hand s t (sourced_thread s t) numbers cells ≡ s
-with_own_hand s t numbers cells is = λ i. record {
+with_own_hand_is_same s t numbers cells is = λ i. record {
   flat = record s.flat {
     threads = set-get_or s.flat.threads t idle i;
     objects = (ap (with_items s.flat.objects numbers) is.own ∙ with_own_items s.flat.objects numbers) i;
@@ -72,35 +67,35 @@ with_own_hand s t numbers cells is = λ i. record {
 
 -- ---- the objects of a hand
 
-pub hand_as_many : (objects : List Cell) (numbers : List ℕ) (cells : List Cell) → IsHandOf objects numbers cells → length cells ≡ length numbers
-hand_as_many objects numbers cells is = ap length is.own ∙ length_of_map (λ o. get_or objects o empty) numbers
+pub length-hand : (objects : List Cell) (numbers : List ℕ) (cells : List Cell) → IsHandOf objects numbers cells → length cells ≡ length numbers
+length-hand objects numbers cells is = ap length is.own ∙ length_of_map (λ o. get_or objects o empty) numbers
 
-own_at_place : (objects : List Cell) (numbers : List ℕ) (p : ℕ) → p < length numbers
+own_objects_at_place : (objects : List Cell) (numbers : List ℕ) (p : ℕ) → p < length numbers
     → get_or (map (λ o. get_or objects o empty) numbers) p empty ≡ get_or objects (get_or numbers p 0) empty
-own_at_place objects [] p less = absurd (omega (arith, less))
-own_at_place objects (o ∷ numbers) zero less = refl
-own_at_place objects (o ∷ numbers) (suc p) less = own_at_place objects numbers p (omega (arith, less))
+own_objects_at_place objects [] p less = absurd (omega (arith, less))
+own_objects_at_place objects (o ∷ numbers) zero less = refl
+own_objects_at_place objects (o ∷ numbers) (suc p) less = own_objects_at_place objects numbers p (omega (arith, less))
 
 -- at the place of a number is its object
-pub hand_at_place : (objects : List Cell) (numbers : List ℕ) (cells : List Cell) (p : ℕ) → IsHandOf objects numbers cells → p < length numbers
+pub object_at_hand_place : (objects : List Cell) (numbers : List ℕ) (cells : List Cell) (p : ℕ) → IsHandOf objects numbers cells → p < length numbers
     → get_or objects (get_or numbers p 0) empty ≡ get_or cells p empty
-hand_at_place objects numbers cells p is less = sym (ap (λ l. get_or l p empty) is.own ∙ own_at_place objects numbers p less)
+object_at_hand_place objects numbers cells p is less = sym (ap (λ l. get_or l p empty) is.own ∙ own_objects_at_place objects numbers p less)
 
-own_of_others : (objects : List Cell) (numbers : List ℕ) (o : ℕ) (c : Cell) → IsNoneOf o numbers
+own_objects_past_other_set : (objects : List Cell) (numbers : List ℕ) (o : ℕ) (c : Cell) → IsNoneOf o numbers
     → map (λ q. get_or (set objects o c) q empty) numbers ≡ map (λ q. get_or objects q empty) numbers
-own_of_others objects [] o c none = refl
-own_of_others objects (q ∷ numbers) o c none = λ i. get_or-set_other objects o q c empty none.0 i ∷ own_of_others objects numbers o c none.1 i
+own_objects_past_other_set objects [] o c none = refl
+own_objects_past_other_set objects (q ∷ numbers) o c none = λ i. get_or-set_other objects o q c empty none.0 i ∷ own_objects_past_other_set objects numbers o c none.1 i
 
-own_after_set : (objects : List Cell) (numbers : List ℕ) (p : ℕ) (c : Cell) → EachOnce numbers → AllByRecursion (λ o. o < length objects) numbers
+own_objects_after_set : (objects : List Cell) (numbers : List ℕ) (p : ℕ) (c : Cell) → EachOnce numbers → AllByRecursion (λ o. o < length objects) numbers
     → p < length numbers
     → set (map (λ o. get_or objects o empty) numbers) p c ≡ map (λ o. get_or (set objects (get_or numbers p 0) c) o empty) numbers
-own_after_set objects [] p c once within less = absurd (omega (arith, less))
-own_after_set objects (o ∷ numbers) zero c once within less = λ i.
-    sym (get_or-set_same objects o c empty within.0) i ∷ sym (own_of_others objects numbers o c once.0) i
-own_after_set objects (o ∷ numbers) (suc p) c once within less =
+own_objects_after_set objects [] p c once within less = absurd (omega (arith, less))
+own_objects_after_set objects (o ∷ numbers) zero c once within less = λ i.
+    sym (get_or-set_same objects o c empty within.0) i ∷ sym (own_objects_past_other_set objects numbers o c once.0) i
+own_objects_after_set objects (o ∷ numbers) (suc p) c once within less =
     let q = get_or numbers p 0 in
-    let other : q ≢ o = number_at_place (λ r. r ≢ o) numbers p once.0 (omega (arith, less)) in λ i.
-    sym (get_or-set_other objects q o c empty (λ e. other (sym e))) i ∷ own_after_set objects numbers p c once.1 within.1 (omega (arith, less)) i
+    let other : q ≢ o = number_at_place_satisfies (λ r. r ≢ o) numbers p once.0 (omega (arith, less)) in λ i.
+    sym (get_or-set_other objects q o c empty (λ e. other (sym e))) i ∷ own_objects_after_set objects numbers p c once.1 within.1 (omega (arith, less)) i
 
 -- another object at one place
 pub hand_after_set : (objects : List Cell) (numbers : List ℕ) (cells : List Cell) (p : ℕ) (c : Cell) → IsHandOf objects numbers cells
@@ -108,16 +103,16 @@ pub hand_after_set : (objects : List Cell) (numbers : List ℕ) (cells : List Ce
 hand_after_set objects numbers cells p c is less = record {
   once = is.once;
   within = subst (λ n. AllByRecursion (λ o. o < n) numbers) (sym (length-set objects (get_or numbers p 0) c)) is.within;
-  own = ap (λ l. set l p c) is.own ∙ own_after_set objects numbers p c is.once is.within less;
+  own = ap (λ l. set l p c) is.own ∙ own_objects_after_set objects numbers p c is.once is.within less;
 }
 
 -- ---- numbers and spots found one by one
 
-pub each_once_after_push : (numbers : List ℕ) (o : ℕ) → EachOnce numbers → AllByRecursion (λ p. p ≢ o) numbers → EachOnce (numbers ++ o ∷ [])
-each_once_after_push [] o once others = (tt, tt)
-each_once_after_push (p ∷ numbers) o once others = (
-  all_by_recursion_after_push (λ q. q ≢ p) numbers o once.0 (λ e. others.0 (sym e)),
-  each_once_after_push numbers o once.1 others.1,
+pub numbers_once_after_push : (numbers : List ℕ) (o : ℕ) → EachOnce numbers → AllByRecursion (λ p. p ≢ o) numbers → EachOnce (numbers ++ o ∷ [])
+numbers_once_after_push [] o once others = (tt, tt)
+numbers_once_after_push (p ∷ numbers) o once others = (
+  all_of_push (λ q. q ≢ p) numbers o once.0 (λ e. others.0 (sym e)),
+  numbers_once_after_push numbers o once.1 others.1,
 )
 
 pub pairs_after_push : {X Y : Type 0} (P : X → Y → Type 0) (xs : List X) (ys : List Y) (x : X) (y : Y) → AllPairs P xs ys → P x y

@@ -9,10 +9,10 @@ use Rattle.ir_object.specs.Cell.{Cell}
 use Rattle.ir_world.specs.Sources.{Source}
 use Rattle.ir_thread.specs.State.{ThreadState, ask_of}
 use Rattle.ir_object.specs.Empty.{empty}
-use Rattle.ir_store.specs.declared.spot.Spot.{Spot}
-use Rattle.ir_store.specs.Table.{idle_beside, KeepsNumbers}
-use Rattle.ir_store.specs.Nodes.{Shared, SourcedFlat, cell_in, cells_at, HaveWords, Grows}
-use Rattle.ir_store.proofs.CallerLemmas.{all_by_recursion_weaker, slice_get_element_satisfies_all_by_recursion, all_by_recursion_after_push, kept_element_is_equal, index_below_length_kept_if_elements_kept}
+use Rattle.ir_state_store.specs.declared.spot.Spot.{Spot}
+use Rattle.ir_state_store.specs.Table.{idle_beside, KeepsNumbers}
+use Rattle.ir_state_store.specs.Nodes.{Shared, SourcedFlat, cell_in, cells_at, HaveWords, Grows}
+use Rattle.ir_state_store.proofs.CallerLemmas.{all_by_recursion_weaker, slice_get_satisfies, all_of_push, kept_element_is_equal, below_length_kept}
 use Rattle.ir_graph.specs.declared.known.Turn.{Turn}
 use Rattle.ir_graph.specs.Ahead.{IsTurn, IsTurnOf, AreTurns}
 use Rattle.ir_graph.specs.Hand.{AllPairs, EachOnce, IsAtSpot}
@@ -26,13 +26,13 @@ grows_transitive old mid new a b = record {
   words = λ n s e. b.words n s (a.words n s e);
 }
 
-pub grows_not : (shared : Shared) → Grows shared shared
-grows_not shared = record { threads = λ n s e. e; words = λ n s e. e }
+pub grows_reflexive : (shared : Shared) → Grows shared shared
+grows_reflexive shared = record { threads = λ n s e. e; words = λ n s e. e }
 
 module _ (old new : List (List ℕ)) (keeps : KeepsNumbers old new) where
   pub have_words_grown : (spots : List Spot) → HaveWords old spots → HaveWords new spots
   have_words_grown spots all = all_by_recursion_weaker (λ (s : Spot). s.words < length old) (λ (s : Spot). s.words < length new) spots
-      (λ s. index_below_length_kept_if_elements_kept old new [] keeps s.words) all
+      (λ s. below_length_kept old new [] keeps s.words) all
 
   pub cell_grown : (spot : Spot) → spot.words < length old → cell_in new spot ≡ cell_in old spot
   cell_grown spot less i = record { fields = (cell_in old spot).fields; words = kept_element_is_equal old new [] keeps spot.words less i }
@@ -50,8 +50,8 @@ module _ (code : List ℕ) (old new : Shared) (grows : Grows old new) where
       let spots = cells_grown old.words new.words grows.words turn.spots.items is.spots in
       let afters = cells_grown old.words new.words grows.words turn.afters.items is.afters in
       record {
-        from = index_below_length_kept_if_elements_kept old.threads new.threads idle_beside grows.threads turn.from is.from;
-        to = index_below_length_kept_if_elements_kept old.threads new.threads idle_beside grows.threads turn.to is.to;
+        from = below_length_kept old.threads new.threads idle_beside grows.threads turn.from is.from;
+        to = below_length_kept old.threads new.threads idle_beside grows.threads turn.to is.to;
         some = is.some;
         once = is.once;
         spots = have_words_grown old.words new.words grows.words turn.spots.items is.spots;
@@ -77,14 +77,14 @@ module _ (code : List ℕ) (old new : Shared) (grows : Grows old new) where
 
 pub listed_turn_is_turn : (code : List ℕ) (shared : Shared) (turns : List Turn) (i : ℕ) (turn : Turn) → AreTurns code shared turns
     → slice_get turns i ≡ Some turn → IsTurn code shared turn
-listed_turn_is_turn code shared turns i turn all at = slice_get_element_satisfies_all_by_recursion (IsTurn code shared) turns i turn all at
+listed_turn_is_turn code shared turns i turn all at = slice_get_satisfies (IsTurn code shared) turns i turn all at
 
 -- a turn that was found for a thread at a node
-pub found_is_turn : (code : List ℕ) (shared : Shared) (items : List SourcedFlat) (node t : ℕ) (refused : Bool) (found : Option Turn) (turn : Turn)
+pub turn_of_found_node : (code : List ℕ) (shared : Shared) (items : List SourcedFlat) (node t : ℕ) (refused : Bool) (found : Option Turn) (turn : Turn)
     (s : SourcedFlat) → found ≡ Some turn
     → IfSome found (λ (x : Turn). (u : SourcedFlat) → slice_get items node ≡ Some u → IsTurnOf code shared u t refused x)
     → slice_get items node ≡ Some s → IsTurnOf code shared s t refused turn
-found_is_turn code shared items node t refused found turn s is each at =
+turn_of_found_node code shared items node t refused found turn s is each at =
     subst (λ z. IfSome z (λ (x : Turn). (u : SourcedFlat) → slice_get items node ≡ Some u → IsTurnOf code shared u t refused x)) is each s at
 
 -- a turn that is known for a thread at a node, by its number
@@ -92,30 +92,30 @@ abbrev pub IsKnown : List ℕ → Shared → List SourcedFlat → List Turn → 
 IsKnown code shared items turns node t refused i = (x : Turn) × (slice_get turns i ≡ Some x)
     × ((u : SourcedFlat) → slice_get items node ≡ Some u → IsTurnOf code shared u t refused x)
 
-pub known_within : (code : List ℕ) (shared : Shared) (items : List SourcedFlat) (turns : List Turn) (node t : ℕ) (refused : Bool) (found : Option ℕ)
+pub known_turn_in_table : (code : List ℕ) (shared : Shared) (items : List SourcedFlat) (turns : List Turn) (node t : ℕ) (refused : Bool) (found : Option ℕ)
     (i : ℕ) → found ≡ Some i → IfSome found (IsKnown code shared items turns node t refused) → i < length turns
-known_within code shared items turns node t refused found i is each =
+known_turn_in_table code shared items turns node t refused found i is each =
     let known : IsKnown code shared items turns node t refused i = subst (λ z. IfSome z (IsKnown code shared items turns node t refused)) is each in
     slice_get_within turns i known.0 known.1
 
-pub known_is_turn : (code : List ℕ) (shared : Shared) (items : List SourcedFlat) (turns : List Turn) (node t : ℕ) (refused : Bool) (found : Option ℕ)
+pub known_turn_of_node : (code : List ℕ) (shared : Shared) (items : List SourcedFlat) (turns : List Turn) (node t : ℕ) (refused : Bool) (found : Option ℕ)
     (i : ℕ) (turn : Turn) (s : SourcedFlat) → found ≡ Some i → IfSome found (IsKnown code shared items turns node t refused)
     → slice_get turns i ≡ Some turn → slice_get items node ≡ Some s → IsTurnOf code shared s t refused turn
-known_is_turn code shared items turns node t refused found i turn s is each at here =
+known_turn_of_node code shared items turns node t refused found i turn s is each at here =
     let known : IsKnown code shared items turns node t refused i = subst (λ z. IfSome z (IsKnown code shared items turns node t refused)) is each in
     subst (IsTurnOf code shared s t refused) (same_Some known.0 turn (sym known.1 ∙ at)) (known.2 s here)
 
-pub same_bool : (a b : Bool) → not (beq a b) ≡ false → a ≡ b
-same_bool true true e = refl
-same_bool true false e = absurd (true≢false e)
-same_bool false true e = absurd (true≢false e)
-same_bool false false e = refl
+pub bools_equal : (a b : Bool) → not (beq a b) ≡ false → a ≡ b
+bools_equal true true e = refl
+bools_equal true false e = absurd (true≢false e)
+bools_equal false true e = absurd (true≢false e)
+bools_equal false false e = refl
 
-pub are_turns_if_unchanged_or_turn_pushed : (code : List ℕ) (shared : Shared) (turns new : List Turn) (turn : Turn) → AreTurns code shared turns
+pub turns_same_or_pushed : (code : List ℕ) (shared : Shared) (turns new : List Turn) (turn : Turn) → AreTurns code shared turns
     → IsTurn code shared turn → (new ≡ turns) ⊎ (new ≡ turns ++ turn ∷ []) → AreTurns code shared new
-are_turns_if_unchanged_or_turn_pushed code shared turns new turn all is either = elim either [
+turns_same_or_pushed code shared turns new turn all is either = elim either [
   | inl e ↦ subst (AreTurns code shared) (sym e) all
-  | inr e ↦ subst (AreTurns code shared) (sym e) (all_by_recursion_after_push (IsTurn code shared) turns turn all is)
+  | inr e ↦ subst (AreTurns code shared) (sym e) (all_of_push (IsTurn code shared) turns turn all is)
 ]
 
 pub if_some_weaker : {A : Type 0} (P Q : A → Type 0) (result : Option A) → ((x : A) → P x → Q x) → IfSome result P → IfSome result Q
@@ -164,8 +164,8 @@ found_turn_is_turn code old mid new first more turn leads x y cells after from x
     let to_is = kept_element_is_equal mid.threads new.threads idle_beside more.threads turn.to to in
     let spots_are = cells_grown old.words new.words all.words turn.spots.items spots in
     record {
-      from = index_below_length_kept_if_elements_kept old.threads new.threads idle_beside all.threads turn.from from;
-      to = index_below_length_kept_if_elements_kept mid.threads new.threads idle_beside more.threads turn.to to;
+      from = below_length_kept old.threads new.threads idle_beside all.threads turn.from from;
+      to = below_length_kept mid.threads new.threads idle_beside more.threads turn.to to;
       some = some;
       once = once;
       spots = have_words_grown old.words new.words all.words turn.spots.items spots;
@@ -187,7 +187,7 @@ pub pairs_grown : (old new : Shared) → Grows old new → (objects : List Cell)
 pairs_grown old new grows objects numbers spots all =
     pairs_weaker (IsAtSpot old.words objects) (IsAtSpot new.words objects) numbers spots
     (λ o spot at. record {
-      known = index_below_length_kept_if_elements_kept old.words new.words [] grows.words spot.words at.known;
+      known = below_length_kept old.words new.words [] grows.words spot.words at.known;
       within = at.within;
       own = cell_grown old.words new.words grows.words spot at.known ∙ at.own;
     }) all

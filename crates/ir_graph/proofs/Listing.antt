@@ -3,14 +3,14 @@ use Rattle.std.proofs.Common.{◌≡◌, ℕ, suc, ◌<◌, List, [], ◌∷◌,
 use Rattle.std.specs.Prelude.{slice_get}
 use Rattle.std.proofs.lemmas.Bool.{cases_lt}
 use Rattle.std.proofs.lemmas.Option.{same_Some}
-use Rattle.ir_search.proofs.CallerLemmas.{slice_get_after_push_cases, slice_get_kept_by_append, index_of_element_is_below_length}
+use Rattle.ir_search.proofs.CallerLemmas.{slice_get-push_cases, slice_get_append_kept, slice_get_some_below}
 use Rattle.ir_runs.specs.Run.{IsDone}
 use Rattle.ir_flat.specs.Flat.{machine, tables}
-use Rattle.ir_store.specs.Nodes.{SourcedFlat}
+use Rattle.ir_state_store.specs.Nodes.{SourcedFlat}
 use Rattle.ir_graph.specs.Listing.{HasOutcome, AreOutcomes}
 use Rattle.ir_graph.specs.Nodes.{AreNodes}
 use Rattle.ir_graph.specs.Outcomes.{run_outcome}
-use Rattle.ir_graph.proofs.OneOutcome.{look_alike_if_done_with_one_outcome}
+use Rattle.ir_graph.proofs.OneOutcome.{one_outcome_looks_alike}
 
 pub are_outcomes_below_zero : (flats : List SourcedFlat) → AreOutcomes flats 0 []
 are_outcomes_below_zero flats = record {
@@ -20,8 +20,8 @@ are_outcomes_below_zero flats = record {
   rising = λ i j v w is. absurd (cc is);
 }
 
-below_successor_is_below_or_equal : (v until : ℕ) → v < suc until → (v < until) ⊎ (until ≡ v)
-below_successor_is_below_or_equal v until l = elim (cases_lt v until) [ inl less ↦ inl less | inr most ↦ inr (omega (arith, l, most)) ]
+below_suc_cases : (v until : ℕ) → v < suc until → (v < until) ⊎ (until ≡ v)
+below_suc_cases v until l = elim (cases_lt v until) [ inl less ↦ inl less | inr most ↦ inr (omega (arith, l, most)) ]
 
 module _ (flats : List SourcedFlat) (until : ℕ) (listed : List ℕ) (f : SourcedFlat) (o : AreOutcomes flats until listed)
     (at : slice_get flats until ≡ Some f) where
@@ -29,7 +29,7 @@ module _ (flats : List SourcedFlat) (until : ℕ) (listed : List ℕ) (f : Sourc
   pub going_skipped : (IsDone (machine f.flat) (tables f.flat) → ⊥) → AreOutcomes flats (suc until) listed
   going_skipped never = record {
     done = λ i v is. let d = o.done i v is in (let a = d.0 in omega (arith, a), d.1);
-    all = λ v g less here done. elim (below_successor_is_below_or_equal v until less) [
+    all = λ v g less here done. elim (below_suc_cases v until less) [
       | inl old ↦ o.all v g old here done
       | inr same ↦
           let one : f ≡ g = same_Some f g (sym at ∙ subst (λ z. slice_get flats z ≡ Some g) (sym same) here) in
@@ -45,13 +45,13 @@ module _ (flats : List SourcedFlat) (until : ℕ) (listed : List ℕ) (f : Sourc
       let before = o.done h.place h.node h.stands in
       let low = before.0 in
       let same = nodes.apart h.node until h.state f h.at at
-      (look_alike_if_done_with_one_outcome h.state f (nodes.like h.node until h.state f h.at at) (before.1 h.state h.at) done h.same) in
+      (one_outcome_looks_alike h.state f (nodes.like h.node until h.state f h.at at) (before.1 h.state h.at) done h.same) in
       omega (arith, low, same)
 
   -- a node with an outcome that isn't listed yet
   pub new_listed : IsDone (machine f.flat) (tables f.flat) → (HasOutcome flats listed f.flat → ⊥) → AreOutcomes flats (suc until) (listed ++ until ∷ [])
   new_listed done fresh = record {
-    done = λ i v is. elim (slice_get_after_push_cases listed until i v is) [
+    done = λ i v is. elim (slice_get-push_cases listed until i v is) [
       | inl old ↦ let d = o.done i v old in (let a = d.0 in omega (arith, a), d.1)
       | inr p ↦ (
         let e = p.1 in omega (arith, e),
@@ -59,7 +59,7 @@ module _ (flats : List SourcedFlat) (until : ℕ) (listed : List ℕ) (f : Sourc
             subst (λ (z : SourcedFlat). IsDone (machine z.flat) (tables z.flat)) (same_Some f g (sym at ∙ subst (λ z. slice_get flats z ≡ Some g) (sym p.1) here)) done,
       )
     ];
-    all = λ v g less here ends. elim (below_successor_is_below_or_equal v until less) [
+    all = λ v g less here ends. elim (below_suc_cases v until less) [
       | inl old ↦ let h = o.all v g old here ends in (longer g h.0, h.1)
       | inr same ↦
           let one : f ≡ g = same_Some f g (sym at ∙ subst (λ z. slice_get flats z ≡ Some g) (sym same) here) in (
@@ -67,22 +67,22 @@ module _ (flats : List SourcedFlat) (until : ℕ) (listed : List ℕ) (f : Sourc
             omega (arith, same),
           )
     ];
-    different = λ i j v w g h is too here there same. elim (slice_get_after_push_cases listed until i v is) [
-      | inl old ↦ elim (slice_get_after_push_cases listed until j w too) [
+    different = λ i j v w g h is too here there same. elim (slice_get-push_cases listed until i v is) [
+      | inl old ↦ elim (slice_get-push_cases listed until j w too) [
         | inl old_too ↦ o.different i j v w g h old old_too here there same
         | inr q ↦ absurd (fresh (meets i v g h old here (new_at w h q.1 there) same))
       ]
-      | inr p ↦ elim (slice_get_after_push_cases listed until j w too) [
+      | inr p ↦ elim (slice_get-push_cases listed until j w too) [
         | inl old_too ↦ absurd (fresh (meets j w h g old_too there (new_at v g p.1 here) (sym same)))
         | inr q ↦ p.0 ∙ sym q.0
       ]
     ];
-    rising = λ i j v w is too before. elim (slice_get_after_push_cases listed until j w too) [
-      | inl old_too ↦ elim (slice_get_after_push_cases listed until i v is) [
+    rising = λ i j v w is too before. elim (slice_get-push_cases listed until j w too) [
+      | inl old_too ↦ elim (slice_get-push_cases listed until i v is) [
         | inl old ↦ o.rising i j v w old old_too before
-        | inr p ↦ absurd (let a = index_of_element_is_below_length listed j w old_too in let b = p.0 in omega (arith, a, b, before))
+        | inr p ↦ absurd (let a = slice_get_some_below listed j w old_too in let b = p.0 in omega (arith, a, b, before))
       ]
-      | inr q ↦ elim (slice_get_after_push_cases listed until i v is) [
+      | inr q ↦ elim (slice_get-push_cases listed until i v is) [
         | inl old ↦ let a = (o.done i v old).0 in let b = q.1 in omega (arith, a, b)
         | inr p ↦ absurd (let a = p.0 in let b = q.0 in omega (arith, a, b, before))
       ]
@@ -108,7 +108,7 @@ module _ (flats : List SourcedFlat) (until : ℕ) (listed : List ℕ) (f : Sourc
         place = h.place;
         node = h.node;
         state = h.state;
-        stands = slice_get_kept_by_append listed (until ∷ []) h.place h.node h.stands;
+        stands = slice_get_append_kept listed (until ∷ []) h.place h.node h.stands;
         at = h.at;
         same = h.same;
       }

@@ -3,19 +3,19 @@ use Rattle.std.proofs.Common.{◌≡◌, ℕ, inr, ap, subst}
 use Rattle.ir_runs.specs.Machine.{Done}
 use Rattle.ir_runs.specs.Run.{IsDone}
 use Rattle.ir_flat.specs.Flat.{Flat, machine, tables, thread_of}
-use Rattle.ir_seen.specs.Seen.{Same, view}
-use Rattle.ir_seen.proofs.CallerLemmas.{look_same, seen_machine_is_view}
+use Rattle.ir_likeness.specs.Seen.{Same, view}
+use Rattle.ir_likeness.proofs.CallerLemmas.{look_same, seen_machine_is_view}
 use Rattle.ir_world.specs.Sources.{given}
-use Rattle.ir_store.specs.Nodes.{SourcedFlat, source_of}
+use Rattle.ir_state_store.specs.Nodes.{SourcedFlat, source_of}
 use Rattle.ir_thread.specs.State.{ask_of, shared_ask}
 use Rattle.ir_graph.specs.Nodes.{LookAlike}
 use Rattle.ir_graph.specs.Outcomes.{run_outcome}
-use Rattle.ir_graph.specs.Plain.{IsLike}
+use Rattle.ir_graph.specs.Plain.{LooksAlike}
 
 -- states with one outcome, in both of which all threads are done, look the same
-pub look_alike_if_done_with_one_outcome : (s u : SourcedFlat) → IsLike s.flat u.flat → IsDone (machine s.flat) (tables s.flat)
+pub one_outcome_looks_alike : (s u : SourcedFlat) → LooksAlike s.flat u.flat → IsDone (machine s.flat) (tables s.flat)
     → IsDone (machine u.flat) (tables u.flat) → run_outcome (tables s.flat) ≡ run_outcome (tables u.flat) → LookAlike s u
-look_alike_if_done_with_one_outcome s u like done also same = record {
+one_outcome_looks_alike s u like done also same = record {
   threads = threads;
   inside = λ o t. (look_same s.flat.code given).holds (view (thread_of s.flat t), source_of s t) (view (thread_of u.flat t), source_of u t) (threads t) o;
   words = λ o. ap (λ z. z.words o) same;

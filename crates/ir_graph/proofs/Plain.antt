@@ -4,9 +4,9 @@ use Rattle.std.specs.Prelude.{◌==◌, replicate}
 use Rattle.ir_runs.specs.Machine as machine
 use Rattle.ir_runs.specs.Machine.{target, reply, upd}
 use Rattle.ir_runs.specs.Run.{State, Step, act, Can, after, end, IsRun}
-use Rattle.ir_runs.proofs.CallerLemmas.{property_of_upd_by_cases, upd_with_old_value, thread_after_step_of_other, end_append}
+use Rattle.ir_runs.proofs.CallerLemmas.{upd_by_cases, upd_with_old_value, thread_after_other, end_append}
 use Rattle.ir_search_laws.specs.Counting.{IsAnswered, is_own}
-use Rattle.ir_search_laws.specs.Sources.{answer_of, left_of}
+use Rattle.ir_search_laws.specs.Sources.{answer_of, left_of_source}
 use Rattle.ir_search_laws.specs.Views.{beside}
 use Rattle.ir_thread.specs.State.{ask_of, after_ask, after_reply, held_after_try, thread_machine, shared_ask, reply_of}
 use Rattle.ir_thread.specs.State as thread
@@ -16,14 +16,14 @@ use Rattle.ir_thread.specs.declared.ask.Reply.{Reply}
 use Rattle.ir_thread.specs.declared.ask.Reply.TheVariants.{Go, Value}
 use Rattle.ir_runs.specs.declared.access.Access.TheVariants.{Writing}
 use Rattle.ir_world.specs.Sources.{Source, given}
-use Rattle.ir_freeze.specs.Twins.{AreTwins}
-use Rattle.ir_seen.specs.Seen.{IsLive}
-use Rattle.ir_seen.proofs.CallerLemmas.{view_asks_same_or_spent}
+use Rattle.ir_thread_bytes.specs.Twins.{AreTwins}
+use Rattle.ir_likeness.specs.Seen.{IsLive}
+use Rattle.ir_likeness.proofs.CallerLemmas.{view_asks_same_or_spent}
 use Rattle.ir_flat.specs.Alone.{WentAlone}
 use Rattle.ir_flat.specs.Flat.{Flat, tables, machine, thread_of}
-use Rattle.ir_store.specs.Nodes.{SourcedFlat, source_of}
-use Rattle.ir_graph.specs.Plain.{full_by, full_of, sourced_flat, IsAnsweredRun, IsPlainRun, GoesPlain, OthersStay, IsLike, Rests, IsFair}
-use Rattle.ir_graph.proofs.Full.{sourced_step_is_step_beside_updated_sources, sourced_step_is_step_beside_same_sources, lookup_after_source_set_is_upd, tables_at_end_if_full_state_at_end, plain_run_append}
+use Rattle.ir_state_store.specs.Nodes.{SourcedFlat, source_of}
+use Rattle.ir_graph.specs.Plain.{full_by, full_of, sourced_flat, IsAnsweredRun, IsPlainRun, GoesPlain, OthersStay, LooksAlike, Rests, IsFair}
+use Rattle.ir_graph.proofs.Full.{sourced_step_beside, sourced_step_same_sources, source_set_is_upd, tables_of_full_end, plain_run_append}
 
 -- what a step of a thread makes of a guest's state
 pub record TakesStep (s u : SourcedFlat) (t r : ℕ) : Type 0 where
@@ -35,13 +35,13 @@ pub record TakesStep (s u : SourcedFlat) (t r : ℕ) : Type 0 where
   pub sources : length u.sources ≡ length s.sources
 
 -- the state after it, each thread beside its source
-pub full_of_is_after_step_if_tables_and_sources_are : (s u : SourcedFlat) (t r : ℕ) → tables u.flat ≡ after (machine s.flat) (tables s.flat) (t, r)
-    → source_of u ≡ upd (source_of s) t (left_of given (shared_ask (ask_of s.flat.code (thread_of s.flat t))) (source_of s t))
+pub full_is_after_step : (s u : SourcedFlat) (t r : ℕ) → tables u.flat ≡ after (machine s.flat) (tables s.flat) (t, r)
+    → source_of u ≡ upd (source_of s) t (left_of_source given (shared_ask (ask_of s.flat.code (thread_of s.flat t))) (source_of s t))
     → full_of u ≡ after (full_by s.flat.code) (full_of s) (t, r)
-full_of_is_after_step_if_tables_and_sources_are s u t r is left =
+full_is_after_step s u t r is left =
     ap (λ z. beside z (source_of u)) is
     ∙ ap (beside (after (machine s.flat) (tables s.flat) (t, r))) left
-    ∙ sym (sourced_step_is_step_beside_updated_sources (machine s.flat) given (tables s.flat) (source_of s) (t, r))
+    ∙ sym (sourced_step_beside (machine s.flat) given (tables s.flat) (source_of s) (t, r))
 
 -- ---- what threads ask
 
@@ -74,15 +74,15 @@ fair_ask_is_own (ask.End e) h = refl
 fair_ask_is_own ask.Done h = absurd h
 
 -- the answer of the source answers each ask
-pub ask_is_answered_by_its_source : (q : machine.Ask) (source : Source) (r : ℕ) → r ≡ answer_of given q source → IsAnswered q (answer_of given q source) r
-ask_is_answered_by_its_source machine.Private source r is = tt
-ask_is_answered_by_its_source (machine.Env k) source r is = is
-ask_is_answered_by_its_source (machine.Enter o a) source r is = tt
-ask_is_answered_by_its_source (machine.Try o) source r is = tt
-ask_is_answered_by_its_source (machine.Leave o a) source r is = tt
-ask_is_answered_by_its_source (machine.Get o i) source r is = tt
-ask_is_answered_by_its_source (machine.Put o i v) source r is = tt
-ask_is_answered_by_its_source machine.Done source r is = tt
+pub ask_answered_by_source : (q : machine.Ask) (source : Source) (r : ℕ) → r ≡ answer_of given q source → IsAnswered q (answer_of given q source) r
+ask_answered_by_source machine.Private source r is = tt
+ask_answered_by_source (machine.Env k) source r is = is
+ask_answered_by_source (machine.Enter o a) source r is = tt
+ask_answered_by_source (machine.Try o) source r is = tt
+ask_answered_by_source (machine.Leave o a) source r is = tt
+ask_answered_by_source (machine.Get o i) source r is = tt
+ask_answered_by_source (machine.Put o i v) source r is = tt
+ask_answered_by_source machine.Done source r is = tt
 
 -- what a thread that rests asks of others
 pub rest_ask_is_not_own : (q : Ask) → Rests q → is_own (shared_ask q) ≡ false
@@ -97,7 +97,7 @@ rest_ask_is_not_own ask.Print h = absurd h
 rest_ask_is_not_own (ask.End e) h = absurd h
 rest_ask_is_not_own ask.Done h = refl
 
-rest_ask_keeps_source : (q : Ask) (source : Source) → Rests q → left_of given (shared_ask q) source ≡ source
+rest_ask_keeps_source : (q : Ask) (source : Source) → Rests q → left_of_source given (shared_ask q) source ≡ source
 rest_ask_keeps_source ask.Private source h = absurd h
 rest_ask_keeps_source (ask.Env k) source h = absurd h
 rest_ask_keeps_source (ask.Enter o a) source h = refl
@@ -109,29 +109,29 @@ rest_ask_keeps_source ask.Print source h = absurd h
 rest_ask_keeps_source (ask.End e) source h = absurd h
 rest_ask_keeps_source ask.Done source h = refl
 
-pub rest_ask_is_answered_by_any_result : (q : Ask) (answer r : ℕ) → Rests q → IsAnswered (shared_ask q) answer r
-rest_ask_is_answered_by_any_result ask.Private answer r h = absurd h
-rest_ask_is_answered_by_any_result (ask.Env k) answer r h = absurd h
-rest_ask_is_answered_by_any_result (ask.Enter o a) answer r h = tt
-rest_ask_is_answered_by_any_result (ask.Try o) answer r h = tt
-rest_ask_is_answered_by_any_result (ask.Leave o a) answer r h = absurd h
-rest_ask_is_answered_by_any_result (ask.Get o i) answer r h = absurd h
-rest_ask_is_answered_by_any_result (ask.Put o i v) answer r h = absurd h
-rest_ask_is_answered_by_any_result ask.Print answer r h = absurd h
-rest_ask_is_answered_by_any_result (ask.End e) answer r h = absurd h
-rest_ask_is_answered_by_any_result ask.Done answer r h = tt
+pub rest_ask_any_result : (q : Ask) (answer r : ℕ) → Rests q → IsAnswered (shared_ask q) answer r
+rest_ask_any_result ask.Private answer r h = absurd h
+rest_ask_any_result (ask.Env k) answer r h = absurd h
+rest_ask_any_result (ask.Enter o a) answer r h = tt
+rest_ask_any_result (ask.Try o) answer r h = tt
+rest_ask_any_result (ask.Leave o a) answer r h = absurd h
+rest_ask_any_result (ask.Get o i) answer r h = absurd h
+rest_ask_any_result (ask.Put o i v) answer r h = absurd h
+rest_ask_any_result ask.Print answer r h = absurd h
+rest_ask_any_result (ask.End e) answer r h = absurd h
+rest_ask_any_result ask.Done answer r h = tt
 
 -- ---- steps of a guest's state
 
 -- a thread that rests takes a step, which leaves the sources
-pub takes_step_at_rest_if_tables_step : (f g : Flat) (sources : List Source) (t r : ℕ) → Rests (ask_of f.code (thread_of f t)) → Can (machine f) (tables f) (t, r)
+pub rest_takes_step : (f g : Flat) (sources : List Source) (t r : ℕ) → Rests (ask_of f.code (thread_of f t)) → Can (machine f) (tables f) (t, r)
     → tables g ≡ after (machine f) (tables f) (t, r) → g.code ≡ f.code → length g.threads ≡ length f.threads
     → length g.objects ≡ length f.objects → TakesStep (sourced_flat f sources) (sourced_flat g sources) t r
-takes_step_at_rest_if_tables_step f g sources t r rests can is code threads objects = record {
+rest_takes_step f g sources t r rests can is code threads objects = record {
   can = can;
-  is = full_of_is_after_step_if_tables_and_sources_are (sourced_flat f sources) (sourced_flat g sources) t r is
+  is = full_is_after_step (sourced_flat f sources) (sourced_flat g sources) t r is
       (sym (upd_with_old_value (source_of (sourced_flat f sources)) t
-      (left_of given (shared_ask (ask_of f.code (thread_of f t))) (source_of (sourced_flat f sources) t))
+      (left_of_source given (shared_ask (ask_of f.code (thread_of f t))) (source_of (sourced_flat f sources) t))
       (sym (rest_ask_keeps_source (ask_of f.code (thread_of f t)) (source_of (sourced_flat f sources) t) rests))));
   code = code;
   threads = threads;
@@ -140,15 +140,15 @@ takes_step_at_rest_if_tables_step f g sources t r rests can is code threads obje
 }
 
 -- a thread takes a step, which leaves this of its source
-pub takes_step_beside_source_if_tables_step : (f g : Flat) (sources : List Source) (a : Source) (t r : ℕ) → t < length sources → Can (machine f) (tables f) (t, r)
+pub takes_step_beside : (f g : Flat) (sources : List Source) (a : Source) (t r : ℕ) → t < length sources → Can (machine f) (tables f) (t, r)
     → tables g ≡ after (machine f) (tables f) (t, r)
-    → a ≡ left_of given (shared_ask (ask_of f.code (thread_of f t))) (source_of (sourced_flat f sources) t)
+    → a ≡ left_of_source given (shared_ask (ask_of f.code (thread_of f t))) (source_of (sourced_flat f sources) t)
     → g.code ≡ f.code → length g.threads ≡ length f.threads → length g.objects ≡ length f.objects
     → TakesStep (sourced_flat f sources) (sourced_flat g (set sources t a)) t r
-takes_step_beside_source_if_tables_step f g sources a t r less can is left code threads objects = record {
+takes_step_beside f g sources a t r less can is left code threads objects = record {
   can = can;
-  is = full_of_is_after_step_if_tables_and_sources_are (sourced_flat f sources) (sourced_flat g (set sources t a)) t r is
-      (lookup_after_source_set_is_upd sources t a less ∙ ap (upd (source_of (sourced_flat f sources)) t) left);
+  is = full_is_after_step (sourced_flat f sources) (sourced_flat g (set sources t a)) t r is
+      (source_set_is_upd sources t a less ∙ ap (upd (source_of (sourced_flat f sources)) t) left);
   code = code;
   threads = threads;
   objects = objects;
@@ -156,10 +156,10 @@ takes_step_beside_source_if_tables_step f g sources a t r less can is left code 
 }
 
 -- a step of a thread that rests is an answered run
-pub step_at_rest_is_answered_run : (s u : SourcedFlat) (t r : ℕ) → Rests (ask_of s.flat.code (thread_of s.flat t)) → TakesStep s u t r
+pub rest_step_is_answered : (s u : SourcedFlat) (t r : ℕ) → Rests (ask_of s.flat.code (thread_of s.flat t)) → TakesStep s u t r
     → IsAnsweredRun s.flat.code (full_of s) ((t, r) ∷ [])
-step_at_rest_is_answered_run s u t r rests step = (
-  ((step.can, rest_ask_is_answered_by_any_result (ask_of s.flat.code (thread_of s.flat t)) _ r rests), tt),
+rest_step_is_answered s u t r rests step = (
+  ((step.can, rest_ask_any_result (ask_of s.flat.code (thread_of s.flat t)) _ r rests), tt),
   (resting_thread_is_live s.flat.code (thread_of s.flat t) rests, tt),
 )
 
@@ -209,21 +209,21 @@ goes_plain_by_fair_step s u t r fair answered can is code threads objects source
 }
 
 -- private steps, whatever the sources
-pub private_steps_are_plain_run : (code : List ℕ) (s : State thread.ThreadState) (sources : ℕ → Source) (t n : ℕ)
+pub private_is_plain_run : (code : List ℕ) (s : State thread.ThreadState) (sources : ℕ → Source) (t n : ℕ)
     → IsRun (thread_machine code) s (replicate n (t, 0))
     → ((k : ℕ) → k < n → ask_of code ((end (thread_machine code) s (replicate k (t, 0))).now t) ≡ ask.Private)
     → IsPlainRun code (beside s sources) (replicate n (t, 0))
     × (end (full_by code) (beside s sources) (replicate n (t, 0)) ≡ beside (end (thread_machine code) s (replicate n (t, 0))) sources)
-private_steps_are_plain_run code s sources t zero run each = ((tt, tt), refl)
-private_steps_are_plain_run code s sources t (suc n) run each =
+private_is_plain_run code s sources t zero run each = ((tt, tt), refl)
+private_is_plain_run code s sources t (suc n) run each =
     let first : ask_of code (s.now t) ≡ ask.Private = each 0 (omega arith) in
     let fair : IsFair (ask_of code (s.now t)) = subst IsFair (sym first) tt in
     let answered : IsAnswered (shared_ask (ask_of code (s.now t))) (answer_of given (shared_ask (ask_of code (s.now t))) (sources t)) 0 =
     subst (λ q. IsAnswered (shared_ask q) (answer_of given (shared_ask q) (sources t)) 0) (sym first) tt in
-    let left : left_of given (shared_ask (ask_of code (s.now t))) (sources t) ≡ sources t = ap (λ q. left_of given (shared_ask q) (sources t)) first in
+    let left : left_of_source given (shared_ask (ask_of code (s.now t))) (sources t) ≡ sources t = ap (λ q. left_of_source given (shared_ask q) (sources t)) first in
     let one : after (full_by code) (beside s sources) (t, 0) ≡ beside (after (thread_machine code) s (t, 0)) sources =
-    sourced_step_is_step_beside_same_sources (thread_machine code) given s sources (t, 0) left in
-    let more = private_steps_are_plain_run code (after (thread_machine code) s (t, 0)) sources t n run.1 (λ k l. each (suc k) (omega (arith, l))) in
+    sourced_step_same_sources (thread_machine code) given s sources (t, 0) left in
+    let more = private_is_plain_run code (after (thread_machine code) s (t, 0)) sources t n run.1 (λ k l. each (suc k) (omega (arith, l))) in
     let rest = subst (λ z. IsPlainRun code z (replicate n (t, 0))) (sym one) more.0 in (
       (
         (fair_ask_is_own (ask_of code (s.now t)) fair, (run.0, answered), rest.0),
@@ -232,10 +232,10 @@ private_steps_are_plain_run code s sources t (suc n) run each =
       ap (λ z. end (full_by code) z (replicate n (t, 0))) one ∙ more.1,
     )
 
-pub goes_plain_by_private_steps : (f g : Flat) (sources : List Source) (t n : ℕ) → WentAlone f g t n
+pub goes_plain_by_private : (f g : Flat) (sources : List Source) (t n : ℕ) → WentAlone f g t n
     → GoesPlain (sourced_flat f sources) (sourced_flat g sources)
-goes_plain_by_private_steps f g sources t n w =
-    let p = private_steps_are_plain_run f.code (tables f) (source_of (sourced_flat f sources)) t n w.runs w.each in record {
+goes_plain_by_private f g sources t n w =
+    let p = private_is_plain_run f.code (tables f) (source_of (sourced_flat f sources)) t n w.runs w.each in record {
       ahead = replicate n (t, 0);
       plain = p.0;
       ends = ap (λ z. beside z (source_of (sourced_flat f sources))) w.ends ∙ sym p.1;
@@ -250,21 +250,21 @@ goes_plain_by_private_steps f g sources t n w =
 pub others_stay_after_step : (s u : SourcedFlat) (t r : ℕ) → full_of u ≡ after (full_by s.flat.code) (full_of s) (t, r) → OthersStay s u t
 others_stay_after_step s u t r is =
     let same : (v : ℕ) → v ≢ t → (full_of u).now v ≡ (full_of s).now v =
-    λ v ne. ap (λ z. z.now v) is ∙ thread_after_step_of_other (full_by s.flat.code) (full_of s) (t, r) v ne in record {
+    λ v ne. ap (λ z. z.now v) is ∙ thread_after_other (full_by s.flat.code) (full_of s) (t, r) v ne in record {
       threads = λ v ne. ap (λ z. z.0) (same v ne);
       sources = λ v ne. ap (λ z. z.1) (same v ne);
     }
 
-others_kept_by_repeated_steps : (code : List ℕ) (s : State thread.ThreadState) (t n u : ℕ) → u ≢ t
+repeats_keep_other : (code : List ℕ) (s : State thread.ThreadState) (t n u : ℕ) → u ≢ t
     → (end (thread_machine code) s (replicate n (t, 0))).now u ≡ s.now u
-others_kept_by_repeated_steps code s t zero u ne = refl
-others_kept_by_repeated_steps code s t (suc n) u ne =
-    others_kept_by_repeated_steps code (after (thread_machine code) s (t, 0)) t n u ne ∙ thread_after_step_of_other (thread_machine code) s (t, 0) u ne
+repeats_keep_other code s t zero u ne = refl
+repeats_keep_other code s t (suc n) u ne =
+    repeats_keep_other code (after (thread_machine code) s (t, 0)) t n u ne ∙ thread_after_other (thread_machine code) s (t, 0) u ne
 
-pub others_stay_after_private_steps : (f g : Flat) (sources : List Source) (t n : ℕ) → WentAlone f g t n
+pub others_stay_by_private : (f g : Flat) (sources : List Source) (t n : ℕ) → WentAlone f g t n
     → OthersStay (sourced_flat f sources) (sourced_flat g sources) t
-others_stay_after_private_steps f g sources t n w = record {
-  threads = λ u ne. ap (λ z. z.now u) w.ends ∙ others_kept_by_repeated_steps f.code (tables f) t n u ne;
+others_stay_by_private f g sources t n w = record {
+  threads = λ u ne. ap (λ z. z.now u) w.ends ∙ repeats_keep_other f.code (tables f) t n u ne;
   sources = λ u ne. refl;
 }
 
@@ -278,12 +278,12 @@ others_stay_transitive s u w t a b = record {
 }
 
 -- a step leaves what never changes of a thread
-pub thread_after_ask_is_twin_of_thread_before : (code : List ℕ) (s : thread.ThreadState) (q : Ask) (r : Reply) → AreTwins s (after_ask code s q r)
-thread_after_ask_is_twin_of_thread_before code s ask.Private r = record { number = refl; profile = refl; form = refl; objects = refl }
-thread_after_ask_is_twin_of_thread_before code s (ask.Env kind) r = record { number = refl; profile = refl; form = refl; objects = refl }
-thread_after_ask_is_twin_of_thread_before code s (ask.Enter object access) r =
+pub twin_after_ask : (code : List ℕ) (s : thread.ThreadState) (q : Ask) (r : Reply) → AreTwins s (after_ask code s q r)
+twin_after_ask code s ask.Private r = record { number = refl; profile = refl; form = refl; objects = refl }
+twin_after_ask code s (ask.Env kind) r = record { number = refl; profile = refl; form = refl; objects = refl }
+twin_after_ask code s (ask.Enter object access) r =
     record { number = refl; profile = refl; form = refl; objects = sym (length-set s.held object (Some access)) }
-thread_after_ask_is_twin_of_thread_before code s (ask.Try object) r = record { number = refl; profile = refl; form = refl; objects = by r }
+twin_after_ask code s (ask.Try object) r = record { number = refl; profile = refl; form = refl; objects = by r }
   where
     by : (r : Reply) → length s.held ≡ length (held_after_try r object s.held)
     by Go = refl
@@ -292,13 +292,13 @@ thread_after_ask_is_twin_of_thread_before code s (ask.Try object) r = record { n
         by_test : (b : Bool) → length s.held ≡ length (cond b (set s.held object (Some Writing)) s.held)
         by_test true = sym (length-set s.held object (Some Writing))
         by_test false = refl
-thread_after_ask_is_twin_of_thread_before code s (ask.Leave object access) r =
+twin_after_ask code s (ask.Leave object access) r =
     record { number = refl; profile = refl; form = refl; objects = sym (length-set s.held object None) }
-thread_after_ask_is_twin_of_thread_before code s (ask.Get object index) r = record { number = refl; profile = refl; form = refl; objects = refl }
-thread_after_ask_is_twin_of_thread_before code s (ask.Put object index value) r = record { number = refl; profile = refl; form = refl; objects = refl }
-thread_after_ask_is_twin_of_thread_before code s ask.Print r = record { number = refl; profile = refl; form = refl; objects = refl }
-thread_after_ask_is_twin_of_thread_before code s (ask.End e) r = record { number = refl; profile = refl; form = refl; objects = refl }
-thread_after_ask_is_twin_of_thread_before code s ask.Done r = record { number = refl; profile = refl; form = refl; objects = refl }
+twin_after_ask code s (ask.Get object index) r = record { number = refl; profile = refl; form = refl; objects = refl }
+twin_after_ask code s (ask.Put object index value) r = record { number = refl; profile = refl; form = refl; objects = refl }
+twin_after_ask code s ask.Print r = record { number = refl; profile = refl; form = refl; objects = refl }
+twin_after_ask code s (ask.End e) r = record { number = refl; profile = refl; form = refl; objects = refl }
+twin_after_ask code s ask.Done r = record { number = refl; profile = refl; form = refl; objects = refl }
 
 pub twins_reflexive : (s : thread.ThreadState) → AreTwins s s
 twins_reflexive s = record { number = refl; profile = refl; form = refl; objects = refl }
@@ -314,39 +314,39 @@ twins_transitive x y z a b = record {
 pub twins_symmetric : (x y : thread.ThreadState) → AreTwins x y → AreTwins y x
 twins_symmetric x y a = record { number = sym a.number; profile = sym a.profile; form = sym a.form; objects = sym a.objects }
 
-thread_after_step_is_twin_of_thread_before : (code : List ℕ) (s : State thread.ThreadState) (e : Step) (u : ℕ) → AreTwins (s.now u) ((after (thread_machine code) s e).now u)
+twin_after_step : (code : List ℕ) (s : State thread.ThreadState) (e : Step) (u : ℕ) → AreTwins (s.now u) ((after (thread_machine code) s e).now u)
 unfolding after after_reply
-thread_after_step_is_twin_of_thread_before code s e u =
-    property_of_upd_by_cases s.now e.0 _ u (λ x. AreTwins (s.now u) x)
+twin_after_step code s e u =
+    upd_by_cases s.now e.0 _ u (λ x. AreTwins (s.now u) x)
     (λ same. subst (λ z. AreTwins (s.now z) (after_reply code (s.now e.0) (reply_of (ask_of code (s.now e.0))
     (reply (act (thread_machine code) s e) (s.objects (target (act (thread_machine code) s e))))))) (sym same)
-    (thread_after_ask_is_twin_of_thread_before code (s.now e.0) (ask_of code (s.now e.0)) _))
+    (twin_after_ask code (s.now e.0) (ask_of code (s.now e.0)) _))
     (λ other. twins_reflexive (s.now u))
 
-pub thread_after_run_is_twin_of_thread_before : (code : List ℕ) (s : State thread.ThreadState) (run : List Step) (u : ℕ) → AreTwins (s.now u) ((end (thread_machine code) s run).now u)
-thread_after_run_is_twin_of_thread_before code s [] u = twins_reflexive (s.now u)
-thread_after_run_is_twin_of_thread_before code s (e ∷ run) u =
+pub twin_after_run : (code : List ℕ) (s : State thread.ThreadState) (run : List Step) (u : ℕ) → AreTwins (s.now u) ((end (thread_machine code) s run).now u)
+twin_after_run code s [] u = twins_reflexive (s.now u)
+twin_after_run code s (e ∷ run) u =
     twins_transitive (s.now u) ((after (thread_machine code) s e).now u) ((end (thread_machine code) (after (thread_machine code) s e) run).now u)
-    (thread_after_step_is_twin_of_thread_before code s e u) (thread_after_run_is_twin_of_thread_before code (after (thread_machine code) s e) run u)
+    (twin_after_step code s e u) (twin_after_run code (after (thread_machine code) s e) run u)
 
 -- a run leaves what never changes
-pub flat_after_run_is_like_flat_before : (s u : SourcedFlat) (run : List Step) → full_of u ≡ end (full_by s.flat.code) (full_of s) run → u.flat.code ≡ s.flat.code
-    → length u.flat.threads ≡ length s.flat.threads → length u.flat.objects ≡ length s.flat.objects → IsLike s.flat u.flat
-flat_after_run_is_like_flat_before s u run ends code threads objects = record {
+pub run_flat_is_like : (s u : SourcedFlat) (run : List Step) → full_of u ≡ end (full_by s.flat.code) (full_of s) run → u.flat.code ≡ s.flat.code
+    → length u.flat.threads ≡ length s.flat.threads → length u.flat.objects ≡ length s.flat.objects → LooksAlike s.flat u.flat
+run_flat_is_like s u run ends code threads objects = record {
   code = code;
   threads = threads;
   objects = objects;
-  twins = λ v. subst (AreTwins (thread_of s.flat v)) (ap (λ z. z.now v) (sym (tables_at_end_if_full_state_at_end s u run ends)))
-      (thread_after_run_is_twin_of_thread_before s.flat.code (tables s.flat) run v);
+  twins = λ v. subst (AreTwins (thread_of s.flat v)) (ap (λ z. z.now v) (sym (tables_of_full_end s u run ends)))
+      (twin_after_run s.flat.code (tables s.flat) run v);
 }
 
-pub flat_after_step_is_like_flat_before : (s u : SourcedFlat) (t r : ℕ) → TakesStep s u t r → IsLike s.flat u.flat
-flat_after_step_is_like_flat_before s u t r step = flat_after_run_is_like_flat_before s u ((t, r) ∷ []) step.is step.code step.threads step.objects
+pub step_flat_is_like : (s u : SourcedFlat) (t r : ℕ) → TakesStep s u t r → LooksAlike s.flat u.flat
+step_flat_is_like s u t r step = run_flat_is_like s u ((t, r) ∷ []) step.is step.code step.threads step.objects
 
-pub flat_after_plain_steps_is_like_flat_before : (s u : SourcedFlat) → GoesPlain s u → IsLike s.flat u.flat
-flat_after_plain_steps_is_like_flat_before s u p = flat_after_run_is_like_flat_before s u p.ahead p.ends p.code p.threads p.objects
+pub plain_flat_is_like : (s u : SourcedFlat) → GoesPlain s u → LooksAlike s.flat u.flat
+plain_flat_is_like s u p = run_flat_is_like s u p.ahead p.ends p.code p.threads p.objects
 
-pub like_transitive : (f g h : Flat) → IsLike f g → IsLike g h → IsLike f h
+pub like_transitive : (f g h : Flat) → LooksAlike f g → LooksAlike g h → LooksAlike f h
 like_transitive f g h a b = record {
   code = b.code ∙ a.code;
   threads = b.threads ∙ a.threads;
@@ -354,7 +354,7 @@ like_transitive f g h a b = record {
   twins = λ u. twins_transitive (thread_of f u) (thread_of g u) (thread_of h u) (a.twins u) (b.twins u);
 }
 
-pub like_symmetric : (f g : Flat) → IsLike f g → IsLike g f
+pub like_symmetric : (f g : Flat) → LooksAlike f g → LooksAlike g f
 like_symmetric f g a = record {
   code = sym a.code;
   threads = sym a.threads;
@@ -362,5 +362,5 @@ like_symmetric f g a = record {
   twins = λ u. twins_symmetric (thread_of f u) (thread_of g u) (a.twins u);
 }
 
-pub like_reflexive : (f : Flat) → IsLike f f
+pub like_reflexive : (f : Flat) → LooksAlike f f
 like_reflexive f = record { code = refl; threads = refl; objects = refl; twins = λ u. twins_reflexive (thread_of f u) }

@@ -6,8 +6,8 @@ use Rattle.ir_search.specs.declared.origin.Origin.{Origin}
 use Rattle.ir_search.specs.declared.origin.Refusal.{Refusal}
 use Rattle.ir_search.specs.Levels.{AreAsked, AreGoneOver, Covered}
 use Rattle.ir_search.specs.Searching.{HasGone}
-use Rattle.ir_search.proofs.CallerLemmas.{covered_below_gone_over_level}
-use Rattle.ir_store.specs.Nodes.{SourcedFlat}
+use Rattle.ir_search.proofs.CallerLemmas.{covered_below_gone_over}
+use Rattle.ir_state_store.specs.Nodes.{SourcedFlat}
 use Rattle.ir_graph.specs.Setup.{Setup}
 use Rattle.ir_graph.specs.Graph.{IsGraph}
 use Rattle.ir_graph.specs.Hangs.{AllStand, AreWays, AreMarked}
@@ -17,7 +17,7 @@ use Rattle.ir_graph.specs.Searched.{AreSearched}
 use Rattle.ir_graph.specs.Standing.{AllFound}
 use Rattle.ir_graph.specs.Times.{HasTimedRun, KnowsTimes}
 use Rattle.ir_graph.proofs.Hangs.{are_marked, all_found, all_stand}
-use Rattle.ir_graph.proofs.Listed.{all_listed_if_all_asked, within_listed_if_covered}
+use Rattle.ir_graph.proofs.Listed.{all_listed_if_all_asked, covered_within_listed}
 use Rattle.ir_graph.proofs.Standing.{within_found_if_covered}
 use Rattle.ir_graph.proofs.Times.{is_timed_exactly_if_known}
 
@@ -32,11 +32,11 @@ module _ (x : Setup) (flats : List SourcedFlat) (rows tries : List (Vec (Option 
     rising = has.rising;
     most = has.most;
     within = λ c less.
-        within_listed_if_covered x flats (noted_by rows tries) (length rows) graph origins has.first has.few c
-        (subst (λ z. Covered (noted_by rows tries) z origins c) same (covered_below_gone_over_level (noted_by rows tries) threads origins levels c less has.gone));
+        covered_within_listed x flats (noted_by rows tries) (length rows) graph origins has.first has.few c
+        (subst (λ z. Covered (noted_by rows tries) z origins c) same (covered_below_gone_over (noted_by rows tries) threads origins levels c less has.gone));
     found = λ c less.
         within_found_if_covered x flats (noted_by rows tries) (length rows) graph origins has.first has.few c
-        (subst (λ z. Covered (noted_by rows tries) z origins c) same (covered_below_gone_over_level (noted_by rows tries) threads origins levels c less has.gone));
+        (subst (λ z. Covered (noted_by rows tries) z origins c) same (covered_below_gone_over (noted_by rows tries) threads origins levels c less has.gone));
   }
 
   module _ (all : length origins ≡ length flats) (asked : AreAsked (noted_by rows tries) threads (length flats)) where

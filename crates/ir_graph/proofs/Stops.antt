@@ -4,13 +4,13 @@ use Rattle.ir_search.specs.declared.stop.Stop.{Stop}
 use Rattle.ir_search.specs.declared.stop.Stop.TheVariants.{Nodes, Private, Log, World, Memory}
 use Rattle.ir_thread.specs.State.{ask_of}
 use Rattle.ir_flat.specs.Flat.{thread_of}
-use Rattle.ir_store.specs.Nodes.{SourcedFlat, source_of}
+use Rattle.ir_state_store.specs.Nodes.{SourcedFlat, source_of}
 use Rattle.ir_graph.specs.Setup.{Setup, setup_start}
 use Rattle.ir_graph.specs.Plain.{GoesPlain, Rests}
 use Rattle.ir_graph.specs.Reached.{IsReached}
 use Rattle.ir_graph.specs.Stops.{IsNotFollowed, StopsFollowing, IsStop, MayStop}
 use Rattle.ir_graph.proofs.Plain.{TakesStep, goes_plain_reflexive, goes_plain_transitive}
-use Rattle.ir_graph.proofs.Reached.{plain_start_is_reached, step_of_reached_is_reached}
+use Rattle.ir_graph.proofs.Reached.{plain_start_is_reached, reached_after_step}
 
 pub stops_at_refused_ask : (s u : SourcedFlat) (t limit : ℕ) (stop : Stop)
     → IsNotFollowed t (ask_of u.flat.code (thread_of u.flat t)) (source_of u t) stop → StopsFollowing s u t limit stop
@@ -37,9 +37,9 @@ pub may_stop_by_nodes : (x : Setup) (flats : List SourcedFlat) (nodes limit : �
 may_stop_by_nodes x flats nodes limit stop is full = subst (MayStop x flats nodes limit) (sym is) full
 
 -- a thread that goes on from the start, after others
-pub is_stop_if_stops_after_plain_steps_from_start : (x : Setup) (limit t : ℕ) (stop : Stop) (s u w : SourcedFlat) → s ≡ setup_start x → GoesPlain s u → GoesPlain u w
+pub stop_after_plain_steps : (x : Setup) (limit t : ℕ) (stop : Stop) (s u w : SourcedFlat) → s ≡ setup_start x → GoesPlain s u → GoesPlain u w
     → StopsFollowing u w t limit stop → IsStop x limit stop
-is_stop_if_stops_after_plain_steps_from_start x limit t stop s u w is goes more stops =
+stop_after_plain_steps x limit t stop s u w is goes more stops =
     let first : GoesPlain (setup_start x) u = subst (λ z. GoesPlain z u) is goes in record {
       from = u;
       at = w;
@@ -50,13 +50,13 @@ is_stop_if_stops_after_plain_steps_from_start x limit t stop s u w is goes more 
     }
 
 -- a thread that goes on after its entry
-pub is_stop_if_stops_after_entry_from_reached_state : (x : Setup) (limit : ℕ) (stop : Stop) (s u w : SourcedFlat) (t r : ℕ) → IsReached x s
+pub stop_after_entry : (x : Setup) (limit : ℕ) (stop : Stop) (s u w : SourcedFlat) (t r : ℕ) → IsReached x s
     → Rests (ask_of s.flat.code (thread_of s.flat t)) → TakesStep s u t r → GoesPlain u w → StopsFollowing u w t limit stop → IsStop x limit stop
-is_stop_if_stops_after_entry_from_reached_state x limit stop s u w t r reached rests step goes stops = record {
+stop_after_entry x limit stop s u w t r reached rests step goes stops = record {
   from = u;
   at = w;
   thread = t;
-  before = step_of_reached_is_reached x s u u t r reached rests step (goes_plain_reflexive u);
-  reached = step_of_reached_is_reached x s u w t r reached rests step goes;
+  before = reached_after_step x s u u t r reached rests step (goes_plain_reflexive u);
+  reached = reached_after_step x s u w t r reached rests step goes;
   stops = stops;
 }

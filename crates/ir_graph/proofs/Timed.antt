@@ -7,10 +7,10 @@ use Rattle.ir_search.specs.Following.{BothWays}
 use Rattle.ir_search_laws.specs.Outcomes.{Begins}
 use Rattle.ir_search_laws.specs.Views.{beside}
 use Rattle.ir_thread.specs.State.{most_budget}
-use Rattle.ir_seen.specs.Seen.{seen_start}
-use Rattle.ir_seen.proofs.CallerLemmas.{start_view_ignores_budget}
-use Rattle.ir_store.specs.Nodes.{SourcedFlat}
-use Rattle.ir_store.specs.Table.{HaveTicks, HaveNoTicks}
+use Rattle.ir_likeness.specs.Seen.{seen_start}
+use Rattle.ir_likeness.proofs.CallerLemmas.{start_view_any_budget}
+use Rattle.ir_state_store.specs.Nodes.{SourcedFlat}
+use Rattle.ir_state_store.specs.Table.{HaveTicks, HaveNoTicks}
 use Rattle.ir_graph.specs.Graph.{IsGraph}
 use Rattle.ir_graph.specs.Nodes.{seen_by, answered_by, seen_of, NodesStay}
 use Rattle.ir_graph.specs.Notes.{noted_by}
@@ -20,7 +20,7 @@ use Rattle.ir_graph.specs.Times.{HasTimedRun, AlikeTickless, LeadsTickless, Know
 use Rattle.ir_graph.proofs.Grown.{FreeToTry, Untried, Tried, old_node_is_unchanged}
 use Rattle.ir_graph.proofs.Leads.{begins_tickless}
 use Rattle.ir_graph.proofs.Reached.{plain_start_is_reached}
-use Rattle.ir_graph.proofs.Times.{has_timed_run_if_reached_state_has_ticks}
+use Rattle.ir_graph.proofs.Times.{ticks_have_timed_run}
 
 -- what leads somewhere was noted of a node, and leads to one
 noted_nodes_exist : (x : Setup) (flats : List SourcedFlat) (noted : ℕ → BothWays) (threads : ℕ) → IsGraph x flats noted threads
@@ -34,10 +34,10 @@ noted_nodes_exist x flats noted threads g t refused v w is = elim (cases_lt t th
 ]
 
 -- nodes were added
-pub knows_times_after_nodes_added : (x : Setup) (flats new : List SourcedFlat) (noted : ℕ → BothWays) (threads : ℕ) (old timed : Bool)
+pub knows_times_nodes_added : (x : Setup) (flats new : List SourcedFlat) (noted : ℕ → BothWays) (threads : ℕ) (old timed : Bool)
     → IsGraph x flats noted threads → KnowsTimes x flats noted old → NodesStay flats new → (timed ≡ true → HasTimedRun x) → (timed ≡ false → old ≡ false)
     → KnowsTimes x new noted timed
-knows_times_after_nodes_added x flats new noted threads old timed g known stay has were = record {
+knows_times_nodes_added x flats new noted threads old timed g known stay has were = record {
   has = has;
   begins = λ none s is. known.begins (were none) s (old_node_is_unchanged flats new 0 s stay g.some is);
   leads = λ none t refused v w is s u here there.
@@ -64,10 +64,10 @@ knows_times_after_note x flats old new timed thread way node to known only leads
 }
 
 -- what is known by rows is known by equal ones
-pub knows_times_of_equal_rows : (x : Setup) (flats : List SourcedFlat) (timed : Bool) (new tries : List (Vec (Option (Option ℕ))))
+pub knows_times_equal_rows : (x : Setup) (flats : List SourcedFlat) (timed : Bool) (new tries : List (Vec (Option (Option ℕ))))
     {rows refused_rows : List (Vec (Option (Option ℕ)))} → rows ≡ new → refused_rows ≡ tries → KnowsTimes x flats (noted_by new tries) timed
     → KnowsTimes x flats (noted_by rows refused_rows) timed
-knows_times_of_equal_rows x flats timed new tries {rows} {refused_rows} same also known =
+knows_times_equal_rows x flats timed new tries {rows} {refused_rows} same also known =
     subst (λ z. KnowsTimes x flats (noted_by z refused_rows) timed) (sym same)
     (subst (λ z. KnowsTimes x flats (noted_by new z) timed) (sym also) known)
 
@@ -77,12 +77,12 @@ pub start_knows_times : (x : Setup) (h : SourcedFlat) (noted : ℕ → BothWays)
     → ((t : ℕ) (refused : Bool) (v : ℕ) → threads ≤ t → noted t refused v ≡ Some None)
     → (timed ≡ true → HaveTicks h.sources) → (timed ≡ false → HaveNoTicks h.sources) → KnowsTimes x (h ∷ []) noted timed
 start_knows_times x h noted threads timed goes free tries past some none = record {
-  has = λ e. has_timed_run_if_reached_state_has_ticks x h (plain_start_is_reached x h goes) (some e);
+  has = λ e. ticks_have_timed_run x h (plain_start_is_reached x h goes) (some e);
   begins = λ e s is.
       subst (λ z. Begins (seen_by x.guest.code) (answered_by x.guest.code) (AlikeTickless x.guest.code) (seen_start x.guest x.profile (first_source x)) (seen_of z))
       (same_Some h s is)
       (subst (λ z. Begins (seen_by x.guest.code) (answered_by x.guest.code) (AlikeTickless x.guest.code) (beside z (first_source x)) (seen_of h))
-      (start_view_ignores_budget x.guest most_budget 1 x.profile) (begins_tickless (setup_start x) h goes (none e)));
+      (start_view_any_budget x.guest most_budget 1 x.profile) (begins_tickless (setup_start x) h goes (none e)));
   leads = λ e t refused v w is. elim (cases_lt t threads) [
     | inl few ↦ absurd (nowhere tries t refused v w few is)
     | inr many ↦ absurd (cc (sym (past t refused v many) ∙ is))

@@ -6,20 +6,20 @@ use Rattle.ir_search.specs.Levels.{AreAsked}
 use Rattle.ir_runs.specs.Machine.{Machine, Done, Admits, act_of, target}
 use Rattle.ir_runs.specs.Lawful.{IsLawful}
 use Rattle.ir_runs.specs.Run.{State, Step, asked, act, Can, after, end, log}
-use Rattle.ir_runs.proofs.CallerLemmas.{StateInvariant, upd_at_own_place, thread_after_step_of_other}
-use Rattle.ir_search_laws.specs.Counting.{Answers, is_own, RunCounts, GoesAhead, entering}
-use Rattle.ir_search_laws.specs.Nodes.{LeadsTo, Noted, IsClosed, Chain}
+use Rattle.ir_runs.proofs.CallerLemmas.{StateInvariant, upd_at_own_place, thread_after_other}
+use Rattle.ir_search_laws.specs.Counting.{AnswersCall, is_own, RunCounts, GoesAhead, entering}
+use Rattle.ir_search_laws.specs.Nodes.{LeadsToNode, Noted, IsClosed, Chain}
 use Rattle.ir_search_laws.specs.Orders.{is_refusal}
-use Rattle.ir_search_laws.specs.Sources.{left_of}
+use Rattle.ir_search_laws.specs.Sources.{left_of_source}
 use Rattle.ir_search_laws.specs.Views.{beside}
-use Rattle.ir_search_laws.proofs.CallerLemmas.{counting_run_arrives_along_chain_of_its_entries, equality_of_states_tells_nothing, goes_ahead_from_alike_state_to_alike_end, run_is_live_if_its_end_is_unspoilt, sourced_live, seen_good, sourced_machine_is_lawful}
+use Rattle.ir_search_laws.proofs.CallerLemmas.{arrives_along_entries, equality_tells_nothing, ahead_from_alike, unspoilt_run_is_live, sourced_live, seen_good, sourced_is_lawful}
 use Rattle.ir_thread.specs.State.{ThreadState, thread_machine}
 use Rattle.ir_world.specs.Sources.{Source, given}
 use Rattle.ir_flat.specs.Flat.{tables, start_flat}
-use Rattle.ir_seen.specs.Seen.{view, seen_machine, seen_start, IsLive, IsSpoilt}
-use Rattle.ir_seen.proofs.CallerLemmas.{seen_machine_is_lawful, seen_machine_is_view, thread_is_live_or_next_step_spoils_it, start_view_ignores_budget, state_invariant_at_start}
-use Rattle.ir_store.specs.Nodes.{SourcedFlat, source_of}
-use Rattle.ir_store.specs.Table.{HaveTicks}
+use Rattle.ir_likeness.specs.Seen.{view, seen_machine, seen_start, IsLive, IsSpoilt}
+use Rattle.ir_likeness.proofs.CallerLemmas.{seen_machine_is_lawful, seen_machine_is_view, live_or_next_spoils, start_view_any_budget, guest_invariant_start}
+use Rattle.ir_state_store.specs.Nodes.{SourcedFlat, source_of}
+use Rattle.ir_state_store.specs.Table.{HaveTicks}
 use Rattle.ir_graph.specs.Graph.{IsGraph}
 use Rattle.ir_graph.specs.Hangs.{IsCounting}
 use Rattle.ir_graph.specs.Nodes.{seen_by, answered_by, Alike}
@@ -27,37 +27,37 @@ use Rattle.ir_graph.specs.Reached.{IsReached}
 use Rattle.ir_graph.specs.Setup.{Setup, setup_start, first_source}
 use Rattle.ir_graph.specs.Times.{HasTimedRun, IsTickless, AlikeTickless, KnowsTimes}
 use Rattle.ir_graph.proofs.Full.{end_of_live_run_seen}
-use Rattle.ir_graph.proofs.Hangs.{answered_run_is_counting, counting_run_counts_as_seen, tells_nothing_of_alike_seen_threads}
+use Rattle.ir_graph.proofs.Hangs.{answered_is_counting, counting_as_seen, alike_tells_nothing}
 use Rattle.ir_graph.proofs.Listed.{flat_of, state_of, at, code_at, graph_means}
-use Rattle.ir_graph.proofs.Ticks.{left_after, ticks_rise_if_log_has_time, log_has_time_if_ticks_rose, source_at_end_is_left_after_log, ticks_never_fall_in_run, first_source_has_no_ticks}
+use Rattle.ir_graph.proofs.Ticks.{left_after, ticks_rise_with_time, risen_ticks_have_time, source_left_after_log, ticks_never_fall_in_run, first_source_no_ticks}
 
 -- a run leads to a state where some call for the time was answered
-pub has_timed_run_if_reached_state_has_ticks : (x : Setup) (s : SourcedFlat) → IsReached x s → HaveTicks s.sources → HasTimedRun x
-has_timed_run_if_reached_state_has_ticks x s reached ticks =
+pub ticks_have_timed_run : (x : Setup) (s : SourcedFlat) → IsReached x s → HaveTicks s.sources → HasTimedRun x
+ticks_have_timed_run x s reached ticks =
     let t = ticks.0 in
     let es = log (thread_machine x.guest.code) (tables (setup_start x).flat) reached.steps t in
     let left : source_of s t ≡ left_after (first_source x t) es =
     ap (λ (z : State (ThreadState × Source)). (z.now t).1) reached.ends
-    ∙ source_at_end_is_left_after_log (thread_machine x.guest.code) (tables (setup_start x).flat) (first_source x) reached.steps t in (
+    ∙ source_left_after_log (thread_machine x.guest.code) (tables (setup_start x).flat) (first_source x) reached.steps t in (
       _,
       reached.steps,
-      answered_run_is_counting x reached.steps reached.answered,
-      (t, log_has_time_if_ticks_rose (first_source x t) es (first_source_has_no_ticks x t) (subst (λ (z : Source). 0 < z.ticks) left ticks.1)),
+      answered_is_counting x reached.steps reached.answered,
+      (t, risen_ticks_have_time (first_source x t) es (first_source_no_ticks x t) (subst (λ (z : Source). 0 < z.ticks) left ticks.1)),
     )
 
 -- what the threads' sources are after a run that counts, as the search sees it
-seen_source_is_left_after_log : (x : Setup) (budget : ℕ) (steps : List Step) → IsCounting x budget steps → (t : ℕ)
+seen_source_after_log : (x : Setup) (budget : ℕ) (steps : List Step) → IsCounting x budget steps → (t : ℕ)
     → ((end (seen_by x.guest.code) (seen_start x.guest x.profile (first_source x)) steps).now t).1
     ≡ left_after (first_source x t) (log (thread_machine x.guest.code) (tables (start_flat x.guest budget x.profile)) steps t)
-seen_source_is_left_after_log x budget steps c t =
+seen_source_after_log x budget steps c t =
     let m = thread_machine x.guest.code in
     let s : State ThreadState = tables (start_flat x.guest budget x.profile) in
     let full : State (ThreadState × Source) = beside s (first_source x) in
     let live = sourced_live m given (IsLive x.guest.code) full steps
-    (run_is_live_if_its_end_is_unspoilt m (IsLive x.guest.code) (IsSpoilt x.guest.code) (thread_is_live_or_next_step_spoils_it x.guest.code) s steps c.unspoilt) in
-    ap (λ z. ((end (seen_by x.guest.code) (beside z (first_source x)) steps).now t).1) (start_view_ignores_budget x.guest 1 budget x.profile)
+    (unspoilt_run_is_live m (IsLive x.guest.code) (IsSpoilt x.guest.code) (live_or_next_spoils x.guest.code) s steps c.unspoilt) in
+    ap (λ z. ((end (seen_by x.guest.code) (beside z (first_source x)) steps).now t).1) (start_view_any_budget x.guest 1 budget x.profile)
     ∙ ap (λ (z : State (ThreadState × Source)). (z.now t).1) (end_of_live_run_seen x.guest.code full steps live)
-    ∙ source_at_end_is_left_after_log m s (first_source x) steps t
+    ∙ source_left_after_log m s (first_source x) steps t
 
 module _ (code : List ℕ) where
   -- each thread's source is as it is there, or the thread is done and its source has answered no call for the time
@@ -72,7 +72,7 @@ module _ (code : List ℕ) where
   ]
 
   source_after_own_step : (s : State (ThreadState × Source)) (e : Step)
-      → ((after (seen_by code) s e).now e.0).1 ≡ left_of given ((seen_machine code).ask (s.now e.0).0) (s.now e.0).1
+      → ((after (seen_by code) s e).now e.0).1 ≡ left_of_source given ((seen_machine code).ask (s.now e.0).0) (s.now e.0).1
   unfolding after
   source_after_own_step s e = ap (λ x. x.1) (upd_at_own_place s.now e.0 _)
 
@@ -86,13 +86,13 @@ module _ (code : List ℕ) where
     | inl is ↦ subst (λ z. (((after (seen_by code) a e).now z).1 ≡ ((after (seen_by code) v e).now z).1)
         ⊎ ((asked (seen_by code) (after (seen_by code) a e) z ≡ Done) × (((after (seen_by code) a e).now z).1.ticks ≡ 0))) (sym is) (elim (has e.0) [
           | inl same ↦ inl (source_after_own_step a e
-              ∙ (λ i. left_of given ((tells_nothing_of_alike_seen_threads code).asks a v alike e.0 i) (same i))
+              ∙ (λ i. left_of_source given ((alike_tells_nothing code).asks a v alike e.0 i) (same i))
               ∙ sym (source_after_own_step v e))
           | inr done ↦ absurd (asked_of_step_is_not_done a e can done.0)
         ])
     | inr other ↦
-        let here = thread_after_step_of_other (seen_by code) a e u other in
-        let there = thread_after_step_of_other (seen_by code) v e u other in elim (has u) [
+        let here = thread_after_other (seen_by code) a e u other in
+        let there = thread_after_other (seen_by code) v e u other in elim (has u) [
           | inl same ↦ inl (ap (λ x. x.1) here ∙ same ∙ ap (λ x. x.1) (sym there))
           | inr done ↦ inr (
             ap (λ x. (seen_by code).ask x) here ∙ done.0,
@@ -105,7 +105,7 @@ module _ (code : List ℕ) where
       → GoesAhead (seen_by code) (answered_by code) v run → HasSourcesOf (end (seen_by code) a run) (end (seen_by code) v run)
   has_sources_of_after_run a v alike has [] goes = has
   has_sources_of_after_run a v alike has (e ∷ run) goes =
-      let tells = tells_nothing_of_alike_seen_threads code in
+      let tells = alike_tells_nothing code in
       let can : Can (seen_by code) a e = tells.can v a (tells.backwards a v alike) e goes.1.0 in
       has_sources_of_after_run (after (seen_by code) a e) (after (seen_by code) v e) (tells.steps a v alike e can)
       (has_sources_of_after_step a v alike has e can) run goes.2
@@ -129,7 +129,7 @@ module _ (x : Setup) (flats : List SourcedFlat) (noted : ℕ → BothWays) (thre
   abbrev m : Machine (ThreadState × Source)
   m = seen_by x.guest.code
 
-  abbrev answers : Answers (ThreadState × Source)
+  abbrev answers : AnswersCall (ThreadState × Source)
   answers = answered_by x.guest.code
 
   abbrev start : State (ThreadState × Source)
@@ -140,10 +140,10 @@ module _ (x : Setup) (flats : List SourcedFlat) (noted : ℕ → BothWays) (thre
 
   good : StateInvariant m start
   good = seen_good (thread_machine x.guest.code) (seen_machine x.guest.code) view (IsLive x.guest.code) (IsSpoilt x.guest.code) (seen_machine_is_view x.guest.code)
-      (thread_is_live_or_next_step_spoils_it x.guest.code) given (λ y o. refl) (tables (start_flat x.guest 1 x.profile)) (first_source x) (state_invariant_at_start x.guest 1 x.profile)
+      (live_or_next_spoils x.guest.code) given (λ y o. refl) (tables (start_flat x.guest 1 x.profile)) (first_source x) (guest_invariant_start x.guest 1 x.profile)
 
   lawful : IsLawful m
-  lawful = sourced_machine_is_lawful (seen_machine x.guest.code) given (seen_machine_is_lawful x.guest.code)
+  lawful = sourced_is_lawful (seen_machine x.guest.code) given (seen_machine_is_lawful x.guest.code)
 
   -- a state that looks the same as a node, and where no source has answered a call for the time
   abbrev IsTicklessNode : Unit {0} → State (ThreadState × Source) → Type 0
@@ -155,26 +155,26 @@ module _ (x : Setup) (flats : List SourcedFlat) (noted : ℕ → BothWays) (thre
   module _ (known : KnowsTimes x flats noted false) where
     leads_at_node : (v : ℕ) (l : v < length flats) (e : Step) (w : ℕ) → (lw : w < length flats)
         → noted e.0 (is_refusal (act m (state v) e)) v ≡ Some (Some w) → Can m (state v) e
-        → LeadsTo m answers (AlikeTickless x.guest.code) (state v) e (state w)
+        → LeadsToNode m answers (AlikeTickless x.guest.code) (state v) e (state w)
     leads_at_node v l e w lw is =
         let lead = known.leads refl e.0 (is_refusal (act m (state v) e)) v w is (flat_of x flats noted threads g v) (flat_of x flats noted threads g w)
         (at x flats noted threads g v l) (at x flats noted threads g w lw) e refl in
         subst (λ z. is_refusal (act (seen_by z) (state v) e) ≡ is_refusal (act m (state v) e) → Can (seen_by z) (state v) e
-        → LeadsTo (seen_by z) (answered_by z) (AlikeTickless z) (state v) e (state w)) (code_at x flats noted threads g v l) lead refl
+        → LeadsToNode (seen_by z) (answered_by z) (AlikeTickless z) (state v) e (state w)) (code_at x flats noted threads g v l) lead refl
 
     followed_tickless : (a : State (ThreadState × Source)) → IsTicklessNode tt a → (e : Step) → Can m a e
-        → (b : State (ThreadState × Source)) × IsTicklessNode tt b × AnyNext a e b × LeadsTo m answers (λ s v. s ≡ v) a e b
+        → (b : State (ThreadState × Source)) × IsTicklessNode tt b × AnyNext a e b × LeadsToNode m answers (λ s v. s ≡ v) a e b
     followed_tickless a (v, l, (alike, none)) e can =
         let means = graph_means x flats noted threads g in
-        let tells = tells_nothing_of_alike_seen_threads x.guest.code in
+        let tells = alike_tells_nothing x.guest.code in
         let there : Can m (state v) e = tells.can a (state v) alike e can in elim (cases_lt e.0 threads) [
           | inl few ↦ elim (asked_all v e.0 l few (is_refusal (act m (state v) e))) [
             | inl nowhere ↦ absurd (means.stays e.0 (is_refusal (act m (state v) e)) v l nowhere e refl refl there)
             | inr to ↦
                 let w : ℕ = to.0 in
-                let lead : LeadsTo m answers (AlikeTickless x.guest.code) (state v) e (state w) = leads_at_node v l e w to.2 to.1 there in
+                let lead : LeadsToNode m answers (AlikeTickless x.guest.code) (state v) e (state w) = leads_at_node v l e w to.2 to.1 there in
                 let steps : Alike x.guest.code (after m a e) (after m (state v) e) = tells.steps a (state v) alike e can in
-                let goes = goes_ahead_from_alike_state_to_alike_end m answers (Alike x.guest.code) tells (after m a e) (after m (state v) e) steps lead.ahead lead.goes in
+                let goes = ahead_from_alike m answers (Alike x.guest.code) tells (after m a e) (after m (state v) e) steps lead.ahead lead.goes in
                 let has = has_sources_of_after_run x.guest.code (after m a e) (after m (state v) e) steps
                 (has_sources_of_after_step x.guest.code a (state v) alike (has_sources_of_alike_state x.guest.code a (state v) alike none) e can) lead.ahead lead.goes in (
                   end m (after m a e) lead.ahead,
@@ -196,7 +196,7 @@ module _ (x : Setup) (flats : List SourcedFlat) (noted : ℕ → BothWays) (thre
     tickless_nodes_are_closed : IsClosed m answers (λ s v. s ≡ v) MovesAnywhere (λ a. a) IsTicklessNode AnyNext
     tickless_nodes_are_closed = record {
       at_rest = λ i a is t.
-          ap is_own ((tells_nothing_of_alike_seen_threads x.guest.code).asks a (state is.0) is.2.0 t) ∙ (graph_means x flats noted threads g).at_rest is.0 is.1 t;
+          ap is_own ((alike_tells_nothing x.guest.code).asks a (state is.0) is.2.0 t) ∙ (graph_means x flats noted threads g).at_rest is.0 is.1 t;
       followed = λ i j a is e moves can. followed_tickless a is e can;
     }
 
@@ -205,7 +205,7 @@ module _ (x : Setup) (flats : List SourcedFlat) (noted : ℕ → BothWays) (thre
     seen_end_is_tickless steps counts t =
         let begins = known.begins refl (flat_of x flats noted threads g 0) (at x flats noted threads g 0 g.some) in
         let first : State (ThreadState × Source) = end m start begins.ahead in
-        let a = counting_run_arrives_along_chain_of_its_entries m lawful answers (λ s v. s ≡ v) (equality_of_states_tells_nothing m answers) MovesAnywhere (λ a. a)
+        let a = arrives_along_entries m lawful answers (λ s v. s ≡ v) (equality_tells_nothing m answers) MovesAnywhere (λ a. a)
         IsTicklessNode AnyNext tickless_nodes_are_closed start first good (record { ahead = begins.ahead; goes = begins.goes; alike = refl }) tt tt (0, g.some, begins.alike)
         steps counts (chain_of_any_moves (entering m start steps)) in
         let later : ((end m (end m start steps) a.left).now t).1.ticks ≡ 0 =
@@ -216,10 +216,10 @@ module _ (x : Setup) (flats : List SourcedFlat) (noted : ℕ → BothWays) (thre
     no_timed_run : HasTimedRun x → ⊥
     no_timed_run (budget, steps, counting, (t, has)) =
         let es = log (thread_machine x.guest.code) (tables (start_flat x.guest budget x.profile)) steps t in
-        let none : ((end m start steps).now t).1.ticks ≡ 0 = seen_end_is_tickless steps (counting_run_counts_as_seen x budget steps counting).0 t in
+        let none : ((end m start steps).now t).1.ticks ≡ 0 = seen_end_is_tickless steps (counting_as_seen x budget steps counting).0 t in
         let left : (left_after (first_source x t) es).ticks ≡ 0 =
-        ap (λ (z : Source). z.ticks) (sym (seen_source_is_left_after_log x budget steps counting t)) ∙ none in
-        let rise = ticks_rise_if_log_has_time (first_source x t) es has in
+        ap (λ (z : Source). z.ticks) (sym (seen_source_after_log x budget steps counting t)) ∙ none in
+        let rise = ticks_rise_with_time (first_source x t) es has in
         absurd (omega (arith, left, rise))
 
   -- once each node was asked for each of its ways, it is known exactly

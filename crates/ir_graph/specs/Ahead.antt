@@ -3,8 +3,8 @@ use Rattle.std.specs.Prelude.{◌≡◌, ℕ, ◌<◌, Bool, true, false, List, 
 use Rattle.std.specs.List.{slice_index_or, AllByRecursion}
 use Rattle.ir_thread.specs.State.{ask_of}
 use Rattle.ir_object.specs.Empty.{empty}
-use Rattle.ir_store.specs.Nodes.{Shared, SourcedFlat, cells_at, HaveWords, sourced_thread}
-use Rattle.ir_store.specs.Table.{idle_beside}
+use Rattle.ir_state_store.specs.Nodes.{Shared, SourcedFlat, cells_at, HaveWords, sourced_thread}
+use Rattle.ir_state_store.specs.Table.{idle_beside}
 use Rattle.ir_graph.specs.Hand.{AllPairs, EachOnce, IsAtSpot}
 use Rattle.ir_graph.specs.Lone.{MustWait, TakesTurn}
 use Rattle.ir_graph.specs.Plain.{MayGo}
@@ -28,7 +28,7 @@ abbrev pub AreTurns : List ℕ → Shared → List Turn → Type 0
 AreTurns code shared turns = AllByRecursion (IsTurn code shared) turns
 
 -- a turn from where thread t of a state and the objects of the turn are, with a try refused or not
-pub record IsFrom (shared : Shared) (s : SourcedFlat) (t : ℕ) (refused : Bool) (turn : Turn) : Type 0 where
+pub record IsAheadFrom (shared : Shared) (s : SourcedFlat) (t : ℕ) (refused : Bool) (turn : Turn) : Type 0 where
   pub way : turn.refused ≡ refused
   pub here : slice_index_or shared.threads turn.from idle_beside ≡ sourced_thread s t
   pub there : AllPairs (IsAtSpot shared.words s.flat.objects) turn.numbers.items turn.spots.items
@@ -36,4 +36,4 @@ pub record IsFrom (shared : Shared) (s : SourcedFlat) (t : ℕ) (refused : Bool)
 -- it is the turn of thread t of a state, with a try refused or not
 pub record IsTurnOf (code : List ℕ) (shared : Shared) (s : SourcedFlat) (t : ℕ) (refused : Bool) (turn : Turn) : Type 0 where
   pub is : IsTurn code shared turn
-  pub from : IsFrom shared s t refused turn
+  pub from : IsAheadFrom shared s t refused turn

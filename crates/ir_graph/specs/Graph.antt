@@ -3,8 +3,8 @@ use Rattle.std.specs.Prelude.{◌≡◌, ◌⊎◌, ℕ, ◌<◌, ◌≤◌, Boo
 use Rattle.ir_search.specs.Following.{BothWays}
 use Rattle.ir_search_laws.specs.Outcomes.{Begins}
 use Rattle.ir_thread.specs.declared.profile.Profile.TheVariants.{One}
-use Rattle.ir_seen.specs.Seen.{seen_start}
-use Rattle.ir_store.specs.Nodes.{SourcedFlat}
+use Rattle.ir_likeness.specs.Seen.{seen_start}
+use Rattle.ir_state_store.specs.Nodes.{SourcedFlat}
 use Rattle.ir_graph.specs.Setup.{Setup, first_source}
 use Rattle.ir_graph.specs.Reached.{AllReached}
 use Rattle.ir_graph.specs.Nodes.{seen_by, answered_by, Alike, seen_of, AreNodes, LeadsFrom}

@@ -5,8 +5,8 @@ use Rattle.ir_object.specs.Cell.{Cell}
 use Rattle.ir_world.specs.Sources.{Source}
 use Rattle.ir_thread.specs.State.{ThreadState}
 use Rattle.ir_object.specs.Empty.{empty}
-use Rattle.ir_store.specs.declared.spot.Spot.{Spot}
-use Rattle.ir_store.specs.Nodes.{SourcedFlat, cell_in}
+use Rattle.ir_state_store.specs.declared.spot.Spot.{Spot}
+use Rattle.ir_state_store.specs.Nodes.{SourcedFlat, cell_in}
 
 -- the items, with these new ones in place of those of these numbers
 abbrev pub with_items : {X : Type 0} → List X → List ℕ → List X → List X

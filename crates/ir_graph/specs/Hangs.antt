@@ -1,7 +1,7 @@
 -- Runs that can't be brought to an end any more.
 use Rattle.std.specs.Prelude.{◌≡◌, ◌↔◌, ℕ, ◌≤◌, Bool, List, Some, length, slice_get}
 use Rattle.ir_search.specs.declared.origin.Origin.{Origin}
-use Rattle.ir_search.specs.Following.{BothWays, IsOpen}
+use Rattle.ir_search.specs.Following.{BothWays, IsNodeOpen}
 use Rattle.ir_search.specs.Ways.{HasMarked}
 use Rattle.ir_runs.specs.Run.{Step, IsRun, IsDone, end, log}
 use Rattle.ir_search_laws.specs.Counting.{RunCounts, entering}
@@ -11,8 +11,8 @@ use Rattle.ir_search_laws.specs.Views.{IsUnspoilt}
 use Rattle.ir_thread.specs.State.{thread_machine}
 use Rattle.ir_world.specs.Sources.{given}
 use Rattle.ir_flat.specs.Flat.{machine, tables, start_flat}
-use Rattle.ir_seen.specs.Seen.{IsSpoilt, seen_start}
-use Rattle.ir_store.specs.Nodes.{SourcedFlat}
+use Rattle.ir_likeness.specs.Seen.{IsSpoilt, seen_start}
+use Rattle.ir_state_store.specs.Nodes.{SourcedFlat}
 use Rattle.ir_graph.specs.Setup.{Setup, first_source}
 use Rattle.ir_graph.specs.Nodes.{seen_by, answered_by, seen_of}
 
@@ -43,8 +43,8 @@ IsHangOf x budget steps = IsCounting x budget steps × (CanEnd x steps → ⊥)
 -- exactly the states that can be brought to an end are marked
 pub record AreMarked (states : List SourcedFlat) (marks : List Bool) : Type 0 where
   pub all : length marks ≡ length states
-  pub marked : (v : ℕ) (s : SourcedFlat) → slice_get states v ≡ Some s → IsOpen marks v → CanEndFrom s
-  pub other : (v : ℕ) (s : SourcedFlat) → slice_get states v ≡ Some s → CanEndFrom s → IsOpen marks v
+  pub marked : (v : ℕ) (s : SourcedFlat) → slice_get states v ≡ Some s → IsNodeOpen marks v → CanEndFrom s
+  pub other : (v : ℕ) (s : SourcedFlat) → slice_get states v ≡ Some s → CanEndFrom s → IsNodeOpen marks v
 
 -- Each run of the guest that counts stands at a listed state, of no higher level than it has switches: it can be brought to an end exactly where
 -- that state can.
@@ -58,7 +58,7 @@ AllStand x states origins = (budget : ℕ) (steps : List Step) → IsCounting x 
 pub record AreWays (noted : ℕ → BothWays) (threads : ℕ) (states : List SourcedFlat) (marks : List Bool) : Type 0 where
   pub done : List Bool
   pub nodes : length done ≡ length states
-  pub done_marked : (v : ℕ) (s : SourcedFlat) → slice_get states v ≡ Some s → IsOpen done v → IsDone (machine s.flat) (tables s.flat)
-  pub marked_done : (v : ℕ) (s : SourcedFlat) → slice_get states v ≡ Some s → IsDone (machine s.flat) (tables s.flat) → IsOpen done v
+  pub done_marked : (v : ℕ) (s : SourcedFlat) → slice_get states v ≡ Some s → IsNodeOpen done v → IsDone (machine s.flat) (tables s.flat)
+  pub marked_done : (v : ℕ) (s : SourcedFlat) → slice_get states v ≡ Some s → IsDone (machine s.flat) (tables s.flat) → IsNodeOpen done v
   pub all : length marks ≡ length states
-  pub exact : (v : ℕ) → IsOpen marks v ↔ HasMarked noted threads done v
+  pub exact : (v : ℕ) → IsNodeOpen marks v ↔ HasMarked noted threads done v

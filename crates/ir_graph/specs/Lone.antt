@@ -4,10 +4,10 @@ use Rattle.std.specs.List.{slice_index_or}
 use Rattle.ir_image.specs.Guest.{most_object_words}
 use Rattle.ir_object.specs.Cell.{Cell}
 use Rattle.ir_object.specs.Standing.{Admitted, CanLeave}
-use Rattle.ir_object.specs.Word.{IsFields, entered, left_by}
+use Rattle.ir_object.specs.Word.{IsFields, entered_word, left_by}
 use Rattle.ir_object.specs.declared.fields.Fields.{Fields}
 use Rattle.ir_runs.specs.declared.access.Access.TheVariants.{Writing}
-use Rattle.ir_search_laws.specs.Sources.{left_of}
+use Rattle.ir_search_laws.specs.Sources.{left_of_source}
 use Rattle.ir_thread.specs.State.{ThreadState, ask_of, after_ask, shared_ask, is_result}
 use Rattle.ir_thread.specs.declared.ask.Ask.{Ask}
 use Rattle.ir_thread.specs.declared.ask.Ask.TheVariants as ask
@@ -54,13 +54,13 @@ answer_from refused c source ask.Done = Go
 -- the object after a try
 abbrev pub cell_after_try : Bool → Cell → Cell
 cell_after_try true c = c
-cell_after_try false c = record c { fields = entered Writing c.fields }
+cell_after_try false c = record c { fields = entered_word Writing c.fields }
 
 -- the object after what is asked of it
 abbrev pub cell_after : Bool → Cell → Ask → Cell
 cell_after refused c ask.Private = c
 cell_after refused c (ask.Env kind) = c
-cell_after refused c (ask.Enter p access) = record c { fields = entered access c.fields }
+cell_after refused c (ask.Enter p access) = record c { fields = entered_word access c.fields }
 cell_after refused c (ask.Try p) = cell_after_try refused c
 cell_after refused c (ask.Leave p access) = record c { fields = left_by access c.fields }
 cell_after refused c (ask.Get p index) = c
@@ -73,7 +73,7 @@ cell_after refused c ask.Done = c
 abbrev pub lone_thread : List ℕ → Bool → ThreadState × Source → Cell → ThreadState × Source
 lone_thread code refused x c = (
   after_ask code x.0 (ask_of code x.0) (answer_from refused c x.1 (ask_of code x.0)),
-  left_of given (shared_ask (ask_of code x.0)) x.1,
+  left_of_source given (shared_ask (ask_of code x.0)) x.1,
 )
 
 abbrev pub lone_cell : List ℕ → Bool → ThreadState × Source → Cell → Cell
@@ -133,13 +133,13 @@ pub record AreAmong (code numbers : List ℕ) (x : ThreadState) (cells : List Ce
 -- the object may be tried so
 abbrev pub MayTakeTry : Bool → Cell → Type 0
 MayTakeTry true c = Unit {0}
-MayTakeTry false c = Admitted Writing c.fields × IsFields (entered Writing c.fields)
+MayTakeTry false c = Admitted Writing c.fields × IsFields (entered_word Writing c.fields)
 
 -- the object may be asked so
 abbrev pub MayTake : Bool → Cell → Ask → Type 0
 MayTake refused c ask.Private = Unit {0}
 MayTake refused c (ask.Env kind) = Unit {0}
-MayTake refused c (ask.Enter p access) = Admitted access c.fields × IsFields (entered access c.fields)
+MayTake refused c (ask.Enter p access) = Admitted access c.fields × IsFields (entered_word access c.fields)
 MayTake refused c (ask.Try p) = MayTakeTry refused c
 MayTake refused c (ask.Leave p access) = CanLeave access c.fields × IsFields (left_by access c.fields)
 MayTake refused c (ask.Get p index) = index < most_object_words

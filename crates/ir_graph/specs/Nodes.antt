@@ -2,25 +2,25 @@
 use Rattle.std.specs.Prelude.{◌≡◌, ℕ, ◌<◌, Bool, List, length, Option, Some, None, slice_get}
 use Rattle.ir_runs.specs.Machine.{Machine}
 use Rattle.ir_runs.specs.Run as run
-use Rattle.ir_search_laws.specs.Counting.{Answers}
+use Rattle.ir_search_laws.specs.Counting.{AnswersCall}
 use Rattle.ir_search_laws.specs.Looks.{Looks}
-use Rattle.ir_search_laws.specs.Nodes.{LeadsTo}
+use Rattle.ir_search_laws.specs.Nodes.{LeadsToNode}
 use Rattle.ir_search_laws.specs.Orders.{is_refusal}
 use Rattle.ir_search_laws.specs.Sources.{sourced, by_source}
 use Rattle.ir_search_laws.specs.Views.{viewed, beside}
 use Rattle.ir_thread.specs.State.{ThreadState, ask_of}
 use Rattle.ir_world.specs.Sources.{Source, given}
 use Rattle.ir_flat.specs.Flat.{Flat, tables, thread_of}
-use Rattle.ir_seen.specs.Seen.{view, seen_machine, Same}
-use Rattle.ir_store.specs.Nodes.{SourcedFlat, source_of}
-use Rattle.ir_graph.specs.Plain.{Rests, IsLike}
+use Rattle.ir_likeness.specs.Seen.{view, seen_machine, Same}
+use Rattle.ir_state_store.specs.Nodes.{SourcedFlat, source_of}
+use Rattle.ir_graph.specs.Plain.{Rests, LooksAlike}
 
 -- the threads that run this code, as a search sees them, each with its source beside it
 abbrev pub seen_by : List ℕ → Machine (ThreadState × Source)
 seen_by code = sourced (seen_machine code) given
 
 -- each is answered by its own source
-abbrev pub answered_by : List ℕ → Answers (ThreadState × Source)
+abbrev pub answered_by : List ℕ → AnswersCall (ThreadState × Source)
 answered_by code = by_source (seen_machine code) given
 
 -- states that look the same
@@ -47,7 +47,7 @@ AreApart states = (v w : ℕ) (s u : SourcedFlat) → slice_get states v ≡ Som
 pub record AreNodes (states : List SourcedFlat) : Type 0 where
   pub each : (v : ℕ) (s : SourcedFlat) → slice_get states v ≡ Some s → length s.sources ≡ length s.flat.threads
   pub rest : (v : ℕ) (s : SourcedFlat) → slice_get states v ≡ Some s → AllRest s.flat
-  pub like : (v w : ℕ) (s u : SourcedFlat) → slice_get states v ≡ Some s → slice_get states w ≡ Some u → IsLike s.flat u.flat
+  pub like : (v w : ℕ) (s u : SourcedFlat) → slice_get states v ≡ Some s → slice_get states w ≡ Some u → LooksAlike s.flat u.flat
   pub apart : AreApart states
 
 -- no more than nodes were added
@@ -69,4 +69,4 @@ LeadsFrom states t refused v None = (s : SourcedFlat) → slice_get states v ≡
     → run.Can (seen_by s.flat.code) (seen_of s) e → ⊥
 LeadsFrom states t refused v (Some w) = (s u : SourcedFlat) → slice_get states v ≡ Some s → slice_get states w ≡ Some u
     → HasStepBy s t refused × ((e : run.Step) → e.0 ≡ t → IsStepBy s refused e → run.Can (seen_by s.flat.code) (seen_of s) e
-    → LeadsTo (seen_by s.flat.code) (answered_by s.flat.code) (Alike s.flat.code) (seen_of s) e (seen_of u))
+    → LeadsToNode (seen_by s.flat.code) (answered_by s.flat.code) (Alike s.flat.code) (seen_of s) e (seen_of u))

@@ -7,7 +7,7 @@ use Rattle.ir_search_laws.specs.Outcomes.{switches}
 use Rattle.ir_thread.specs.State.{ThreadState, most_budget, thread_machine}
 use Rattle.ir_thread.specs.declared.end.End.{End}
 use Rattle.ir_flat.specs.Flat.{machine, tables, start_flat}
-use Rattle.ir_store.specs.Nodes.{SourcedFlat}
+use Rattle.ir_state_store.specs.Nodes.{SourcedFlat}
 use Rattle.ir_graph.specs.Setup.{Setup, IsCountedOf}
 
 -- of each thread how it ended and what it printed, of each object its words

@@ -2,7 +2,7 @@
 use Rattle.std.specs.Prelude.{◌≡◌, ◌≢◌, ℕ, Bool, true, false, List, length}
 use Rattle.ir_runs.specs.Machine.{Machine}
 use Rattle.ir_runs.specs.Run.{State, Step, end}
-use Rattle.ir_search_laws.specs.Counting.{Answers, RunCounts, GoesAhead}
+use Rattle.ir_search_laws.specs.Counting.{AnswersCall, RunCounts, GoesAhead}
 use Rattle.ir_search_laws.specs.Sources.{sourced, by_source}
 use Rattle.ir_search_laws.specs.Views.{IsLiveRun, beside}
 use Rattle.ir_thread.specs.State.{ThreadState, thread_machine}
@@ -10,17 +10,17 @@ use Rattle.ir_thread.specs.declared.ask.Ask.{Ask}
 use Rattle.ir_thread.specs.declared.ask.Ask.TheVariants as ask
 use Rattle.ir_thread.specs.declared.end.End.TheVariants as ending
 use Rattle.ir_world.specs.Sources.{Source, given}
-use Rattle.ir_freeze.specs.Twins.{AreTwins}
-use Rattle.ir_seen.specs.Seen.{IsLive}
+use Rattle.ir_thread_bytes.specs.Twins.{AreTwins}
+use Rattle.ir_likeness.specs.Seen.{IsLive}
 use Rattle.ir_flat.specs.Flat.{Flat, tables, thread_of}
-use Rattle.ir_store.specs.Nodes.{SourcedFlat, source_of}
+use Rattle.ir_state_store.specs.Nodes.{SourcedFlat, source_of}
 
 -- the threads that run this code, each with its source beside it
 abbrev pub full_by : List ℕ → Machine (ThreadState × Source)
 full_by code = sourced (thread_machine code) given
 
 -- each thread is answered by its own source
-abbrev pub sources_by : List ℕ → Answers (ThreadState × Source)
+abbrev pub sources_by : List ℕ → AnswersCall (ThreadState × Source)
 sources_by code = by_source (thread_machine code) given
 
 -- a guest's threads and objects, each thread beside its source
@@ -59,7 +59,7 @@ pub record OthersStay (s u : SourcedFlat) (t : ℕ) : Type 0 where
   pub sources : (v : ℕ) → v ≢ t → source_of u v ≡ source_of s v
 
 -- two moments of one guest
-pub record IsLike (f g : Flat) : Type 0 where
+pub record LooksAlike (f g : Flat) : Type 0 where
   pub code : g.code ≡ f.code
   pub threads : length g.threads ≡ length f.threads
   pub objects : length g.objects ≡ length f.objects
@@ -91,9 +91,9 @@ result_by true = 0
 result_by false = 1
 
 -- the result of a step of a thread that asks so: what its source answers, or that of a try
-abbrev pub result_of : Bool → Ask → Source → ℕ
-result_of refused (ask.Env kind) source = (given kind source).0
-result_of refused _ source = result_by refused
+abbrev pub result_of_plain : Bool → Ask → Source → ℕ
+result_of_plain refused (ask.Env kind) source = (given kind source).0
+result_of_plain refused _ source = result_by refused
 
 -- a thread that asks so may have a step by this way: only one that tries is refused
 abbrev pub MayGo : Bool → Ask → Type 0

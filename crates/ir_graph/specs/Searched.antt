@@ -2,9 +2,9 @@
 use Rattle.std.specs.Prelude.{◌≡◌, ◌↔◌, true, ℕ, ◌<◌, ◌≤◌, List, Some, length, slice_get}
 use Rattle.ir_search.specs.declared.origin.Origin.{Origin}
 use Rattle.ir_search.specs.Levels.{rows}
-use Rattle.ir_search.specs.Origins.{AreReached, AreRising}
+use Rattle.ir_search.specs.Origins.{AreReached, AreOriginsRising}
 use Rattle.ir_search.specs.Searching.{HasGone, IsBetween}
-use Rattle.ir_store.specs.Nodes.{SourcedFlat}
+use Rattle.ir_state_store.specs.Nodes.{SourcedFlat}
 use Rattle.ir_graph.specs.Setup.{Setup}
 use Rattle.ir_graph.specs.Ahead.{AreTurns}
 use Rattle.ir_graph.specs.Graph.{IsGraph}
@@ -23,7 +23,7 @@ pub record AreSearched (x : Setup) (flats : List SourcedFlat) (origins : List Or
   pub states : AreNodes flats
   pub reached : AllReached x flats
   pub few : length origins ≤ length flats
-  pub rising : AreRising origins
+  pub rising : AreOriginsRising origins
   pub most : (v : ℕ) (n : Origin) → slice_get origins v ≡ Some n → n.level ≤ levels
   pub within : (c : ℕ) → c < levels → WithinListed x flats origins c
   pub found : (c : ℕ) → c < levels → WithinFound x flats origins c
@@ -41,15 +41,19 @@ pub record IsSearch (s : States) : Type 0 where
 
 -- it stands between two levels
 abbrev pub StandsBetween : States → Type 0
-StandsBetween s = IsBetween (noted_by s.graph.rows.items s.graph.refused_rows.items) (length s.graph.flats.items) s.search.found.nodes.items s.search.found.refusals.items (rows s.search.opened.items) s.search.level
+StandsBetween s =
+    IsBetween (noted_by s.graph.rows.items s.graph.refused_rows.items) (length s.graph.flats.items) s.search.found.nodes.items
+    s.search.found.refusals.items (rows s.search.opened.items) s.search.level
 
 -- so many levels are gone over
 abbrev pub HasLevels : States → ℕ → Type 0
-HasLevels s n = HasGone (noted_by s.graph.rows.items s.graph.refused_rows.items) (length (rows s.search.opened.items)) (length s.graph.flats.items) s.search.found.nodes.items s.search.found.refusals.items n
+HasLevels s n =
+    HasGone (noted_by s.graph.rows.items s.graph.refused_rows.items) (length (rows s.search.opened.items)) (length s.graph.flats.items)
+    s.search.found.nodes.items s.search.found.refusals.items n
 
 -- each outcome of the guest is that of a listed state; its runs that count stand at listed states, and end there where all threads rest; it is
 -- known whether some of them answers a call for the time
-pub record IsWhole (s : States) : Type 0 where
+pub record IsWholeGraph (s : States) : Type 0 where
   pub all : AllListed s.graph.setup s.graph.flats.items
   pub nodes : length s.search.found.nodes.items ≡ length s.graph.flats.items
   pub found : AllFound s.graph.setup s.graph.flats.items

@@ -7,9 +7,9 @@ use Rattle.ir_thread.specs.State.{most_budget}
 use Rattle.ir_thread.specs.declared.profile.Profile.{Profile}
 use Rattle.ir_world.specs.Sources.{Source, source, given, seed_of}
 use Rattle.ir_flat.specs.Flat.{start_flat}
-use Rattle.ir_seen.specs.Seen.{IsCounted}
-use Rattle.ir_store.specs.Nodes.{SourcedFlat}
-use Rattle.ir_store.specs.Table.{no_source}
+use Rattle.ir_likeness.specs.Seen.{IsCounted}
+use Rattle.ir_state_store.specs.Nodes.{SourcedFlat}
+use Rattle.ir_state_store.specs.Table.{no_source}
 
 -- a guest, which calls its threads make, and what answers them: the number that random words start from, and the input of each thread
 pub record Setup : Type 0 where

@@ -7,8 +7,8 @@ use Rattle.ir_search_laws.specs.Outcomes.{switches}
 use Rattle.ir_thread.specs.State.{ThreadState, thread_machine}
 use Rattle.ir_world.specs.Sources.{Source}
 use Rattle.ir_flat.specs.Flat.{tables, start_flat}
-use Rattle.ir_seen.specs.Seen.{seen_start}
-use Rattle.ir_store.specs.Nodes.{SourcedFlat}
+use Rattle.ir_likeness.specs.Seen.{seen_start}
+use Rattle.ir_state_store.specs.Nodes.{SourcedFlat}
 use Rattle.ir_graph.specs.Setup.{Setup, first_source}
 use Rattle.ir_graph.specs.Hangs.{IsCounting}
 use Rattle.ir_graph.specs.Nodes.{seen_by, seen_of, Alike}

@@ -9,7 +9,7 @@ use Rattle.ir_thread.specs.declared.ask.Ask.TheVariants as ask
 use Rattle.ir_thread.specs.declared.end.End.TheVariants as ending
 use Rattle.ir_world.specs.Sources.{Source}
 use Rattle.ir_flat.specs.Flat.{thread_of}
-use Rattle.ir_store.specs.Nodes.{SourcedFlat, source_of}
+use Rattle.ir_state_store.specs.Nodes.{SourcedFlat, source_of}
 use Rattle.ir_graph.specs.Setup.{Setup}
 use Rattle.ir_graph.specs.Plain.{IsFair}
 use Rattle.ir_graph.specs.Reached.{IsReached}

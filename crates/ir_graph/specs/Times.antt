@@ -4,13 +4,13 @@ use Rattle.ir_search.specs.Following.{BothWays}
 use Rattle.ir_runs.specs.Machine.{Label, Quiet, Answer, EnteredAt, FailedTry, LeftAt}
 use Rattle.ir_runs.specs.declared.env_kind.EnvKind.TheVariants.{Clock, Random, Input}
 use Rattle.ir_runs.specs.Run.{State, Step, Can, log}
-use Rattle.ir_search_laws.specs.Nodes.{LeadsTo}
+use Rattle.ir_search_laws.specs.Nodes.{LeadsToNode}
 use Rattle.ir_search_laws.specs.Outcomes.{Begins}
 use Rattle.ir_thread.specs.State.{ThreadState, thread_machine}
 use Rattle.ir_world.specs.Sources.{Source}
 use Rattle.ir_flat.specs.Flat.{tables, start_flat}
-use Rattle.ir_seen.specs.Seen.{seen_start}
-use Rattle.ir_store.specs.Nodes.{SourcedFlat}
+use Rattle.ir_likeness.specs.Seen.{seen_start}
+use Rattle.ir_state_store.specs.Nodes.{SourcedFlat}
 use Rattle.ir_graph.specs.Hangs.{IsCounting}
 use Rattle.ir_graph.specs.Nodes.{seen_by, answered_by, seen_of, Alike, IsStepBy}
 use Rattle.ir_graph.specs.Setup.{Setup, first_source}
@@ -46,7 +46,7 @@ AlikeTickless code s v = Alike code s v × IsTickless s
 abbrev pub LeadsTickless : List SourcedFlat → ℕ → Bool → ℕ → ℕ → Type 0
 LeadsTickless states t refused v w = (s u : SourcedFlat) → slice_get states v ≡ Some s → slice_get states w ≡ Some u
     → (e : Step) → e.0 ≡ t → IsStepBy s refused e → Can (seen_by s.flat.code) (seen_of s) e
-    → LeadsTo (seen_by s.flat.code) (answered_by s.flat.code) (AlikeTickless s.flat.code) (seen_of s) e (seen_of u)
+    → LeadsToNode (seen_by s.flat.code) (answered_by s.flat.code) (AlikeTickless s.flat.code) (seen_of s) e (seen_of u)
 
 -- What is known of calls for the time by the nodes and ways of a graph: some run of the guest answers one, or none is answered on a way that
 -- was noted.

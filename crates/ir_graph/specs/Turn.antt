@@ -3,8 +3,8 @@ use Rattle.std.specs.Prelude.{◌≡◌, ℕ, Bool, cond, List, [], ◌∷◌, l
 use Rattle.ir_runs.specs.Machine.{Machine, Try}
 use Rattle.ir_runs.specs.Run.{State, Step, asked, act, after, end}
 use Rattle.ir_search_laws.specs.Counting.{is_own}
-use Rattle.ir_search_laws.specs.Orders.{IsAlone, is_refusal}
-use Rattle.ir_store.specs.Nodes.{SourcedFlat}
+use Rattle.ir_search_laws.specs.Orders.{IsStepAlone, is_refusal}
+use Rattle.ir_state_store.specs.Nodes.{SourcedFlat}
 use Rattle.ir_graph.specs.Plain.{full_by, full_of, IsAnsweredRun, result_by}
 
 -- each try of the run is refused, or enters
@@ -23,7 +23,7 @@ ways_taken m s (e ∷ run) =
 pub record GoesAlone (s u : SourcedFlat) (t : ℕ) (refused : Bool) (steps entries : ℕ) : Type 0 where
   pub run : List Step
   pub many : length run ≡ steps
-  pub alone : IsAlone t run
+  pub alone : IsStepAlone t run
   pub answered : IsAnsweredRun s.flat.code (full_of s) run
   pub tries : EachTries (full_by s.flat.code) refused (full_of s) run
   pub ends : full_of u ≡ end (full_by s.flat.code) (full_of s) run

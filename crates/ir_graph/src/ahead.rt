@@ -4,7 +4,7 @@ ghost use Rattle.std.specs.Prelude.{◌≡◌, ◌⊎◌, ◌<◌, ◌++◌, [],
 ghost use Rattle.ir_graph.specs.declared.known.Turn.{Turn};
 
 use crate::known::Turn;
-use ir_store::{Hints, Spot, hash_of_numbers};
+use ir_state_store::{Hints, Spot, hash_of_numbers};
 use std::alloc::{AllocError, Global};
 use std::marker::Model;
 

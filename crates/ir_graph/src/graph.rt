@@ -7,7 +7,7 @@ ghost use Rattle.ir_graph.specs.Notes.{noted_by};
 ghost use Rattle.ir_graph.specs.Setup.{Setup};
 ghost use Rattle.ir_graph.specs.Stops.{MayStop};
 ghost use Rattle.ir_graph.specs.Times.{KnowsTimes};
-ghost use Rattle.ir_store.specs.Nodes.{SourcedFlat};
+ghost use Rattle.ir_state_store.specs.Nodes.{SourcedFlat};
 
 use crate::ahead::Ahead;
 use crate::nodes::{Bounds, successor};
@@ -15,7 +15,7 @@ use crate::notes::{Row, known, note_way};
 use crate::setup::Setup;
 use crate::way::Way;
 use ir_search::{Stop, Successors};
-use ir_store::Store;
+use ir_state_store::Store;
 
 /// The graph of a guest: its states at rest, as the threads can tell them apart.
 #[derive(Drop)]

@@ -4,11 +4,11 @@ ghost use Rattle.std.specs.Prelude.{◌≡◌, ℕ, ◌<◌, ◌≤◌, true, So
 ghost use Rattle.std.specs.List.{AllByRecursion};
 ghost use Rattle.ir_graph.specs.Hand.{AllPairs, IsAtSpot, IsHand, with_items};
 ghost use Rattle.ir_image.specs.Guest.{most_objects};
-ghost use Rattle.ir_store.specs.Nodes.{Grows, HaveWords, SourcedFlat, cells_at};
+ghost use Rattle.ir_state_store.specs.Nodes.{Grows, HaveWords, SourcedFlat, cells_at};
 
 use ir_object::Object;
 use ir_runs::Access;
-use ir_store::{Spot, Store};
+use ir_state_store::{Spot, Store};
 use std::alloc::{AllocError, Global};
 
 /// The numbers of the objects: first the one that the thread enters or tries to, then the others that it holds.
@@ -40,7 +40,10 @@ pub fn spots_of(
     numbers: &[u8],
 ) -> Result<Option<Vec<Spot>>, AllocError>
     requires { node < length flats.now.items }
-    ensures { IfOk result (λ found. IfSome found (λ spots. (s : SourcedFlat) → slice_get flats.now.items node ≡ Some s → AllPairs (IsAtSpot flats.now.shared.words s.flat.objects) numbers.now spots.items)) }
+    ensures { IfOk result
+        (λ found. IfSome found
+        (λ spots. (s : SourcedFlat) → slice_get flats.now.items node ≡ Some s
+        → AllPairs (IsAtSpot flats.now.shared.words s.flat.objects) numbers.now spots.items)) }
 {
     let mut spots = Vec::with_capacity(alloc, numbers.len())?;
     for number in numbers {

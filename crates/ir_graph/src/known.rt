@@ -1,6 +1,6 @@
 //! A turn of a thread beside some objects, by numbers.
 
-use ir_store::Spot;
+use ir_state_store::Spot;
 
 /// A thread enters an object, or tries to, and goes on to where it rests; or it has to wait for the object.
 #[derive(Drop)]

@@ -3,15 +3,15 @@
 ghost use Rattle.std.specs.Prelude.{◌≡◌, ℕ, ◌<◌, List, true, false, length, IfOk, IsTrue, MatchOption, slice_index};
 ghost use Rattle.std.specs.List.{slice_index_or};
 ghost use Rattle.ir_object.specs.Empty.{empty};
-ghost use Rattle.ir_freeze.specs.Twins.{AreTwins};
-ghost use Rattle.ir_graph.specs.Plain.{IsLike};
+ghost use Rattle.ir_thread_bytes.specs.Twins.{AreTwins};
+ghost use Rattle.ir_graph.specs.Plain.{LooksAlike};
 ghost use Rattle.ir_graph.specs.Nodes.{LookAlike};
-ghost use Rattle.ir_seen.specs.Seen.{Same, view};
+ghost use Rattle.ir_likeness.specs.Seen.{Same, view};
 
-use ir_freeze::{Basis, freeze, over, tells_apart};
 use ir_object::Object;
-use ir_store::{SourcedFlat, bounded};
+use ir_state_store::{SourcedFlat, bounded};
 use ir_thread::Thread;
+use ir_thread_bytes::{Basis, freeze, over, tells_apart};
 use ir_world::Sources;
 use std::alloc::{AllocError, Global};
 
@@ -65,7 +65,7 @@ pub fn same_state(
     second: &SourcedFlat<'_>,
 ) -> Result<bool, AllocError>
     requires code { first.now.flat.code ≡ basis.now.code }
-    requires like { IsLike first.now.flat second.now.flat }
+    requires like { LooksAlike first.now.flat second.now.flat }
     requires sources { length first.now.sources ≡ length first.now.flat.threads }
     requires others { length second.now.sources ≡ length second.now.flat.threads }
     ensures { IfOk result (λ same. same ≡ true → LookAlike first.now second.now) }

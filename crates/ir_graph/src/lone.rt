@@ -4,13 +4,13 @@ ghost use Rattle.std.specs.Prelude.{◌≡◌, ◌<◌, ℕ, true, false, length
 ghost use Rattle.ir_graph.specs.Lone.{IsAbout, IsGiven, answer_from, cell_after, GoesAmong, MayBegin, MustWait, TakesTurn, AreAmong, MayTake};
 ghost use Rattle.ir_graph.specs.Plain.{IsFair, Rests};
 ghost use Rattle.ir_world.specs.Sources.{given};
-ghost use Rattle.ir_search_laws.specs.Sources.{left_of};
+ghost use Rattle.ir_search_laws.specs.Sources.{left_of_source};
 ghost use Rattle.ir_thread.specs.State.{ask_of, after_ask, shared_ask};
 
 use ir_image::Code;
 use ir_object::Object;
 use ir_runs::Access;
-use ir_store::SourcedThread;
+use ir_state_store::SourcedThread;
 use ir_thread::{Ask, End, Reply, Thread};
 use ir_world::Sources;
 
@@ -55,7 +55,7 @@ fn take_beside(
     requires may { MayTake refused object.old asked }
     ensures given { result ≡ true → IsGiven source.old asked }
     ensures thread { result ≡ true → thread.new ≡ after_ask code.now thread.old asked (answer_from refused object.old source.old asked) }
-    ensures source { result ≡ true → source.new ≡ left_of given (shared_ask asked) source.old }
+    ensures source { result ≡ true → source.new ≡ left_of_source given (shared_ask asked) source.old }
     ensures object { result ≡ true → object.new ≡ cell_after refused object.old asked }
 {
     let reply = match asked {

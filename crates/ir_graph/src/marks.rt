@@ -1,23 +1,23 @@
 //! The states that can be brought to an end.
 
 ghost use Rattle.std.specs.Prelude.{◌≡◌, ℕ, Some, length, slice_get, IfOk};
-ghost use Rattle.ir_search.specs.Following.{IsOpen};
+ghost use Rattle.ir_search.specs.Following.{IsNodeOpen};
 ghost use Rattle.ir_flat.specs.Flat.{machine, tables};
 ghost use Rattle.ir_graph.specs.Hangs.{AreWays};
 ghost use Rattle.ir_graph.specs.Notes.{noted_by};
 ghost use Rattle.ir_runs.specs.Run.{IsDone};
-ghost use Rattle.ir_store.specs.Nodes.{SourcedFlat};
+ghost use Rattle.ir_state_store.specs.Nodes.{SourcedFlat};
 
 use crate::graph::Graph;
 use ir_search::mark_ways;
-use ir_store::Store;
+use ir_state_store::Store;
 use std::alloc::{AllocError, Global};
 
 // Which of these states have all threads done.
 fn done_states(alloc: Global, flats: &Store<'_>) -> Result<Vec<bool>, AllocError>
     ensures nodes { IfOk result (λ done. length done.items ≡ length flats.now.items) }
-    ensures done { IfOk result (λ done. (v : ℕ) (s : SourcedFlat) → slice_get flats.now.items v ≡ Some s → IsOpen done.items v → IsDone (machine s.flat) (tables s.flat)) }
-    ensures marked { IfOk result (λ done. (v : ℕ) (s : SourcedFlat) → slice_get flats.now.items v ≡ Some s → IsDone (machine s.flat) (tables s.flat) → IsOpen done.items v) }
+    ensures done { IfOk result (λ done. (v : ℕ) (s : SourcedFlat) → slice_get flats.now.items v ≡ Some s → IsNodeOpen done.items v → IsDone (machine s.flat) (tables s.flat)) }
+    ensures marked { IfOk result (λ done. (v : ℕ) (s : SourcedFlat) → slice_get flats.now.items v ≡ Some s → IsDone (machine s.flat) (tables s.flat) → IsNodeOpen done.items v) }
 {
     let mut done = Vec::with_capacity(alloc, flats.len())?;
     for v in 0..flats.len() {

@@ -4,13 +4,13 @@ ghost use Rattle.std.specs.Prelude.{◌≡◌, ◌⊎◌, ℕ, suc, ◌<◌, ◌
 ghost use Rattle.ir_search.specs.declared.stop.Stop.TheVariants.{Nodes, Memory};
 ghost use Rattle.ir_graph.specs.Ahead.{AreTurns, IsTurnOf};
 ghost use Rattle.ir_graph.specs.Nodes.{LookAlike, AllRest, AreNodes, NodesStay, LeadsFrom};
-ghost use Rattle.ir_graph.specs.Plain.{IsLike};
+ghost use Rattle.ir_graph.specs.Plain.{LooksAlike};
 ghost use Rattle.ir_graph.specs.Reached.{IsReached, AllReached};
 ghost use Rattle.ir_graph.specs.Stops.{MayStop};
 ghost use Rattle.ir_graph.specs.Setup.{Setup};
 ghost use Rattle.ir_graph.specs.Times.{HasTimedRun, LeadsTickless};
-ghost use Rattle.ir_store.specs.Nodes.{Grows, IsNode, SourcedFlat, sourced_in};
-ghost use Rattle.ir_store.specs.Table.{HaveTicks, HaveNoTicks};
+ghost use Rattle.ir_state_store.specs.Nodes.{Grows, IsNode, SourcedFlat, sourced_in};
+ghost use Rattle.ir_state_store.specs.Table.{HaveTicks, HaveNoTicks};
 
 use crate::ahead::Ahead;
 use crate::hands::put_spots;
@@ -20,7 +20,7 @@ use crate::turns::{tries, turn_of};
 use crate::way::{Way, way_result};
 use ir_image::Code;
 use ir_search::Stop;
-use ir_store::{Node, Store};
+use ir_state_store::{Node, Store};
 
 /// How far a search may go.
 #[derive(Clone, Copy, Debug, PartialEq, Eq)]
@@ -41,7 +41,7 @@ fn node_of<'a>(
     requires nodes { AreNodes flats.old.items }
     requires is { IsNode flats.old.shared new }
     requires code { flats.old.code ≡ new.code }
-    requires like { (v : ℕ) (s : SourcedFlat) → slice_get flats.old.items v ≡ Some s → IsLike (sourced_in flats.old.shared new).flat s.flat }
+    requires like { (v : ℕ) (s : SourcedFlat) → slice_get flats.old.items v ≡ Some s → LooksAlike (sourced_in flats.old.shared new).flat s.flat }
     requires rest { AllRest (sourced_in flats.old.shared new).flat }
     requires room { length flats.old.items ≤ most }
     ensures nodes { AreNodes flats.new.items }

@@ -4,7 +4,7 @@ ghost use Rattle.std.specs.Prelude.{◌≡◌, suc, ◌<◌, ◌++◌, [], ◌�
 ghost use Rattle.ir_graph.specs.Listing.{AreOutcomes};
 ghost use Rattle.ir_graph.specs.Nodes.{AreNodes};
 
-use ir_store::Store;
+use ir_state_store::Store;
 
 /// Whether all threads are done at a node: then none of those that are listed from before it has its outcome, because states with one outcome
 /// look the same, and no two nodes do.

@@ -7,13 +7,13 @@ ghost use Rattle.ir_graph.specs.Lone.{IsGiven};
 ghost use Rattle.ir_graph.specs.Stops.{IsNotFollowed, IsSpent, StopsFollowing};
 ghost use Rattle.ir_graph.specs.Turn.{GoesAlone};
 ghost use Rattle.ir_world.specs.Sources.{Source, given};
-ghost use Rattle.ir_search_laws.specs.Sources.{answer_of, left_of};
+ghost use Rattle.ir_search_laws.specs.Sources.{answer_of, left_of_source};
 ghost use Rattle.ir_search.specs.declared.stop.Stop.TheVariants.{Log};
 ghost use Rattle.ir_thread.specs.State.{ask_of, shared_ask};
 
 use ir_flat::Flat;
 use ir_search::Stop;
-use ir_store::SourcedFlat;
+use ir_state_store::SourcedFlat;
 use ir_thread::{Ask, End};
 use ir_world::Sources;
 
@@ -33,7 +33,7 @@ fn rests(thread: usize, asked: Ask) -> Result<bool, Stop>
 // What the source answers a thread that asks so, if it calls the environment; else 0, at which nothing looks.
 fn answer(source: &mut Sources<'_>, thread: usize, asked: Ask) -> Result<u32, Stop>
     ensures answer { IfOk result (λ r. r ≡ answer_of given (shared_ask asked) source.old) }
-    ensures left { OnOk result (source.new ≡ left_of given (shared_ask asked) source.old) }
+    ensures left { OnOk result (source.new ≡ left_of_source given (shared_ask asked) source.old) }
     ensures given { OnOk result (IsGiven source.old asked) }
     ensures stopped { IfErr result (λ stop. IsNotFollowed thread asked source.new stop) }
     ensures unchanged { OnErr result (source.new ≡ source.old) }

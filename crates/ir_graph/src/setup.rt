@@ -7,7 +7,7 @@ ghost use Rattle.ir_graph.specs.Setup.{Setup, first_sources, setup_start};
 
 use ir_flat::Flat;
 use ir_image::{Code, Image};
-use ir_store::SourcedFlat;
+use ir_state_store::SourcedFlat;
 use ir_thread::{MOST_BUDGET, Profile};
 use ir_world::Sources;
 use std::alloc::{AllocError, Global};

@@ -20,11 +20,11 @@ use crate::nodes::Bounds;
 use crate::notes::Row;
 use crate::rest::run_to_rest;
 use crate::setup::Setup;
-use ir_freeze::Basis;
 use ir_image::{Image, MEMORY_SIZE};
 use ir_search::Stop;
-use ir_store::{SourcedFlat, Store};
+use ir_state_store::{SourcedFlat, Store};
 use ir_thread::Profile;
+use ir_thread_bytes::Basis;
 use std::alloc::{AllocError, Global};
 
 // Each thread runs on alone to its first entry or try.

@@ -5,7 +5,7 @@ ghost use Rattle.ir_search.specs.declared.stop.Stop.TheVariants.{Memory};
 ghost use Rattle.ir_search.specs.Following.{Stay};
 ghost use Rattle.ir_search.specs.Origins.{Adds};
 ghost use Rattle.ir_graph.specs.Hangs.{AreMarked};
-ghost use Rattle.ir_graph.specs.Searched.{AreSearched, IsSearch, StandsBetween, IsWhole};
+ghost use Rattle.ir_graph.specs.Searched.{AreSearched, IsSearch, StandsBetween, IsWholeGraph};
 ghost use Rattle.ir_graph.specs.Stops.{IsStop, MayStop};
 ghost use Rattle.ir_thread.specs.State.{IsAllowed};
 
@@ -49,7 +49,7 @@ impl<'a> States<'a> {
 
     /// Whether all states are found.
     pub fn is_finished(&self) -> bool
-        ensures finished { result ≡ true → IsSearch self.now → StandsBetween self.now → IsWhole self.now }
+        ensures finished { result ≡ true → IsSearch self.now → StandsBetween self.now → IsWholeGraph self.now }
         ensures over { result ≡ true → self.now.search.level.until ≤ self.now.search.level.first }
         ensures more { result ≡ false → self.now.search.level.first < self.now.search.level.until }
     {

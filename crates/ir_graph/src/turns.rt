@@ -2,11 +2,11 @@
 
 ghost use Rattle.std.specs.Prelude.{◌≡◌, ℕ, ◌<◌, [], true, false, Some, length, slice_get, IfOk, IfSome};
 ghost use Rattle.std.specs.List.{slice_index_or};
-ghost use Rattle.ir_graph.specs.Ahead.{AreTurns, IsFrom, IsTurnOf};
+ghost use Rattle.ir_graph.specs.Ahead.{AreTurns, IsAheadFrom, IsTurnOf};
 ghost use Rattle.ir_graph.specs.Plain.{MayGo};
 ghost use Rattle.ir_graph.specs.declared.known.Turn.{Turn};
-ghost use Rattle.ir_store.specs.Nodes.{Grows, SourcedFlat};
-ghost use Rattle.ir_store.specs.Table.{idle_beside};
+ghost use Rattle.ir_state_store.specs.Nodes.{Grows, SourcedFlat};
+ghost use Rattle.ir_state_store.specs.Table.{idle_beside};
 ghost use Rattle.ir_thread.specs.State.{ask_of};
 
 use crate::ahead::{Ahead, key_after, thread_key};
@@ -15,7 +15,7 @@ use crate::known::Turn;
 use crate::lone::{turn_among, waits};
 use crate::way::Way;
 use ir_image::Code;
-use ir_store::{Spot, Store};
+use ir_state_store::{Spot, Store};
 use ir_thread::Ask;
 use std::alloc::{AllocError, Global};
 
@@ -35,7 +35,10 @@ fn key_at(flats: &Store<'_>, way: Way, from: usize, numbers: &[u8]) -> Option<u6
 fn known_turn(flats: &Store<'_>, ahead: &Ahead, way: Way) -> Option<usize>
     requires node { way.node < length flats.now.items }
     requires thread { (s : SourcedFlat) → slice_get flats.now.items way.node ≡ Some s → way.thread < length s.flat.threads }
-    ensures { IfSome result (λ i. (turn : Turn) × (slice_get ahead.now i ≡ Some turn) × ((s : SourcedFlat) → slice_get flats.now.items way.node ≡ Some s → IsFrom flats.now.shared s way.thread way.refused turn)) }
+    ensures { IfSome result
+        (λ i. (turn : Turn) × (slice_get ahead.now i ≡ Some turn)
+        × ((s : SourcedFlat) → slice_get flats.now.items way.node ≡ Some s
+        → IsAheadFrom flats.now.shared s way.thread way.refused turn)) }
 {
     let from = flats.thread_number(way.node, way.thread);
     let first = ahead.first(from)?;
@@ -169,7 +172,11 @@ pub fn turn_of(
     ensures grows { Grows flats.old.shared flats.new.shared }
     ensures store { flats.new.code ≡ flats.old.code }
     ensures turns { AreTurns code.now flats.new.shared ahead.new }
-    ensures turn { IfOk result (λ found. IfSome found (λ i. (turn : Turn) × (slice_get ahead.new i ≡ Some turn) × ((s : SourcedFlat) → slice_get flats.new.items way.node ≡ Some s → IsTurnOf code.now flats.new.shared s way.thread way.refused turn))) }
+    ensures turn { IfOk result
+        (λ found. IfSome found
+        (λ i. (turn : Turn) × (slice_get ahead.new i ≡ Some turn)
+        × ((s : SourcedFlat) → slice_get flats.new.items way.node ≡ Some s
+        → IsTurnOf code.now flats.new.shared s way.thread way.refused turn))) }
 {
     if let Some(i) = known_turn(flats, ahead, way) {
         return Ok(Some(i));

@@ -3,7 +3,7 @@
 use crate::guests::{LOST_UPDATE, OWN_OBJECTS, explored, guest};
 use ir_flat::Flat;
 use ir_search::Ended;
-use ir_store::Store;
+use ir_state_store::Store;
 use std::test::Fail;
 
 // Whether all threads are done.

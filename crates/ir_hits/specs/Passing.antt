@@ -17,8 +17,8 @@ is_store (Some (Store op rs1 rs2 imm)) = true
 is_store _ = false
 
 -- whether the word is the code of one
-abbrev pub stores : ℕ → Bool
-stores word = is_store (instruction_of word)
+abbrev pub stores_at : ℕ → Bool
+stores_at word = is_store (instruction_of word)
 
 -- the marks are those of before, and maybe more
 abbrev pub KeepsMarks : List Bool → List Bool → Type 0

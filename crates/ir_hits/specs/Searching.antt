@@ -19,7 +19,7 @@ pub record AreLast (f : FittedTrace) (last : List ℕ) : Type 0 where
   pub steps : (t : ℕ) → t < length f.guest.entries → cut_of last t ≡ (recorded_thread f.recorded t).steps
 
 -- a search for hits of thread t up to a position, over code that is marked wherever a point may hit it
-pub record IsSearch (f : FittedTrace) (t to : ℕ) (last : List ℕ) (code : Marked) (points : List Numbered) : Type 0 where
+pub record IsHitSearch (f : FittedTrace) (t to : ℕ) (last : List ℕ) (code : Marked) (points : List Numbered) : Type 0 where
   pub thread : t < length f.guest.entries
   pub ends : AreLast f last
   pub within : to ≤ cut_of last t
@@ -50,9 +50,9 @@ IsLastFrom f run points t from p (Some h) = (from ≤ h.position) × (h.position
 IsLastFrom f run points t from p None = NoneWithin f run points t from p
 
 -- the position that the thread has reached: that of the hit, or to if there is none
-abbrev pub reached : ℕ → Option Hit → ℕ
-reached to (Some h) = h.position
-reached to None = to
+abbrev pub reached_position : ℕ → Option Hit → ℕ
+reached_position to (Some h) = h.position
+reached_position to None = to
 
 -- the points hit thread t at its start, where it is y and they noted this; or none does
 abbrev pub IsStartHit : ℕ → ℕ → ThreadState → List Before → List Numbered → Option Hit → Type 0

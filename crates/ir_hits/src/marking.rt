@@ -2,7 +2,7 @@
 
 ghost use Rattle.std.specs.Prelude.{◌≡◌, ◌↔◌, true, false, length, map, IfOk, IsTrue};
 ghost use Rattle.ir_mach.specs.Marks.{is_marked, AreStoresMarked};
-ghost use Rattle.ir_hits.specs.Passing.{stores, KeepsMarks, IsBreakMarked, AreBreaksMarked, Watches, NoneWatches, AreCovered};
+ghost use Rattle.ir_hits.specs.Passing.{stores_at, KeepsMarks, IsBreakMarked, AreBreaksMarked, Watches, NoneWatches, AreCovered};
 
 use crate::point::{NumberedPoint, OBJECTS_START};
 use ir_command::Point;
@@ -13,7 +13,7 @@ use std::alloc::{AllocError, Global};
 
 // Whether the word is the code of an instruction that stores.
 fn stores(word: u32) -> bool
-    ensures { result ≡ stores word }
+    ensures { result ≡ stores_at word }
 {
     matches!(decode(word), Ok(Inst::Store { .. }))
 }

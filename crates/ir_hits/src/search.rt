@@ -5,9 +5,9 @@ ghost use Rattle.ir_runs.specs.Run.{Step};
 ghost use Rattle.ir_fit.specs.Fit.{FittedTrace};
 ghost use Rattle.ir_trace.specs.Recorded.{recorded_thread};
 ghost use Rattle.ir_cut.specs.Positions.{EachRun};
-ghost use Rattle.ir_weave.specs.Standing.{StandsAt, flat_in, positions};
+ghost use Rattle.ir_weave.specs.Standing.{StandsAtCut, flat_in, positions};
 ghost use Rattle.ir_hits.specs.Watchable.{AreWatchable};
-ghost use Rattle.ir_hits.specs.Searching.{IsLastFrom, IsNextHit, IsSearch, IsStartHit, NeverHits, reached, window_start};
+ghost use Rattle.ir_hits.specs.Searching.{IsLastFrom, IsNextHit, IsHitSearch, IsStartHit, NeverHits, reached_position, window_start};
 
 use crate::before::Before;
 use crate::marking::marked_code;
@@ -35,13 +35,16 @@ fn next_hit<H: Hands>(
     state: &mut State,
     notes: &mut [Before],
 ) -> Result<Option<Hit>, AllocError>
-    requires search { IsSearch search.fitted.now search.t search.to search.last.now search.code.now search.points.now }
-    requires stands { StandsAt search.fitted.now (positions (flat_in search.fitted.now state.old)) state.old }
+    requires search { IsHitSearch search.fitted.now search.t search.to search.last.now search.code.now search.points.now }
+    requires stands { StandsAtCut search.fitted.now (positions (flat_in search.fitted.now state.old)) state.old }
     requires within { positions (flat_in search.fitted.now state.old) search.t ≤ search.to }
     requires size { length notes.old ≡ length search.points.now }
-    ensures stands { StandsAt search.entry.fitted.now (positions (flat_in search.entry.fitted.now state.new)) state.new }
-    ensures hit { IfOk result (λ h. EachRun search.entry.fitted.now (λ run. IsNextHit search.entry.fitted.now run search.entry.points.now search.entry.t (positions (flat_in search.entry.fitted.now state.old) search.entry.t) search.entry.to h)) }
-    ensures reached { IfOk result (λ h. positions (flat_in search.entry.fitted.now state.new) search.entry.t ≡ reached search.entry.to h) }
+    ensures stands { StandsAtCut search.entry.fitted.now (positions (flat_in search.entry.fitted.now state.new)) state.new }
+    ensures hit { IfOk result
+        (λ h. EachRun search.entry.fitted.now
+        (λ run. IsNextHit search.entry.fitted.now run search.entry.points.now search.entry.t
+        (positions (flat_in search.entry.fitted.now state.old) search.entry.t) search.entry.to h)) }
+    ensures reached_position { IfOk result (λ h. positions (flat_in search.entry.fitted.now state.new) search.entry.t ≡ reached_position search.entry.to h) }
     ensures size { length notes.new ≡ length notes.old }
 {
     let t = search.t;
@@ -72,13 +75,13 @@ pub fn first_hit<H: Hands>(
     to: u64,
     points: &[NumberedPoint],
 ) -> Result<Option<Hit>, AllocError>
-    requires stands { StandsAt fitted.now (positions (flat_in fitted.now state.old)) state.old }
+    requires stands { StandsAtCut fitted.now (positions (flat_in fitted.now state.old)) state.old }
     requires thread { t < length fitted.now.guest.entries }
     requires within { (positions (flat_in fitted.now state.old) t ≤ to) × (to ≤ (recorded_thread fitted.now.recorded t).steps) }
     requires points { AreWatchable points.now }
-    ensures stands { StandsAt fitted.now (positions (flat_in fitted.now state.new)) state.new }
+    ensures stands { StandsAtCut fitted.now (positions (flat_in fitted.now state.new)) state.new }
     ensures hit { IfOk result (λ h. EachRun fitted.now (λ run. IsNextHit fitted.now run points.now t (positions (flat_in fitted.now state.old) t) to h)) }
-    ensures reached { IfOk result (λ h. positions (flat_in fitted.now state.new) t ≡ reached to h) }
+    ensures reached_position { IfOk result (λ h. positions (flat_in fitted.now state.new) t ≡ reached_position to h) }
 {
     let alloc = hands.alloc();
     let last = last_cut(alloc, fitted)?;
@@ -126,14 +129,20 @@ fn last_in<H: Hands>(
     notes: &mut [Before],
     found: Option<Hit>,
 ) -> Result<Option<Hit>, AllocError>
-    requires search { IsSearch search.fitted.now search.t search.to search.last.now search.code.now search.points.now }
-    requires stands { StandsAt search.fitted.now (positions (flat_in search.fitted.now state.old)) state.old }
+    requires search { IsHitSearch search.fitted.now search.t search.to search.last.now search.code.now search.points.now }
+    requires stands { StandsAtCut search.fitted.now (positions (flat_in search.fitted.now state.old)) state.old }
     requires within { positions (flat_in search.fitted.now state.old) search.t ≤ search.to }
     requires size { length notes.old ≡ length search.points.now }
-    requires found { EachRun search.fitted.now (λ run. IsLastFrom search.fitted.now run search.points.now search.t (window_start (positions (flat_in search.fitted.now state.old) search.t)) (positions (flat_in search.fitted.now state.old) search.t + 1) found) }
-    ensures stands { StandsAt search.entry.fitted.now (positions (flat_in search.entry.fitted.now state.new)) state.new }
-    ensures hit { IfOk result (λ h. EachRun search.entry.fitted.now (λ run. IsLastFrom search.entry.fitted.now run search.entry.points.now search.entry.t (window_start (positions (flat_in search.entry.fitted.now state.old) search.entry.t)) (search.entry.to + 1) h)) }
-    ensures reached { OnOk result (positions (flat_in search.entry.fitted.now state.new) search.entry.t ≡ search.entry.to) }
+    requires found { EachRun search.fitted.now
+        (λ run. IsLastFrom search.fitted.now run search.points.now search.t
+        (window_start (positions (flat_in search.fitted.now state.old) search.t))
+        (positions (flat_in search.fitted.now state.old) search.t + 1) found) }
+    ensures stands { StandsAtCut search.entry.fitted.now (positions (flat_in search.entry.fitted.now state.new)) state.new }
+    ensures hit { IfOk result
+        (λ h. EachRun search.entry.fitted.now
+        (λ run. IsLastFrom search.entry.fitted.now run search.entry.points.now search.entry.t
+        (window_start (positions (flat_in search.entry.fitted.now state.old) search.entry.t)) (search.entry.to + 1) h)) }
+    ensures reached_position { OnOk result (positions (flat_in search.entry.fitted.now state.new) search.entry.t ≡ search.entry.to) }
 {
     search.fitted.known();
     let mut found = found;
@@ -156,13 +165,13 @@ pub fn last_hit<H: Hands>(
     to: u64,
     points: &[NumberedPoint],
 ) -> Result<Option<Hit>, AllocError>
-    requires stands { StandsAt fitted.now (positions (flat_in fitted.now state.old)) state.old }
+    requires stands { StandsAtCut fitted.now (positions (flat_in fitted.now state.old)) state.old }
     requires thread { t < length fitted.now.guest.entries }
     requires within { (positions (flat_in fitted.now state.old) t ≤ to) × (to ≤ (recorded_thread fitted.now.recorded t).steps) }
     requires points { AreWatchable points.now }
-    ensures stands { StandsAt fitted.now (positions (flat_in fitted.now state.new)) state.new }
+    ensures stands { StandsAtCut fitted.now (positions (flat_in fitted.now state.new)) state.new }
     ensures hit { IfOk result (λ h. EachRun fitted.now (λ run. IsLastFrom fitted.now run points.now t (window_start (positions (flat_in fitted.now state.old) t)) (to + 1) h)) }
-    ensures reached { OnOk result (positions (flat_in fitted.now state.new) t ≡ to) }
+    ensures reached_position { OnOk result (positions (flat_in fitted.now state.new) t ≡ to) }
 {
     let alloc = hands.alloc();
     let last = last_cut(alloc, fitted)?;

@@ -3,9 +3,9 @@
 ghost use Rattle.std.specs.Prelude.{◌≡◌, ◌<◌, ◌≤◌, ◌+◌, ℕ, length, slice_index_or, IfOk, OnOk};
 ghost use Rattle.ir_cut.specs.Positions.{IsConsistentCut, cut_of};
 ghost use Rattle.ir_flat.specs.Flat.{idle};
-ghost use Rattle.ir_weave.specs.Standing.{StandsAt, flat_in, positions};
+ghost use Rattle.ir_weave.specs.Standing.{StandsAtCut, flat_in, positions};
 ghost use Rattle.ir_hits.specs.Passing.{HasPassed};
-ghost use Rattle.ir_hits.specs.Searching.{AreLast, IsSearch};
+ghost use Rattle.ir_hits.specs.Searching.{AreLast, IsHitSearch};
 
 use crate::point::NumberedPoint;
 use ir_cut::{Cut, least};
@@ -70,10 +70,10 @@ fn bring<H: Hands>(
     state: &mut State,
     target: &Cut,
 ) -> Result<(), AllocError>
-    requires stands { StandsAt fitted.now (positions (flat_in fitted.now state.old)) state.old }
+    requires stands { StandsAtCut fitted.now (positions (flat_in fitted.now state.old)) state.old }
     requires target { (length target.now ≡ length fitted.now.guest.entries) × IsConsistentCut fitted.now target.now }
     requires below { (t : ℕ) → positions (flat_in fitted.now state.old) t ≤ cut_of target.now t }
-    ensures stands { StandsAt fitted.now (positions (flat_in fitted.now state.new)) state.new }
+    ensures stands { StandsAtCut fitted.now (positions (flat_in fitted.now state.new)) state.new }
     ensures there { OnOk result ((t : ℕ) → positions (flat_in fitted.now state.new) t ≡ cut_of target.now t) }
 {
     let alloc = hands.alloc();
@@ -104,11 +104,11 @@ fn take_step<H: Hands>(
     t: usize,
     last: &Cut,
 ) -> Result<(), AllocError>
-    requires stands { StandsAt fitted.now (positions (flat_in fitted.now state.old)) state.old }
+    requires stands { StandsAtCut fitted.now (positions (flat_in fitted.now state.old)) state.old }
     requires thread { t < length fitted.now.guest.entries }
     requires last { AreLast fitted.now last.now }
     requires below { positions (flat_in fitted.now state.old) t < cut_of last.now t }
-    ensures stands { StandsAt fitted.now (positions (flat_in fitted.now state.new)) state.new }
+    ensures stands { StandsAtCut fitted.now (positions (flat_in fitted.now state.new)) state.new }
     ensures taken { OnOk result (positions (flat_in fitted.now state.new) t ≡ positions (flat_in fitted.now state.old) t + 1) }
 {
     fitted.known();
@@ -131,10 +131,10 @@ pub fn take_steps<H: Hands>(
     search: Search<'_>,
     state: &mut State,
 ) -> Result<(), AllocError>
-    requires search { IsSearch search.fitted.now search.t search.to search.last.now search.code.now search.points.now }
-    requires stands { StandsAt search.fitted.now (positions (flat_in search.fitted.now state.old)) state.old }
+    requires search { IsHitSearch search.fitted.now search.t search.to search.last.now search.code.now search.points.now }
+    requires stands { StandsAtCut search.fitted.now (positions (flat_in search.fitted.now state.old)) state.old }
     requires below { positions (flat_in search.fitted.now state.old) search.t < search.to }
-    ensures stands { StandsAt search.entry.fitted.now (positions (flat_in search.entry.fitted.now state.new)) state.new }
+    ensures stands { StandsAtCut search.entry.fitted.now (positions (flat_in search.entry.fitted.now state.new)) state.new }
     ensures passed { OnOk result (HasPassed search.entry.code.now search.entry.t search.entry.to (flat_in search.entry.fitted.now state.old) (flat_in search.entry.fitted.now state.new)) }
 {
     let Search {

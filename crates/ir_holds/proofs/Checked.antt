@@ -26,30 +26,30 @@ use Rattle.ir_holds.specs.declared.spot.Spot.{Spot}
 
 -- ---- the events of a box
 
-get_of_drop : {X : Type 0} (xs : List X) (n k : ℕ) (x : X) → slice_get (drop n xs) k ≡ Some x → slice_get xs (n + k) ≡ Some x
-get_of_drop xs zero k x is = let same : k ≡ 0 + k = omega arith in subst (λ z. slice_get xs z ≡ Some x) same is
-get_of_drop [] (suc n) k x is = absurd (none-some x is)
-get_of_drop (y ∷ ys) (suc n) k x is =
-    let same : suc (n + k) ≡ suc n + k = omega arith in subst (λ z. slice_get (y ∷ ys) z ≡ Some x) same (get_of_drop ys n k x is)
+slice_get_of_dropped : {X : Type 0} (xs : List X) (n k : ℕ) (x : X) → slice_get (drop n xs) k ≡ Some x → slice_get xs (n + k) ≡ Some x
+slice_get_of_dropped xs zero k x is = let same : k ≡ 0 + k = omega arith in subst (λ z. slice_get xs z ≡ Some x) same is
+slice_get_of_dropped [] (suc n) k x is = absurd (none-some x is)
+slice_get_of_dropped (y ∷ ys) (suc n) k x is =
+    let same : suc (n + k) ≡ suc n + k = omega arith in subst (λ z. slice_get (y ∷ ys) z ≡ Some x) same (slice_get_of_dropped ys n k x is)
 
-get_in_drop : {X : Type 0} (xs : List X) (n k : ℕ) (x : X) → slice_get xs (n + k) ≡ Some x → slice_get (drop n xs) k ≡ Some x
-get_in_drop xs zero k x is = let same : 0 + k ≡ k = omega arith in subst (λ z. slice_get xs z ≡ Some x) same is
-get_in_drop [] (suc n) k x is = absurd (none-some x is)
-get_in_drop (y ∷ ys) (suc n) k x is =
-    let same : suc n + k ≡ suc (n + k) = omega arith in get_in_drop ys n k x (subst (λ z. slice_get (y ∷ ys) z ≡ Some x) same is)
+dropped_slice_get : {X : Type 0} (xs : List X) (n k : ℕ) (x : X) → slice_get xs (n + k) ≡ Some x → slice_get (drop n xs) k ≡ Some x
+dropped_slice_get xs zero k x is = let same : 0 + k ≡ k = omega arith in subst (λ z. slice_get xs z ≡ Some x) same is
+dropped_slice_get [] (suc n) k x is = absurd (none-some x is)
+dropped_slice_get (y ∷ ys) (suc n) k x is =
+    let same : suc n + k ≡ suc (n + k) = omega arith in dropped_slice_get ys n k x (subst (λ z. slice_get (y ∷ ys) z ≡ Some x) same is)
 
-get_of_take : {X : Type 0} (xs : List X) (n k : ℕ) (x : X) → slice_get (take n xs) k ≡ Some x → (k < n) × (slice_get xs k ≡ Some x)
-get_of_take [] zero k x is = absurd (none-some x is)
-get_of_take [] (suc n) k x is = absurd (none-some x is)
-get_of_take (y ∷ ys) zero k x is = absurd (none-some x is)
-get_of_take (y ∷ ys) (suc n) zero x is = (omega arith, is)
-get_of_take (y ∷ ys) (suc n) (suc k) x is = let r = get_of_take ys n k x is in ((let l = r.0 in omega (arith, l)), r.1)
+slice_get_of_taken : {X : Type 0} (xs : List X) (n k : ℕ) (x : X) → slice_get (take n xs) k ≡ Some x → (k < n) × (slice_get xs k ≡ Some x)
+slice_get_of_taken [] zero k x is = absurd (none-some x is)
+slice_get_of_taken [] (suc n) k x is = absurd (none-some x is)
+slice_get_of_taken (y ∷ ys) zero k x is = absurd (none-some x is)
+slice_get_of_taken (y ∷ ys) (suc n) zero x is = (omega arith, is)
+slice_get_of_taken (y ∷ ys) (suc n) (suc k) x is = let r = slice_get_of_taken ys n k x is in ((let l = r.0 in omega (arith, l)), r.1)
 
-get_in_take : {X : Type 0} (xs : List X) (n k : ℕ) (x : X) → k < n → slice_get xs k ≡ Some x → slice_get (take n xs) k ≡ Some x
-get_in_take [] n k x less is = absurd (none-some x is)
-get_in_take (y ∷ ys) zero k x less is = absurd (omega (arith, less))
-get_in_take (y ∷ ys) (suc n) zero x less is = is
-get_in_take (y ∷ ys) (suc n) (suc k) x less is = get_in_take ys n k x (omega (arith, less)) is
+taken_slice_get : {X : Type 0} (xs : List X) (n k : ℕ) (x : X) → k < n → slice_get xs k ≡ Some x → slice_get (take n xs) k ≡ Some x
+taken_slice_get [] n k x less is = absurd (none-some x is)
+taken_slice_get (y ∷ ys) zero k x less is = absurd (omega (arith, less))
+taken_slice_get (y ∷ ys) (suc n) zero x less is = is
+taken_slice_get (y ∷ ys) (suc n) (suc k) x less is = taken_slice_get ys n k x (omega (arith, less)) is
 
 event_in_box_is_in_list : (r : Recorded) (b : EventBox) (i : ℕ) (e : Event) → IsInBox b b.thread i → event_at r b.thread i ≡ Some e
     → slice_get (events_in r b) (i - b.event) ≡ Some e
@@ -58,68 +58,68 @@ event_in_box_is_in_list r b i e has is =
     let below = has.below in
     let es : List Event = (recorded_thread r b.thread).events in
     let same : i ≡ b.event + (i - b.event) = omega (arith, from) in
-    get_in_take (drop b.event es) b.count (i - b.event) e (omega (arith, from, below))
-    (get_in_drop es b.event (i - b.event) e (subst (λ k. slice_get es k ≡ Some e) same is))
+    taken_slice_get (drop b.event es) b.count (i - b.event) e (omega (arith, from, below))
+    (dropped_slice_get es b.event (i - b.event) e (subst (λ k. slice_get es k ≡ Some e) same is))
 
 event_in_list_is_in_box : (r : Recorded) (b : EventBox) (k : ℕ) (e : Event) → slice_get (events_in r b) k ≡ Some e
     → IsInBox b b.thread (b.event + k) × (event_at r b.thread (b.event + k) ≡ Some e)
 event_in_list_is_in_box r b k e is =
     let es : List Event = (recorded_thread r b.thread).events in
-    let got = get_of_take (drop b.event es) b.count k e is in
+    let got = slice_get_of_taken (drop b.event es) b.count k e is in
     let less = got.0 in (
       record { thread = refl; from = omega arith; below = omega (arith, less) },
-      get_of_drop es b.event k e got.1,
+      slice_get_of_dropped es b.event k e got.1,
     )
 
 -- ---- what a box needs
 
-need_is_like : (r : Recorded) (t i u j : ℕ) (a e : Event) → event_at r t i ≡ Some a → event_at r u j ≡ Some e → Needs r t i u j → NeedsLike a e
-need_is_like r t i u j a e is_a is_e (inl m) = elim m.entry [
+need_is_alike_need : (r : Recorded) (t i u j : ℕ) (a e : Event) → event_at r t i ≡ Some a → event_at r u j ≡ Some e → Needs r t i u j → NeedsLike a e
+need_is_alike_need r t i u j a e is_a is_e (inl m) = elim m.entry [
   | inl read ↦ subst (λ x. NeedsLike x e) (same_Some (Read m.object (suc m.version)) a (sym read ∙ is_a))
       (m.version, refl, (m.readers, same_Some e (Write m.object m.version m.readers) (sym is_e ∙ m.made)))
   | inr write ↦ subst (λ x. NeedsLike x e) (same_Some (Write m.object (suc m.version) write.0) a (sym write.1 ∙ is_a))
       (inl (m.version, refl, (m.readers, same_Some e (Write m.object m.version m.readers) (sym is_e ∙ m.made))))
 ]
-need_is_like r t i u j a e is_a is_e (inr d) = subst (λ x. NeedsLike x e) (same_Some (Write d.object d.version d.readers) a (sym d.write ∙ is_a))
+need_is_alike_need r t i u j a e is_a is_e (inr d) = subst (λ x. NeedsLike x e) (same_Some (Write d.object d.version d.readers) a (sym d.write ∙ is_a))
     (inr (same_Some e (Read d.object d.version) (sym is_e ∙ d.read)))
 
-like_is_need : (r : Recorded) (t i u j : ℕ) (a e : Event) → event_at r t i ≡ Some a → event_at r u j ≡ Some e → NeedsLike a e → Needs r t i u j
-like_is_need r t i u j (Answer kind value) e is_a is_e like = absurd like
-like_is_need r t i u j (Read o v) e is_a is_e like = inl record {
+alike_need_is_need : (r : Recorded) (t i u j : ℕ) (a e : Event) → event_at r t i ≡ Some a → event_at r u j ≡ Some e → NeedsLike a e → Needs r t i u j
+alike_need_is_need r t i u j (Answer kind value) e is_a is_e like = absurd like
+alike_need_is_need r t i u j (Read o v) e is_a is_e like = inl record {
   object = o;
   version = like.0;
   readers = like.2.0;
   entry = inl (is_a ∙ ap (λ k. Some (Read o k)) like.1);
   made = is_e ∙ ap Some like.2.1;
 }
-like_is_need r t i u j (Write o v l) e is_a is_e (inl m) = inl record {
+alike_need_is_need r t i u j (Write o v l) e is_a is_e (inl m) = inl record {
   object = o;
   version = m.0;
   readers = m.2.0;
   entry = inr (l, is_a ∙ ap (λ k. Some (Write o k l)) m.1);
   made = is_e ∙ ap Some m.2.1;
 }
-like_is_need r t i u j (Write o v l) e is_a is_e (inr d) = inr record { object = o; version = v; readers = l; write = is_a; read = is_e ∙ ap Some d }
-like_is_need r t i u j (Try o) e is_a is_e like = absurd like
+alike_need_is_need r t i u j (Write o v l) e is_a is_e (inr d) = inr record { object = o; version = v; readers = l; write = is_a; read = is_e ∙ ap Some d }
+alike_need_is_need r t i u j (Try o) e is_a is_e like = absurd like
 
 -- an event that is needed is there
-needed_is_there : (r : Recorded) (t i u j : ℕ) → Needs r t i u j → ((a : Event) × (event_at r t i ≡ Some a)) × ((e : Event) × (event_at r u j ≡ Some e))
-needed_is_there r t i u j (inl m) = (
+needed_events_are_there : (r : Recorded) (t i u j : ℕ) → Needs r t i u j → ((a : Event) × (event_at r t i ≡ Some a)) × ((e : Event) × (event_at r u j ≡ Some e))
+needed_events_are_there r t i u j (inl m) = (
   elim m.entry [
     | inl read ↦ (Read m.object (suc m.version), read)
     | inr write ↦ (Write m.object (suc m.version) write.0, write.1)
   ],
   (Write m.object m.version m.readers, m.made),
 )
-needed_is_there r t i u j (inr d) = ((Write d.object d.version d.readers, d.write), (Read d.object d.version, d.read))
+needed_events_are_there r t i u j (inr d) = ((Write d.object d.version d.readers, d.write), (Read d.object d.version, d.read))
 
-ends_needed_are_ends_with : (r : Recorded) (boxes : List PlacedBox) (number : Point → ℕ) (b : PlacedBox) (z : ℕ) → EndsNeeded r boxes number b z
+ends_needed_with : (r : Recorded) (boxes : List PlacedBox) (number : Point → ℕ) (b : PlacedBox) (z : ℕ) → EndsNeeded r boxes number b z
     → EndsWith r boxes number (OneNeedsLike (events_in r b.events)) z
-ends_needed_are_ends_with r boxes number b z n =
+ends_needed_with r boxes number b z n =
     let needs = n.needs in
     let t = b.events.thread in
     let u = n.box.events.thread in
-    let there = needed_is_there r t needs.event u needs.needed needs.needs in
+    let there = needed_events_are_there r t needs.event u needs.needed needs.needs in
     let a = there.0.0 in
     let e = there.1.0 in
     record {
@@ -134,14 +134,14 @@ ends_needed_are_ends_with r boxes number b z n =
         needs.event - b.events.event,
         a,
         event_in_box_is_in_list r b.events needs.event a needs.own there.0.1,
-        need_is_like r t needs.event u needs.needed a e there.0.1 there.1.1 needs.needs,
+        need_is_alike_need r t needs.event u needs.needed a e there.0.1 there.1.1 needs.needs,
       );
       ends = n.ends;
     }
 
-ends_with_are_ends_needed : (r : Recorded) (boxes : List PlacedBox) (number : Point → ℕ) (b : PlacedBox) (z : ℕ)
+ends_with_needed : (r : Recorded) (boxes : List PlacedBox) (number : Point → ℕ) (b : PlacedBox) (z : ℕ)
     → EndsWith r boxes number (OneNeedsLike (events_in r b.events)) z → EndsNeeded r boxes number b z
-ends_with_are_ends_needed r boxes number b z w =
+ends_with_needed r boxes number b z w =
     let own = event_in_list_is_in_box r b.events w.these.0 w.these.1 w.these.2 in
     record {
       at = w.at;
@@ -152,33 +152,27 @@ ends_with_are_ends_needed r boxes number b z w =
         needed = w.event;
         own = own.0;
         other = w.has;
-        needs = like_is_need r b.events.thread (b.events.event + w.these.0) w.box.events.thread w.event w.these.1 w.what own.1 w.is w.these.3;
+        needs = alike_need_is_need r b.events.thread (b.events.event + w.these.0) w.box.events.thread w.event w.these.1 w.what own.1 w.is w.these.3;
       };
       ends = w.ends;
     }
 
 -- ---- a box
 
-pub length_is_small : (e : Event) → length_of e ≤ 1
-length_is_small (Answer kind value) = omega arith
-length_is_small (Read o v) = omega arith
-length_is_small (Write o v l) = omega arith
-length_is_small (Try o) = omega arith
-
 -- what is needed isn't too far
-pub needed_is_near : (r : Recorded) (boxes : List PlacedBox) (spans : List Span) (m : Marks) (These : Event → Type 0) (p : Point) → length spans ≡ length boxes
+pub needed_place_is_small : (r : Recorded) (boxes : List PlacedBox) (spans : List Span) (m : Marks) (These : Event → Type 0) (p : Point) → length spans ≡ length boxes
     → HoldsMarks boxes spans m → IsAfterThese r boxes These p → p.x ≤ 2 ^ 54
-needed_is_near r boxes spans m These p size holds after = after.x.least (2 ^ 54) (omega arith) (λ z w.
+needed_place_is_small r boxes spans m These p size holds after = after.x.least (2 ^ 54) (omega arith) (λ z w.
     let within = slice_get_within boxes w.at w.box w.there in
     let goes = slice_get-get_or spans w.at no_span (omega (arith, size, within)) in
     let x = (noted_boxes_are_near boxes spans m w.at w.box _ holds w.there goes).1.x in
     let ends = w.ends in
     omega (arith, x, ends))
 
-pub held_if_at_spot : (r : Recorded) (boxes : List PlacedBox) (spans : List Span) (b : PlacedBox) (own : Span) (needed : Point) (e : Event) (s : Spot)
+pub held_if_places_equal : (r : Recorded) (boxes : List PlacedBox) (spans : List Span) (b : PlacedBox) (own : Span) (needed : Point) (e : Event) (s : Spot)
     → event_at r b.events.thread b.events.event ≡ Some e → IsAfterThese r boxes (OneNeedsLike (events_in r b.events)) needed
     → IsSpot boxes spans own needed (length_of e) s → b.start ≡ s.start → b.end ≡ s.end → b.came ≡ s.came → IsHeld r boxes spans b own
-held_if_at_spot r boxes spans b own needed e s first after spot at to by =
+held_if_places_equal r boxes spans b own needed e s first after spot at to by =
     let at_x : b.start.x ≡ s.start.x = ap (λ (p : Point). p.x) at in
     let at_u : b.start.u ≡ s.start.u = ap (λ (p : Point). p.u) at in
     let to_x : b.end.x ≡ s.end.x = ap (λ (p : Point). p.x) to in
@@ -194,12 +188,12 @@ held_if_at_spot r boxes spans b own needed e s first after spot at to by =
         above = λ z c. elim c [
           | inl mark ↦ let less = spot.of_marks.above z mark in omega (arith, less, is_x, at_x)
           | inr need ↦
-              let less = needs_x.above z (ends_needed_are_ends_with r boxes (λ q. q.x) b z need) in
+              let less = needs_x.above z (ends_needed_with r boxes (λ q. q.x) b z need) in
               omega (arith, less, is_x, at_x)
         ];
         least = λ w low all.
             let marks = spot.of_marks.least w low (λ z mark. all z (inl mark)) in
-            let needs = needs_x.least w low (λ z need. all z (inr (ends_with_are_ends_needed r boxes (λ q. q.x) b z need))) in
+            let needs = needs_x.least w low (λ z need. all z (inr (ends_with_needed r boxes (λ q. q.x) b z need))) in
             omega (arith, marks, needs, is_x, at_x);
       };
       end_x = λ d is.
@@ -212,14 +206,14 @@ held_if_at_spot r boxes spans b own needed e s first after spot at to by =
         above = λ z c. elim c [
           | inl comes ↦ let up = came.above z comes in omega (arith, up, is_u, at_u)
           | inr need ↦
-              let less = needs_u.above need.0 (ends_needed_are_ends_with r boxes (λ q. q.u) b need.0 need.1) in
+              let less = needs_u.above need.0 (ends_needed_with r boxes (λ q. q.u) b need.0 need.1) in
               let same = need.2 in
               omega (arith, less, same, is_u, at_u)
         ];
         least = λ w low all.
             let comes = came.least w low (λ z come. all z (inl come)) in
             let needs = needs_u.least w (omega (arith, low)) (λ z need.
-            let up = all (z + 1) (inr (z, ends_with_are_ends_needed r boxes (λ q. q.u) b z need, refl)) in omega (arith, up)) in
+            let up = all (z + 1) (inr (z, ends_with_needed r boxes (λ q. q.u) b z need, refl)) in omega (arith, up)) in
             omega (arith, comes, needs, is_u, at_u);
       };
       end_u = subst (λ y. IsLeastFrom y (ComesFrom boxes spans own.thread own.last) b.end.u) (sym at_u)
@@ -227,15 +221,15 @@ held_if_at_spot r boxes spans b own needed e s first after spot at to by =
       came = subst (IsLeastFrom (own.first + 1) (ComesFrom boxes spans own.thread own.first)) (sym by) came;
     }
 
-pub same_box : (a b : PlacedBox) → a.events ≡ b.events → a.start ≡ b.start → a.end ≡ b.end → a.came ≡ b.came → a.row ≡ b.row → a ≡ b
-same_box a b events start end came row = λ i. record { events = events i; start = start i; end = end i; came = came i; row = row i }
+pub held_boxes_equal : (a b : PlacedBox) → a.events ≡ b.events → a.start ≡ b.start → a.end ≡ b.end → a.came ≡ b.came → a.row ≡ b.row → a ≡ b
+held_boxes_equal a b events start end came row = λ i. record { events = events i; start = start i; end = end i; came = came i; row = row i }
 
 -- so far as boxes are looked at
-pub held_to_next_box : (r : Recorded) (boxes : List PlacedBox) (spans : List Span) (n : ℕ)
+pub held_with_next_box : (r : Recorded) (boxes : List PlacedBox) (spans : List Span) (n : ℕ)
     → ((k : ℕ) (b : PlacedBox) (s : Span) → k < n → slice_get boxes k ≡ Some b → slice_get spans k ≡ Some s → IsHeld r boxes spans b s)
     → ((b : PlacedBox) (s : Span) → slice_get boxes n ≡ Some b → slice_get spans n ≡ Some s → IsHeld r boxes spans b s)
     → (k : ℕ) (b : PlacedBox) (s : Span) → k < n + 1 → slice_get boxes k ≡ Some b → slice_get spans k ≡ Some s → IsHeld r boxes spans b s
-held_to_next_box r boxes spans n h here k b s less at there = elim (cases_lt k n) [
+held_with_next_box r boxes spans n h here k b s less at there = elim (cases_lt k n) [
   | inl before ↦ h k b s before at there
   | inr past ↦
       let same : k ≡ n = omega (arith, less, past) in

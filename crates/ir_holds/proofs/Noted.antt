@@ -6,14 +6,14 @@ use Rattle.std.proofs.lemmas.Bool.{cases_lt}
 use Rattle.std.proofs.lemmas.Option.{same_Some, slice_get_within, slice_get-get_or, slice_get-map, get_or_from_slice_get}
 use Rattle.std.proofs.lemmas.List.Elements.{Contains-push, Contains-push_cases, Contains-append_left}
 use Rattle.std.proofs.lemmas.List.Sorted.{Contains-permutation, IsPermutation-sym}
-use Rattle.ir_lemmas.proofs.CallerLemmas.{element_below_length_exists, length_of_map}
+use Rattle.ir_lemmas.proofs.CallerLemmas.{element_below_length, length_of_map}
 use Rattle.ir_picture.specs.Places.{IsLeastAbove}
 use Rattle.ir_picture.specs.declared.placed_box.Point.{Point}
 use Rattle.ir_picture.specs.declared.placed_box.PlacedBox.{PlacedBox}
 use Rattle.ir_holds.specs.Held.{IsLeastFrom, IsMark, MarkedBefore, ComesFrom}
-use Rattle.ir_holds.specs.Heights.{IsBefore}
+use Rattle.ir_holds.specs.Heights.{IsLower}
 use Rattle.ir_holds.specs.Schedules.{AreNear}
-use Rattle.ir_holds.specs.Stops.{AreStops, IsStopNear, number_in, right_height, late_height, AreNoted, HoldsMarks, HasMarks}
+use Rattle.ir_holds.specs.Stops.{AreStopPlaces, IsStopNear, stop_number, right_height, late_height, AreNoted, HoldsMarks, HasMarks}
 use Rattle.ir_holds.specs.declared.span.Span.{Span}
 use Rattle.ir_holds.specs.declared.heights.Height.{Height}
 use Rattle.ir_holds.specs.declared.stops.Stop.{Stop}
@@ -26,8 +26,8 @@ pub record AreStopsTo (boxes : List PlacedBox) (spans : List Span) (n : ℕ) (st
   pub each : (s : Stop) → Contains stops s → IsMark boxes spans s.thread s.step s.place
   pub all : (t k : ℕ) (p : Point) (m : IsMark boxes spans t k p) → m.number < n → Contains stops (record { thread = t; step = k; place = p })
 
-pub stops_to_box_0 : (boxes : List PlacedBox) (spans : List Span) → AreStopsTo boxes spans 0 []
-stops_to_box_0 boxes spans = record {
+pub stops_of_no_boxes : (boxes : List PlacedBox) (spans : List Span) → AreStopsTo boxes spans 0 []
+stops_of_no_boxes boxes spans = record {
   each = λ s has. let less = has.1 in absurd (omega (arith, less));
   all = λ t k p m less. absurd (omega (arith, less));
 }
@@ -81,7 +81,7 @@ stops_to_next_box boxes spans n stops more most b s h there goes one two = recor
 }
 
 pub stops_of_all_boxes : (boxes : List PlacedBox) (spans : List Span) (n : ℕ) (stops : List Stop) → AreStopsTo boxes spans n stops → length boxes ≤ n
-    → AreStops boxes spans stops
+    → AreStopPlaces boxes spans stops
 stops_of_all_boxes boxes spans n stops h all = record {
   each = h.each;
   all = λ t k p m. h.all t k p m (let within = slice_get_within boxes m.number m.box m.there in omega (arith, within, all));
@@ -92,18 +92,18 @@ stops_of_all_boxes boxes spans n stops h all = record {
 abbrev pub EachIsNear : List Stop → Type 0
 EachIsNear stops = (k : ℕ) (s : Stop) → slice_get stops k ≡ Some s → IsStopNear s
 
-pub near_if_each_is_near : (stops : List Stop) → EachIsNear stops → (s : Stop) → Contains stops s → IsStopNear s
-near_if_each_is_near stops h s has = h has.0 s (slice_get-get_or stops has.0 s has.1 ∙ ap Some has.2)
+pub contained_stop_is_near : (stops : List Stop) → EachIsNear stops → (s : Stop) → Contains stops s → IsStopNear s
+contained_stop_is_near stops h s has = h has.0 s (slice_get-get_or stops has.0 s has.1 ∙ ap Some has.2)
 
-contains_after_map : {X Y : Type 0} (f : X → Y) (xs : List X) (x : X) → Contains xs x → Contains (map f xs) (f x)
-contains_after_map f xs x has =
+contains_map : {X Y : Type 0} (f : X → Y) (xs : List X) (x : X) → Contains xs x → Contains (map f xs) (f x)
+contains_map f xs x has =
     let at : slice_get (map f xs) has.0 ≡ Some (f x) =
     slice_get-map f xs has.0 ∙ ap (option_map f) (slice_get-get_or xs has.0 x has.1 ∙ ap Some has.2) in
     (has.0, slice_get_within (map f xs) has.0 (f x) at, get_or_from_slice_get (map f xs) has.0 (f x) (f x) at)
 
-contains_before_map : {X Y : Type 0} (f : X → Y) (xs : List X) (y : Y) → Contains (map f xs) y → (x : X) × Contains xs x × (f x ≡ y)
-contains_before_map f xs y has =
-    let there = element_below_length_exists xs has.0 (subst (λ n. has.0 < n) (length_of_map f xs) has.1) in
+map_contains_inverse : {X Y : Type 0} (f : X → Y) (xs : List X) (y : Y) → Contains (map f xs) y → (x : X) × Contains xs x × (f x ≡ y)
+map_contains_inverse f xs y has =
+    let there = element_below_length xs has.0 (subst (λ n. has.0 < n) (length_of_map f xs) has.1) in
     let at : slice_get (map f xs) has.0 ≡ Some (f there.0) = slice_get-map f xs has.0 ∙ ap (option_map f) there.1 in
     let same : Some (f there.0) ≡ Some y = sym at ∙ slice_get-get_or (map f xs) has.0 y has.1 ∙ ap Some has.2 in (
       there.0,
@@ -111,16 +111,16 @@ contains_before_map f xs y has =
       same_Some (f there.0) y same,
     )
 
-noted_of_stop : (f : Stop → Height) (stops : List Stop) (each : List Height) → IsPermutation (map f stops) each → (s : Stop) → Contains stops s → Contains each (f s)
-noted_of_stop f stops each same s has = Contains-permutation (map f stops) each (f s) same (contains_after_map f stops s has)
+noted_contains_stop : (f : Stop → Height) (stops : List Stop) (each : List Height) → IsPermutation (map f stops) each → (s : Stop) → Contains stops s → Contains each (f s)
+noted_contains_stop f stops each same s has = Contains-permutation (map f stops) each (f s) same (contains_map f stops s has)
 
-stop_of_noted : (f : Stop → Height) (stops : List Stop) (each : List Height) → IsPermutation (map f stops) each → (h : Height) → Contains each h
+noted_is_of_stop : (f : Stop → Height) (stops : List Stop) (each : List Height) → IsPermutation (map f stops) each → (h : Height) → Contains each h
     → (s : Stop) × Contains stops s × (f s ≡ h)
-stop_of_noted f stops each same h has = contains_before_map f stops h (Contains-permutation each (map f stops) h (IsPermutation-sym (map f stops) each same) has)
+noted_is_of_stop f stops each same h has = map_contains_inverse f stops h (Contains-permutation each (map f stops) h (IsPermutation-sym (map f stops) each same) has)
 
 -- a number of a thread that is not too far is below the numbers of the next thread
-thread_of_number : (t u n k : ℕ) → n < 2 ^ 54 → k < 2 ^ 54 → number_in u n < number_in t k → ((u ≡ t) × (n < k)) ⊎ (u < t)
-thread_of_number t u n k small short less = elim (cases_lt u t) [
+number_order_by_thread : (t u n k : ℕ) → n < 2 ^ 54 → k < 2 ^ 54 → stop_number u n < stop_number t k → ((u ≡ t) × (n < k)) ⊎ (u < t)
+number_order_by_thread t u n k small short less = elim (cases_lt u t) [
   | inl before ↦ inr before
   | inr past ↦ elim (cases_lt t u) [
     | inl after ↦ absurd (omega (arith, small, short, less, after))
@@ -128,9 +128,9 @@ thread_of_number t u n k small short less = elim (cases_lt u t) [
   ]
 ]
 
-pub past_all_marks : (boxes : List PlacedBox) (spans : List Span) (m : Marks) (t k from top y : ℕ) → HoldsMarks boxes spans m → k < 2 ^ 54
-    → IsLeastFrom 0 (IsBefore m.right.each.items (number_in t k)) top → y ≡ max (top - number_in t 0) from → IsLeastAbove from (MarkedBefore boxes spans t k) y
-past_all_marks boxes spans m t k from top y holds short h is = record {
+pub least_past_all_marks : (boxes : List PlacedBox) (spans : List Span) (m : Marks) (t k from top y : ℕ) → HoldsMarks boxes spans m → k < 2 ^ 54
+    → IsLeastFrom 0 (IsLower m.right.each.items (stop_number t k)) top → y ≡ max (top - stop_number t 0) from → IsLeastAbove from (MarkedBefore boxes spans t k) y
+least_past_all_marks boxes spans m t k from top y holds short h is = record {
   start = omega (arith, is);
   above = λ z marked.
       let s : Stop = record { thread = t; step = marked.step; place = marked.place } in
@@ -138,21 +138,21 @@ past_all_marks boxes spans m t k from top y holds short h is = record {
       let less = marked.before in
       let up = h.above (right_height s).top (record {
         height = right_height s;
-        there = noted_of_stop right_height holds.stops m.right.each.items holds.noted.rights s has;
+        there = noted_contains_stop right_height holds.stops m.right.each.items holds.noted.rights s has;
         before = omega (arith, less);
         top = refl;
       }) in
       let same = marked.x in
       omega (arith, is, up, same);
   least = λ w low all.
-      let most = h.least (number_in t w) (omega arith) (λ z before.
-      let from = stop_of_noted right_height holds.stops m.right.each.items holds.noted.rights before.height before.there in
+      let most = h.least (stop_number t w) (omega arith) (λ z before.
+      let from = noted_is_of_stop right_height holds.stops m.right.each.items holds.noted.rights before.height before.there in
       let near = holds.noted.near from.0 from.1 in
       let x = near.x in
       let at = ap (λ (q : Height). q.at) from.2 in
       let up = ap (λ (q : Height). q.top) from.2 ∙ before.top in
-      let less : number_in from.0.thread from.0.step < number_in t k = subst (λ z. z < number_in t k) (sym at) before.before in
-      elim (thread_of_number t from.0.thread from.0.step k near.step short less) [
+      let less : stop_number from.0.thread from.0.step < stop_number t k = subst (λ z. z < stop_number t k) (sym at) before.before in
+      elim (number_order_by_thread t from.0.thread from.0.step k near.step short less) [
         | inl here ↦
             let mark = holds.are.each from.0 from.1 in
             let right = all from.0.place.x (record {
@@ -169,11 +169,11 @@ past_all_marks boxes spans m t k from top y holds short h is = record {
       omega (arith, is, low, most);
 }
 
-pub come_from_all_marks : (boxes : List PlacedBox) (spans : List Span) (m : Marks) (t k from top y : ℕ) → HoldsMarks boxes spans m → k < 2 ^ 54
-    → IsLeastFrom 0 (IsBefore m.late.each.items (number_in t k)) top
-    → ((top - number_in t 0 ≡ 0) × (y ≡ from)) ⊎ ((0 < top - number_in t 0) × (y ≡ max (k + ((top - number_in t 0) - 1)) from))
+pub least_from_all_marks : (boxes : List PlacedBox) (spans : List Span) (m : Marks) (t k from top y : ℕ) → HoldsMarks boxes spans m → k < 2 ^ 54
+    → IsLeastFrom 0 (IsLower m.late.each.items (stop_number t k)) top
+    → ((top - stop_number t 0 ≡ 0) × (y ≡ from)) ⊎ ((0 < top - stop_number t 0) × (y ≡ max (k + ((top - stop_number t 0) - 1)) from))
     → IsLeastFrom from (ComesFrom boxes spans t k) y
-come_from_all_marks boxes spans m t k from top y holds short h cases = record {
+least_from_all_marks boxes spans m t k from top y holds short h cases = record {
   start = elim cases [
     | inl none ↦ let is = none.1 in omega (arith, is)
     | inr some ↦ let is = some.1 in omega (arith, is)
@@ -185,7 +185,7 @@ come_from_all_marks boxes spans m t k from top y holds short h cases = record {
       let less = comes.before in
       let up = h.above (late_height s).top (record {
         height = late_height s;
-        there = noted_of_stop late_height holds.stops m.late.each.items holds.noted.lates s has;
+        there = noted_contains_stop late_height holds.stops m.late.each.items holds.noted.lates s has;
         before = omega (arith, less);
         top = refl;
       }) in
@@ -195,15 +195,15 @@ come_from_all_marks boxes spans m t k from top y holds short h cases = record {
         | inr some ↦ let is = some.1 in omega (arith, is, up, same, near, less)
       ];
   least = λ w low all.
-      let most = h.least (number_in t ((w + 1) - k)) (omega arith) (λ z before.
-      let from = stop_of_noted late_height holds.stops m.late.each.items holds.noted.lates before.height before.there in
+      let most = h.least (stop_number t ((w + 1) - k)) (omega arith) (λ z before.
+      let from = noted_is_of_stop late_height holds.stops m.late.each.items holds.noted.lates before.height before.there in
       let near = holds.noted.near from.0 from.1 in
       let u = near.u in
       let on = near.late in
       let at = ap (λ (q : Height). q.at) from.2 in
       let up = ap (λ (q : Height). q.top) from.2 ∙ before.top in
-      let less : number_in from.0.thread from.0.step < number_in t k = subst (λ z. z < number_in t k) (sym at) before.before in
-      elim (thread_of_number t from.0.thread from.0.step k near.step short less) [
+      let less : stop_number from.0.thread from.0.step < stop_number t k = subst (λ z. z < stop_number t k) (sym at) before.before in
+      elim (number_order_by_thread t from.0.thread from.0.step k near.step short less) [
         | inl here ↦
             let mark = holds.are.each from.0 from.1 in
             let by = all (from.0.place.u + (k - from.0.step)) (record {
@@ -225,42 +225,42 @@ come_from_all_marks boxes spans m t k from top y holds short h cases = record {
 }
 
 -- and so is the greatest late height
-pub top_late_is_small : (stops : List Stop) (m : Marks) (t k top : ℕ) → AreNoted stops m → k < 2 ^ 54 → IsLeastFrom 0 (IsBefore m.late.each.items (number_in t k)) top
-    → top - number_in t 0 ≤ 2 ^ 54
-top_late_is_small stops m t k top noted short h =
-    let most = h.least (number_in t (2 ^ 54)) (omega arith) (λ z before.
-    let from = stop_of_noted late_height stops m.late.each.items noted.lates before.height before.there in
+pub top_late_bound : (stops : List Stop) (m : Marks) (t k top : ℕ) → AreNoted stops m → k < 2 ^ 54 → IsLeastFrom 0 (IsLower m.late.each.items (stop_number t k)) top
+    → top - stop_number t 0 ≤ 2 ^ 54
+top_late_bound stops m t k top noted short h =
+    let most = h.least (stop_number t (2 ^ 54)) (omega arith) (λ z before.
+    let from = noted_is_of_stop late_height stops m.late.each.items noted.lates before.height before.there in
     let near = noted.near from.0 from.1 in
     let u = near.u in
     let at = ap (λ (q : Height). q.at) from.2 in
     let up = ap (λ (q : Height). q.top) from.2 ∙ before.top in
-    let less : number_in from.0.thread from.0.step < number_in t k = subst (λ z. z < number_in t k) (sym at) before.before in
-    elim (thread_of_number t from.0.thread from.0.step k near.step short less) [
+    let less : stop_number from.0.thread from.0.step < stop_number t k = subst (λ z. z < stop_number t k) (sym at) before.before in
+    elim (number_order_by_thread t from.0.thread from.0.step k near.step short less) [
       | inl here ↦ let same = ap (λ q. q * 2 ^ 54) here.0 in omega (arith, same, up, u)
       | inr early ↦ omega (arith, early, up, u)
     ]) in
     omega (arith, most)
 
 -- and the greatest right height
-pub top_right_is_small : (stops : List Stop) (m : Marks) (t k top : ℕ) → AreNoted stops m → k < 2 ^ 54 → IsLeastFrom 0 (IsBefore m.right.each.items (number_in t k)) top
-    → top - number_in t 0 ≤ 2 ^ 54
-top_right_is_small stops m t k top noted short h =
-    let most = h.least (number_in t (2 ^ 54)) (omega arith) (λ z before.
-    let from = stop_of_noted right_height stops m.right.each.items noted.rights before.height before.there in
+pub top_right_bound : (stops : List Stop) (m : Marks) (t k top : ℕ) → AreNoted stops m → k < 2 ^ 54 → IsLeastFrom 0 (IsLower m.right.each.items (stop_number t k)) top
+    → top - stop_number t 0 ≤ 2 ^ 54
+top_right_bound stops m t k top noted short h =
+    let most = h.least (stop_number t (2 ^ 54)) (omega arith) (λ z before.
+    let from = noted_is_of_stop right_height stops m.right.each.items noted.rights before.height before.there in
     let near = noted.near from.0 from.1 in
     let x = near.x in
     let at = ap (λ (q : Height). q.at) from.2 in
     let up = ap (λ (q : Height). q.top) from.2 ∙ before.top in
-    let less : number_in from.0.thread from.0.step < number_in t k = subst (λ z. z < number_in t k) (sym at) before.before in
-    elim (thread_of_number t from.0.thread from.0.step k near.step short less) [
+    let less : stop_number from.0.thread from.0.step < stop_number t k = subst (λ z. z < stop_number t k) (sym at) before.before in
+    elim (number_order_by_thread t from.0.thread from.0.step k near.step short less) [
       | inl here ↦ let same = ap (λ q. q * 2 ^ 54) here.0 in omega (arith, same, up, x)
       | inr early ↦ omega (arith, early, up, x)
     ]) in
     omega (arith, most)
 
 -- the starts and ends of near boxes are
-pub near_boxes_have_near_stops : (boxes : List PlacedBox) (spans : List Span) (stops : List Stop) → AreStops boxes spans stops → AreNear boxes spans → EachIsNear stops
-near_boxes_have_near_stops boxes spans stops are near k s at =
+pub near_boxes_near_stops : (boxes : List PlacedBox) (spans : List Span) (stops : List Stop) → AreStopPlaces boxes spans stops → AreNear boxes spans → EachIsNear stops
+near_boxes_near_stops boxes spans stops are near k s at =
     let has : Contains stops s = (k, slice_get_within stops k s at, get_or_from_slice_get stops k s s at) in
     let mark = are.each s has in
     elim mark.is [
@@ -298,5 +298,5 @@ noted_boxes_are_near boxes spans m n b s holds there goes = (
       (record { number = n; box = b; own = s; there = there; goes = goes; thread = refl; is = inr (refl, refl) })),
 )
 
-pub some_marks : (boxes : List PlacedBox) (spans : List Span) (m : Marks) → HoldsMarks boxes spans m → HasMarks m
-some_marks boxes spans m holds = (holds.stops, holds.noted)
+pub held_marks_are_some : (boxes : List PlacedBox) (spans : List Span) (m : Marks) → HoldsMarks boxes spans m → HasMarks m
+held_marks_are_some boxes spans m holds = (holds.stops, holds.noted)

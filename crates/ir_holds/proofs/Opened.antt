@@ -4,7 +4,7 @@ use Rattle.std.specs.List.{slice_get, Contains}
 use Rattle.std.proofs.lemmas.Bool.{cases_lt}
 use Rattle.std.proofs.lemmas.Option.{same_Some, slice_get_within, slice_get-get_or, get_or_from_slice_get}
 use Rattle.std.proofs.lemmas.List.Elements.{Contains-push, Contains-push_cases, Contains-append_left}
-use Rattle.ir_holds.specs.Spans.{IsOver, IsTaken}
+use Rattle.ir_holds.specs.Spans.{IsOverSpan, IsTaken}
 use Rattle.ir_holds.specs.Open.{AreRising, IsLate, AreOfFirst, HasAllOver, KeepsLate}
 use Rattle.ir_holds.specs.declared.span.Span.{Span}
 
@@ -19,15 +19,15 @@ pub record AreKeptTo (spans : List Span) (held : List ℕ) (own : Span) (i : ℕ
   pub some : (k : ℕ) → Contains still k → Contains held k
   pub all : (j k : ℕ) (a : Span) → j < i → slice_get held j ≡ Some k → slice_get spans k ≡ Some a → IsLate a own → Contains still k
 
-pub kept_to_number_0 : (spans : List Span) (held : List ℕ) (own : Span) → AreKeptTo spans held own 0 []
-kept_to_number_0 spans held own = record {
+pub kept_late_of_no_numbers : (spans : List Span) (held : List ℕ) (own : Span) → AreKeptTo spans held own 0 []
+kept_late_of_no_numbers spans held own = record {
   some = λ k has. let less = has.1 in absurd (omega (arith, less));
   all = λ j k a less at there late. absurd (omega (arith, less));
 }
 
-pub kept_after_late_box : (spans : List Span) (held : List ℕ) (own : Span) (i n : ℕ) (still more : List ℕ) → AreKeptTo spans held own i still → slice_get held i ≡ Some n
+pub kept_late_with_late_box : (spans : List Span) (held : List ℕ) (own : Span) (i n : ℕ) (still more : List ℕ) → AreKeptTo spans held own i still → slice_get held i ≡ Some n
     → more ≡ still ++ n ∷ [] → AreKeptTo spans held own (i + 1) more
-kept_after_late_box spans held own i n still more h at is = record {
+kept_late_with_late_box spans held own i n still more h at is = record {
   some = λ k has. elim (Contains-push_cases still n k (subst (λ (xs : List ℕ). Contains xs k) is has)) [
     | inl old ↦ h.some k old
     | inr same ↦ subst (Contains held) same (i, slice_get_within held i n at, get_or_from_slice_get held i n n at)
@@ -41,9 +41,9 @@ kept_after_late_box spans held own i n still more h at is = record {
   ]);
 }
 
-pub kept_after_other_box : (spans : List Span) (held : List ℕ) (own : Span) (i n : ℕ) (still : List ℕ) → AreKeptTo spans held own i still → slice_get held i ≡ Some n
+pub kept_late_past_other_box : (spans : List Span) (held : List ℕ) (own : Span) (i n : ℕ) (still : List ℕ) → AreKeptTo spans held own i still → slice_get held i ≡ Some n
     → ((a : Span) → slice_get spans n ≡ Some a → IsLate a own → ⊥) → AreKeptTo spans held own (i + 1) still
-kept_after_other_box spans held own i n still h at not = record {
+kept_late_past_other_box spans held own i n still h at not = record {
   some = h.some;
   all = λ j k a less there get late. elim (cases_lt j i) [
     | inl before ↦ h.all j k a before there get late
@@ -54,15 +54,15 @@ kept_after_other_box spans held own i n still h at not = record {
   ];
 }
 
-pub kept_of_all_numbers : (spans : List Span) (held : List ℕ) (own : Span) (i : ℕ) (still : List ℕ) → length held ≤ i → AreKeptTo spans held own i still
+pub kept_late_of_all : (spans : List Span) (held : List ℕ) (own : Span) (i : ℕ) (still : List ℕ) → length held ≤ i → AreKeptTo spans held own i still
     → KeepsLate spans own held still
-kept_of_all_numbers spans held own i still all h k a has get late =
+kept_late_of_all spans held own i still all h k a has get late =
     h.all has.0 k a (let within = has.1 in omega (arith, within, all)) (slice_get-get_or held has.0 k has.1 ∙ ap Some has.2) get late
 
 -- what is left of the numbers, where those of boxes are taken away that have ended where box n begins
-pub all_later_if_ended_are_dropped : (spans : List Span) (n : ℕ) (own : Span) (held still : List ℕ) → AreRising spans → slice_get spans n ≡ Some own
+pub all_later_dropped : (spans : List Span) (n : ℕ) (own : Span) (held still : List ℕ) → AreRising spans → slice_get spans n ≡ Some own
     → HasAllLater spans n n held → KeepsLate spans own held still → HasAllLater spans n n still
-all_later_if_ended_are_dropped spans n own held still rising at h keeps = λ j b from get k a less get_a over.
+all_later_dropped spans n own held still rising at h keeps = λ j b from get k a less get_a over.
     keeps k a (h j b from get k a less get_a over) get_a (elim (cases_lt n j) [
       | inl after ↦
           let one = rising k n a own less get_a at in
@@ -82,15 +82,15 @@ all_later_if_ended_are_dropped spans n own held still rising at h keeps = λ j b
           }
     ])
 
-pub all_later_after_next_box : (spans : List Span) (n : ℕ) (still more : List ℕ) → HasAllLater spans n n still → more ≡ still ++ n ∷ []
+pub all_later_next_box : (spans : List Span) (n : ℕ) (still more : List ℕ) → HasAllLater spans n n still → more ≡ still ++ n ∷ []
     → HasAllLater spans (n + 1) (n + 1) more
-all_later_after_next_box spans n still more h is = λ j b from get k a less get_a over. subst (λ (xs : List ℕ). Contains xs k) (sym is) (elim (cases_lt k n) [
+all_later_next_box spans n still more h is = λ j b from get k a less get_a over. subst (λ (xs : List ℕ). Contains xs k) (sym is) (elim (cases_lt k n) [
   | inl before ↦ Contains-append_left still (n ∷ []) k (h j b (omega (arith, from)) get k a before get_a over)
   | inr past ↦ let here : n ≡ k = omega (arith, less, past) in subst (Contains (still ++ n ∷ [])) here (Contains-push still n)
 ])
 
-pub of_first_after_next_box : (n : ℕ) (still more : List ℕ) → AreOfFirst n still → more ≡ still ++ n ∷ [] → AreOfFirst (n + 1) more
-of_first_after_next_box n still more h is = λ k has. elim (Contains-push_cases still n k (subst (λ (xs : List ℕ). Contains xs k) is has)) [
+pub first_numbers_push : (n : ℕ) (still more : List ℕ) → AreOfFirst n still → more ≡ still ++ n ∷ [] → AreOfFirst (n + 1) more
+first_numbers_push n still more h is = λ k has. elim (Contains-push_cases still n k (subst (λ (xs : List ℕ). Contains xs k) is has)) [
   | inl old ↦ let less = h k old in omega (arith, less)
   | inr same ↦ omega (arith, same)
 ]
@@ -99,11 +99,11 @@ of_first_after_next_box n still more h is = λ k has. elim (Contains-push_cases 
 
 -- none of the first i of these boxes has the row and is over the box
 abbrev pub IsNotTakenTo : List Span → List ℕ → List ℕ → Span → ℕ → ℕ → Type 0
-IsNotTakenTo spans rows held own y i = (j k : ℕ) (a : Span) → j < i → slice_get held j ≡ Some k → slice_get spans k ≡ Some a → slice_get rows k ≡ Some y → IsOver a own → ⊥
+IsNotTakenTo spans rows held own y i = (j k : ℕ) (a : Span) → j < i → slice_get held j ≡ Some k → slice_get spans k ≡ Some a → slice_get rows k ≡ Some y → IsOverSpan a own → ⊥
 
-pub not_taken_to_next_number : (spans : List Span) (rows held : List ℕ) (own : Span) (y i n : ℕ) → IsNotTakenTo spans rows held own y i → slice_get held i ≡ Some n
-    → ((a : Span) → slice_get spans n ≡ Some a → slice_get rows n ≡ Some y → IsOver a own → ⊥) → IsNotTakenTo spans rows held own y (i + 1)
-not_taken_to_next_number spans rows held own y i n h at not = λ j k a less there get row over. elim (cases_lt j i) [
+pub not_taken_to_next : (spans : List Span) (rows held : List ℕ) (own : Span) (y i n : ℕ) → IsNotTakenTo spans rows held own y i → slice_get held i ≡ Some n
+    → ((a : Span) → slice_get spans n ≡ Some a → slice_get rows n ≡ Some y → IsOverSpan a own → ⊥) → IsNotTakenTo spans rows held own y (i + 1)
+not_taken_to_next spans rows held own y i n h at not = λ j k a less there get row over. elim (cases_lt j i) [
   | inl before ↦ h j k a before there get row over
   | inr past ↦
       let here : j ≡ i = omega (arith, less, past) in
@@ -120,8 +120,8 @@ not_taken_by_any_box spans rows held own y i n h all has taken =
 
 -- ---- at first
 
-pub none_of_no_number : (n : ℕ) (held : List ℕ) → held ≡ [] → AreOfFirst n held
-none_of_no_number n held is = λ k has. let less = has.1 in let none = ap (λ (xs : List ℕ). length xs) is in absurd (omega (arith, less, none))
+pub no_first_numbers : (n : ℕ) (held : List ℕ) → held ≡ [] → AreOfFirst n held
+no_first_numbers n held is = λ k has. let less = has.1 in let none = ap (λ (xs : List ℕ). length xs) is in absurd (omega (arith, less, none))
 
-pub all_later_of_no_box : (spans : List Span) (held : List ℕ) → HasAllLater spans 0 0 held
-all_later_of_no_box spans held = λ j b from get k a less get_a over. absurd (omega (arith, less))
+pub no_boxes_all_later : (spans : List Span) (held : List ℕ) → HasAllLater spans 0 0 held
+no_boxes_all_later spans held = λ j b from get k a less get_a over. absurd (omega (arith, less))

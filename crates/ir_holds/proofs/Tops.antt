@@ -4,19 +4,19 @@ use Rattle.std.specs.List.{slice_get}
 use Rattle.std.specs.List.Sorted.{IsPartitionPoint}
 use Rattle.std.proofs.lemmas.Bool.{cases_lt, ltb-true, ltb-false}
 use Rattle.std.proofs.lemmas.Option.{none-some, same_Some, slice_get_within, slice_get-get_or, get_or_from_slice_get}
-use Rattle.ir_lemmas.proofs.CallerLemmas.{slice_get_after_push_cases}
+use Rattle.ir_lemmas.proofs.CallerLemmas.{slice_get-push_cases}
 use Rattle.ir_holds.specs.Held.{IsLeastFrom}
-use Rattle.ir_holds.specs.Heights.{IsAmongFirst, IsBefore, AreTops}
+use Rattle.ir_holds.specs.Heights.{IsAmongFirst, IsLower, AreTops}
 use Rattle.ir_holds.specs.declared.heights.Height.{Height}
 
 -- ---- the first heights
 
-pub top_of_none : (each : List Height) → IsLeastFrom 0 (IsAmongFirst each 0) 0
-top_of_none each = record { start = omega arith; above = λ z among. let less = among.below in absurd (omega (arith, less)); least = λ w low all. low }
+pub top_of_none_is_zero : (each : List Height) → IsLeastFrom 0 (IsAmongFirst each 0) 0
+top_of_none_is_zero each = record { start = omega arith; above = λ z among. let less = among.below in absurd (omega (arith, less)); least = λ w low all. low }
 
-pub top_of_next : (each : List Height) (n y top : ℕ) (x : Height) → slice_get each n ≡ Some x → IsLeastFrom 0 (IsAmongFirst each n) y → top ≡ max x.top y
+pub top_with_next : (each : List Height) (n y top : ℕ) (x : Height) → slice_get each n ≡ Some x → IsLeastFrom 0 (IsAmongFirst each n) y → top ≡ max x.top y
     → IsLeastFrom 0 (IsAmongFirst each (n + 1)) top
-top_of_next each n y top x there h is = record {
+top_with_next each n y top x there h is = record {
   start = omega arith;
   above = λ z among. elim (cases_lt among.number n) [
     | inl before ↦
@@ -42,15 +42,15 @@ top_of_next each n y top x there h is = record {
 }
 
 pub tops_of_none : (each : List Height) (tops : List ℕ) → tops ≡ 0 ∷ [] → AreTops each tops
-tops_of_none each tops is = λ n y at. elim (slice_get_after_push_cases [] 0 n y (subst (λ (xs : List ℕ). slice_get xs n ≡ Some y) is at)) [
+tops_of_none each tops is = λ n y at. elim (slice_get-push_cases [] 0 n y (subst (λ (xs : List ℕ). slice_get xs n ≡ Some y) is at)) [
   | inl old ↦ absurd (none-some y old)
-  | inr last ↦ subst (IsLeastFrom 0 (IsAmongFirst each n)) last.1 (subst (λ k. IsLeastFrom 0 (IsAmongFirst each k) 0) (sym last.0) (top_of_none each))
+  | inr last ↦ subst (IsLeastFrom 0 (IsAmongFirst each n)) last.1 (subst (λ k. IsLeastFrom 0 (IsAmongFirst each k) 0) (sym last.0) (top_of_none_is_zero each))
 ]
 
 pub tops_after_next : (each : List Height) (tops more : List ℕ) (n top : ℕ) → AreTops each tops → length tops ≡ n → IsLeastFrom 0 (IsAmongFirst each n) top
     → more ≡ tops ++ top ∷ [] → AreTops each more
 tops_after_next each tops more n top h size next is = λ k y at.
-    elim (slice_get_after_push_cases tops top k y (subst (λ (xs : List ℕ). slice_get xs k ≡ Some y) is at)) [
+    elim (slice_get-push_cases tops top k y (subst (λ (xs : List ℕ). slice_get xs k ≡ Some y) is at)) [
       | inl old ↦ h k y old
       | inr last ↦ subst (IsLeastFrom 0 (IsAmongFirst each k)) last.1
           (subst (λ m. IsLeastFrom 0 (IsAmongFirst each m) top) (sym (last.0 ∙ size)) next)
@@ -59,9 +59,9 @@ tops_after_next each tops more n top h size next is = λ k y at.
 -- ---- heights by rising place
 
 -- the first n heights are those before a place
-pub top_before_place : (each : List Height) (n at y : ℕ) → IsPartitionPoint (λ (x : Height). ltb x.at at ≡ true) (λ x. ltb x.at at ≡ false) each n
-    → n ≤ length each → IsLeastFrom 0 (IsAmongFirst each n) y → IsLeastFrom 0 (IsBefore each at) y
-top_before_place each n at y parts within h = record {
+pub top_before_partition : (each : List Height) (n at y : ℕ) → IsPartitionPoint (λ (x : Height). ltb x.at at ≡ true) (λ x. ltb x.at at ≡ false) each n
+    → n ≤ length each → IsLeastFrom 0 (IsAmongFirst each n) y → IsLeastFrom 0 (IsLower each at) y
+top_before_partition each n at y parts within h = record {
   start = omega arith;
   above = λ z before. elim (cases_lt before.there.0 n) [
     | inl less ↦ h.above z (record {

@@ -15,7 +15,7 @@ pub record IsAmongFirst (each : List Height) (n z : ℕ) : Type 0 where
   pub top : height.top ≡ z
 
 -- a height before a place
-pub record IsBefore (each : List Height) (at z : ℕ) : Type 0 where
+pub record IsLower (each : List Height) (at z : ℕ) : Type 0 where
   pub height : Height
   pub there : Contains each height
   pub before : height.at < at

@@ -22,14 +22,14 @@ abbrev pub Writes : ℕ → ℕ → Event → Type 0
 Writes o v e = (l : ℕ) × (e ≡ Write o v l)
 
 -- it made version v of object o
-abbrev pub Makes : ℕ → ℕ → Event → Type 0
-Makes o v e = (w : ℕ) × (v ≡ suc w) × Writes o w e
+abbrev pub MakesForNeed : ℕ → ℕ → Event → Type 0
+MakesForNeed o v e = (w : ℕ) × (v ≡ suc w) × Writes o w e
 
 -- an event needs another one like this
 abbrev pub NeedsLike : Event → Event → Type 0
 NeedsLike (Answer kind value) e = ⊥
-NeedsLike (Read o v) e = Makes o v e
-NeedsLike (Write o v readers) e = Makes o v e ⊎ Reads o v e
+NeedsLike (Read o v) e = MakesForNeed o v e
+NeedsLike (Write o v readers) e = MakesForNeed o v e ⊎ Reads o v e
 NeedsLike (Try o) e = ⊥
 
 -- one of these events needs another one like this

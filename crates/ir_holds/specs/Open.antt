@@ -1,7 +1,7 @@
 -- Which boxes are looked at for the row of the next box.
 use Rattle.std.specs.Prelude.{◌≡◌, ℕ, ◌<◌, ◌≤◌, List, Some}
 use Rattle.std.specs.List.{slice_get, Contains}
-use Rattle.ir_holds.specs.Spans.{IsOver}
+use Rattle.ir_holds.specs.Spans.{IsOverSpan}
 use Rattle.ir_holds.specs.declared.span.Span.{Span}
 
 -- box b doesn't come before box a: by thread, and by the step at which it begins
@@ -24,7 +24,7 @@ AreOfFirst n held = (k : ℕ) → Contains held k → k < n
 
 -- these numbers are those of all of the first n boxes that are over box b
 abbrev pub HasAllOver : List Span → ℕ → Span → List ℕ → Type 0
-HasAllOver spans n b held = (k : ℕ) (a : Span) → k < n → slice_get spans k ≡ Some a → IsOver a b → Contains held k
+HasAllOver spans n b held = (k : ℕ) (a : Span) → k < n → slice_get spans k ≡ Some a → IsOverSpan a b → Contains held k
 
 -- of these numbers those of boxes that haven't ended where box b begins are left
 abbrev pub KeepsLate : List Span → Span → List ℕ → List ℕ → Type 0

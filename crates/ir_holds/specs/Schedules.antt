@@ -13,7 +13,7 @@ use Rattle.ir_holds.specs.declared.span.Span.{Span}
 
 -- the steps of threads are numbered, step k of thread t by `at t k`: the steps of a thread have rising numbers, a box doesn't end before it starts, and
 -- its last step is one of its thread's, and each box starts after all ends of boxes that it needs
-pub record IsSchedule (r : Recorded) (events : List EventBox) (spans : List Span) (at : ℕ → ℕ → ℕ) : Type 0 where
+pub record IsSpotSchedule (r : Recorded) (events : List EventBox) (spans : List Span) (at : ℕ → ℕ → ℕ) : Type 0 where
   pub rises : (t j k : ℕ) → j < k → at t j < at t k
   pub goes : (n : ℕ) (own : Span) → slice_get spans n ≡ Some own → own.first ≤ own.last
   pub within : (n : ℕ) (own : Span) → slice_get spans n ≡ Some own → own.last < (recorded_thread r own.thread).steps
@@ -22,7 +22,7 @@ pub record IsSchedule (r : Recorded) (events : List EventBox) (spans : List Span
 
 -- there is such an order of the steps
 abbrev pub HasSchedule : Recorded → List EventBox → List Span → Type 0
-HasSchedule r events spans = (at : ℕ → ℕ → ℕ) × IsSchedule r events spans at
+HasSchedule r events spans = (at : ℕ → ℕ → ℕ) × IsSpotSchedule r events spans at
 
 -- all threads together took this many steps
 abbrev pub all_steps : Recorded → ℕ
@@ -57,7 +57,7 @@ pub record AreNear (boxes : List PlacedBox) (spans : List Span) : Type 0 where
   pub end : (n : ℕ) (b : PlacedBox) (own : Span) → slice_get boxes n ≡ Some b → slice_get spans n ≡ Some own → IsNear own.last b.end
 
 -- a place is another one, unless that is too far or before step k
-pub record IsNearest (k : ℕ) (p q : Point) : Type 0 where
+pub record IsNearestSpot (k : ℕ) (p q : Point) : Type 0 where
   pub near : k < 2 ^ 54 → IsNear k q
   pub same : IsNear k p → q ≡ p
 
@@ -69,8 +69,8 @@ pub record IsPut (r : Recorded) (boxes : List PlacedBox) (spans : List Span) (ow
   pub events : c.events ≡ b.events
   pub row : c.row ≡ b.row
   pub came : c.came ≡ right.came
-  pub start : IsNearest own.first right.start c.start
-  pub end : IsNearest own.last right.end c.end
+  pub start : IsNearestSpot own.first right.start c.start
+  pub end : IsNearestSpot own.last right.end c.end
 
 -- all boxes are put so
 pub record ArePut (r : Recorded) (boxes : List PlacedBox) (spans : List Span) (put : List PlacedBox) : Type 0 where

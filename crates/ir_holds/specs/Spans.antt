@@ -4,7 +4,7 @@ use Rattle.std.specs.List.{slice_get}
 use Rattle.ir_holds.specs.declared.span.Span.{Span}
 
 -- box a has begun, and hasn't ended, where box b of the same thread begins
-pub record IsOver (a b : Span) : Type 0 where
+pub record IsOverSpan (a b : Span) : Type 0 where
   pub thread : a.thread ≡ b.thread
   pub begun : a.first < b.first
   pub held : b.first < a.last
@@ -15,7 +15,7 @@ pub record IsTaken (spans : List Span) (rows : List ℕ) (n : ℕ) (own : Span) 
   pub other : Span
   pub before : number < n
   pub there : slice_get spans number ≡ Some other
-  pub over : IsOver other own
+  pub over : IsOverSpan other own
   pub row : slice_get rows number ≡ Some y
 
 -- row y isn't taken where box n begins, and all rows above it are

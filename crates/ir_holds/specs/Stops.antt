@@ -12,7 +12,7 @@ use Rattle.ir_holds.specs.declared.stops.Stop.{Stop}
 use Rattle.ir_holds.specs.declared.marks.Marks.{Marks}
 
 -- all at which boxes that go so start or end
-pub record AreStops (boxes : List PlacedBox) (spans : List Span) (stops : List Stop) : Type 0 where
+pub record AreStopPlaces (boxes : List PlacedBox) (spans : List Span) (stops : List Stop) : Type 0 where
   pub each : (s : Stop) → Contains stops s → IsMark boxes spans s.thread s.step s.place
   pub all : (t k : ℕ) (p : Point) → IsMark boxes spans t k p → Contains stops (record { thread = t; step = k; place = p })
 
@@ -24,16 +24,16 @@ pub record IsStopNear (s : Stop) : Type 0 where
   pub late : s.step ≤ s.place.u
 
 -- number n of thread t: all numbers of a thread are below those of the next one
-abbrev pub number_in : ℕ → ℕ → ℕ
-number_in t n = t * 2 ^ 54 + n
+abbrev pub stop_number : ℕ → ℕ → ℕ
+stop_number t n = t * 2 ^ 54 + n
 
 -- the first x right of a start or an end, at its step
 abbrev pub right_height : Stop → Height
-right_height s = record { at = number_in s.thread s.step; top = number_in s.thread (s.place.x + 1) }
+right_height s = record { at = stop_number s.thread s.step; top = stop_number s.thread (s.place.x + 1) }
 
 -- 1 more than its u is ahead of its step, at its step
 abbrev pub late_height : Stop → Height
-late_height s = record { at = number_in s.thread s.step; top = number_in s.thread (s.place.u - s.step + 1) }
+late_height s = record { at = stop_number s.thread s.step; top = stop_number s.thread (s.place.u - s.step + 1) }
 
 -- starts and ends are noted by both
 pub record AreNoted (stops : List Stop) (m : Marks) : Type 0 where
@@ -46,7 +46,7 @@ pub record AreNoted (stops : List Stop) (m : Marks) : Type 0 where
 -- the starts and ends of boxes that go so are noted
 pub record HoldsMarks (boxes : List PlacedBox) (spans : List Span) (m : Marks) : Type 0 where
   pub stops : List Stop
-  pub are : AreStops boxes spans stops
+  pub are : AreStopPlaces boxes spans stops
   pub noted : AreNoted stops m
 
 -- those of some boxes are

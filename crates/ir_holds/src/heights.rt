@@ -3,7 +3,7 @@
 ghost use Rattle.std.specs.Prelude.{◌≡◌, ◌+◌, IfOk, length};
 ghost use Rattle.std.specs.List.Sorted.{IsPermutation};
 ghost use Rattle.ir_holds.specs.Held.{IsLeastFrom};
-ghost use Rattle.ir_holds.specs.Heights.{IsBefore, AreTops, AreHeights};
+ghost use Rattle.ir_holds.specs.Heights.{IsLower, AreTops, AreHeights};
 
 use std::alloc::{AllocError, Global};
 
@@ -56,7 +56,7 @@ impl Heights {
     /// The greatest height before a place; without any it is 0. Time is the logarithm of their number.
     pub fn before(&self, at: u64) -> u64
         requires { AreHeights self.now }
-        ensures { IsLeastFrom 0 (IsBefore (self.now).each.items at) result }
+        ensures { IsLeastFrom 0 (IsLower (self.now).each.items at) result }
     {
         let count = self.each.partition_point(|height| height.at < at);
         self.tops[count]

@@ -102,7 +102,9 @@ fn thread_ends(alloc: Global, trace: &Trace, marks: &Marks) -> Result<Vec<Point>
     requires marks { HasMarks marks.now }
     requires few { (t : ℕ) → t < length trace.now.threads → (recorded_thread trace.now t).steps < 2 ^ 54 }
     ensures threads { IfOk result (λ v. length v.items ≡ length trace.now.threads) }
-    ensures each { IfOk result (λ v. (boxes : List PlacedBox) (spans : List Span) → HoldsMarks boxes spans marks.now → (t : ℕ) (p : Point) → slice_get v.items t ≡ Some p → IsHeldEnd trace.now boxes spans t p) }
+    ensures each { IfOk result
+        (λ v. (boxes : List PlacedBox) (spans : List Span) → HoldsMarks boxes spans marks.now → (t : ℕ) (p : Point)
+        → slice_get v.items t ≡ Some p → IsHeldEnd trace.now boxes spans t p) }
 {
     let mut ends = Vec::new(alloc);
     for thread in 0..thread_count(trace) {

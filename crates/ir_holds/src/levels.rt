@@ -2,7 +2,7 @@
 
 ghost use Rattle.std.specs.Prelude.{◌≡◌, ◌<◌, ◌≤◌, ◌↔◌, ℕ, Some, IfOk, IsTrue, true, false, length};
 ghost use Rattle.std.specs.List.{slice_get, Contains};
-ghost use Rattle.ir_holds.specs.Spans.{IsOver, IsTaken, IsFreeRow, AreRows};
+ghost use Rattle.ir_holds.specs.Spans.{IsOverSpan, IsTaken, IsFreeRow, AreRows};
 ghost use Rattle.ir_holds.specs.Open.{AreRising, IsLate, AreOfFirst, HasAllOver, KeepsLate};
 ghost use Rattle.ir_holds.specs.declared.span.Span.{Span};
 
@@ -21,7 +21,7 @@ fn is_late(spans: &[Span], number: usize, other: &Span) -> bool
 
 // Whether a box has begun, and hasn't ended, where another of its thread begins.
 fn is_over(one: &Span, other: &Span) -> bool
-    ensures { IsTrue result ↔ IsOver one.now other.now }
+    ensures { IsTrue result ↔ IsOverSpan one.now other.now }
 {
     one.thread == other.thread && one.first < other.first && other.first < one.last
 }
@@ -31,7 +31,7 @@ fn takes(spans: &[Span], rows: &[usize], number: usize, own: &Span, row: usize) 
     requires within { length rows.now ≤ length spans.now }
     requires number { number < length rows.now }
     ensures taken { result ≡ true → IsTaken spans.now rows.now (length rows.now) own.now row }
-    ensures free { result ≡ false → (a : Span) → slice_get spans.now number ≡ Some a → slice_get rows.now number ≡ Some row → IsOver a own.now → ⊥ }
+    ensures free { result ≡ false → (a : Span) → slice_get spans.now number ≡ Some a → slice_get rows.now number ≡ Some row → IsOverSpan a own.now → ⊥ }
 {
     rows[number] == row && is_over(&spans[number], own)
 }

@@ -6,7 +6,7 @@ ghost use Rattle.ir_picture.specs.Places.{IsLeastAbove};
 ghost use Rattle.ir_picture.specs.declared.placed_box.PlacedBox.{PlacedBox};
 ghost use Rattle.ir_holds.specs.Held.{IsLeastFrom, MarkedBefore, ComesFrom};
 ghost use Rattle.ir_holds.specs.Schedules.{AreNear};
-ghost use Rattle.ir_holds.specs.Stops.{IsStopNear, HoldsMarks, HasMarks, number_in, right_height, late_height};
+ghost use Rattle.ir_holds.specs.Stops.{IsStopNear, HoldsMarks, HasMarks, stop_number, right_height, late_height};
 ghost use Rattle.ir_holds.specs.declared.span.Span.{Span};
 ghost use Rattle.ir_holds.specs.declared.stops.Stop.{Stop};
 
@@ -29,7 +29,7 @@ pub struct Marks {
 // A number of a thread: all are below those of the next thread.
 fn number_in(thread: u8, number: u64) -> u64
     requires { number ≤ 2 ^ 54 }
-    ensures { result ≡ number_in thread number }
+    ensures { result ≡ stop_number thread number }
 {
     thread as u64 * FAR + number
 }

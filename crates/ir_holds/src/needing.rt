@@ -6,7 +6,7 @@ ghost use Rattle.ir_trace.specs.Recorded.{Recorded};
 ghost use Rattle.ir_past.specs.Past.{entered};
 ghost use Rattle.ir_picture.specs.Progress.{AreBoxesOf};
 ghost use Rattle.ir_picture.specs.declared.placed_box.PlacedBox.{PlacedBox};
-ghost use Rattle.ir_holds.specs.Needing.{Makes, NeedsLike, OneNeedsLike, IsAfterThese, HoldsEnds, HoldsTo, place_in, with_end, with_read, with_write};
+ghost use Rattle.ir_holds.specs.Needing.{MakesForNeed, NeedsLike, OneNeedsLike, IsAfterThese, HoldsEnds, HoldsTo, place_in, with_end, with_read, with_write};
 
 use ir_log::Event;
 use ir_past::events_of;
@@ -97,7 +97,7 @@ impl Ends {
 
     // The first place right of the box that has what made a version of an object; the first place of all, if nothing made it.
     fn after_maker(&self, object: u8, version: u32) -> Point
-        ensures { (r : Recorded) (boxes : List PlacedBox) → HoldsEnds r boxes self.now → IsAfterThese r boxes (Makes object version) result }
+        ensures { (r : Recorded) (boxes : List PlacedBox) → HoldsEnds r boxes self.now → IsAfterThese r boxes (MakesForNeed object version) result }
     {
         if version == 0 {
             return START;

@@ -5,7 +5,7 @@ ghost use Rattle.ir_picture.specs.Placing.{events_of_all};
 ghost use Rattle.ir_picture.specs.Progress.{AreBoxesOf};
 ghost use Rattle.ir_holds.specs.Held.{rows_in};
 ghost use Rattle.ir_holds.specs.Needing.{HoldsEnds};
-ghost use Rattle.ir_holds.specs.Schedules.{EachIsHeld, HasPacing, AreNear, IsNearest, ArePut};
+ghost use Rattle.ir_holds.specs.Schedules.{EachIsHeld, HasPacing, AreNear, IsNearestSpot, ArePut};
 ghost use Rattle.ir_holds.specs.Stops.{HoldsMarks};
 
 use crate::checking::{are_held, right_box};
@@ -22,8 +22,8 @@ fn near_box(own: PlacedBox, span: &Span) -> PlacedBox
     ensures events { result.events ≡ own.events }
     ensures row { result.row ≡ own.row }
     ensures came { result.came ≡ own.came }
-    ensures start { IsNearest (span.now).first own.start result.start }
-    ensures end { IsNearest (span.now).last own.end result.end }
+    ensures start { IsNearestSpot (span.now).first own.start result.start }
+    ensures end { IsNearestSpot (span.now).last own.end result.end }
 {
     PlacedBox {
         start: nearest(own.start, span.first),

@@ -1,7 +1,7 @@
 //! Where and when boxes start and end.
 
 ghost use Rattle.std.specs.Prelude.{◌≡◌, IfOk, length};
-ghost use Rattle.ir_holds.specs.Stops.{AreStops};
+ghost use Rattle.ir_holds.specs.Stops.{AreStopPlaces};
 
 use crate::span::Span;
 use ir_picture::{PlacedBox, Point};
@@ -24,7 +24,7 @@ pub struct Stop {
 /// Out of memory.
 pub fn stops_of(alloc: Global, boxes: &[PlacedBox], spans: &[Span]) -> Result<Vec<Stop>, AllocError>
     requires { length spans.now ≡ length boxes.now }
-    ensures { IfOk result (λ v. AreStops boxes.now spans.now v.items) }
+    ensures { IfOk result (λ v. AreStopPlaces boxes.now spans.now v.items) }
 {
     let mut stops = Vec::new(alloc);
     for number in 0..boxes.len() {

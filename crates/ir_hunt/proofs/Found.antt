@@ -15,8 +15,8 @@ use Rattle.ir_record_command.specs.Plan.{Plan}
 use Rattle.ir_record_command.specs.Recording.{IsRecordedOf}
 use Rattle.ir_order.specs.Recording.{IsPlanned}
 use Rattle.ir_order.specs.Spelling.{Spells}
-use Rattle.ir_order.proofs.CallerLemmas.{complete_runs_have_steps, recordings_by_plain_list_are_of_the_run}
-use Rattle.ir_schedule.proofs.CallerLemmas.{schedules_are_orders, schedules_are_of_threads}
+use Rattle.ir_order.proofs.CallerLemmas.{complete_have_steps, plain_recordings_of_run}
+use Rattle.ir_schedule.proofs.CallerLemmas.{schedules_are_orders, schedules_of_threads}
 use Rattle.ir_schedule.specs.Conditions.{fulfils, end_state}
 use Rattle.ir_schedule.specs.Moments.{Moment}
 use Rattle.ir_schedule.specs.Schedules.{IsSchedule, chosen_threads}
@@ -31,16 +31,16 @@ use Rattle.ir_hunt.specs.Tried.{Fails}
 use Rattle.ir_hunt.specs.declared.plan.HuntPlan.{HuntPlan}
 
 -- no world had answered
-get_or_of_replicated_empty_is_empty : (n t : ℕ) → get_or {A = List AnsweredCall} (replicate n []) t [] ≡ []
-get_or_of_replicated_empty_is_empty zero t = refl
-get_or_of_replicated_empty_is_empty (suc n) zero = refl
-get_or_of_replicated_empty_is_empty (suc n) (suc t) = get_or_of_replicated_empty_is_empty n t
+replicated_empty_is : (n t : ℕ) → get_or {A = List AnsweredCall} (replicate n []) t [] ≡ []
+replicated_empty_is zero t = refl
+replicated_empty_is (suc n) zero = refl
+replicated_empty_is (suc n) (suc t) = replicated_empty_is n t
 
 -- a run by a chooser to its end is the run by the order of its turns
-schedule_is_run_by_order_of_its_turns : (guest : Guest) (plan : Plan) (chooser : Chooser) (run : List Step)
+schedule_run_by_order : (guest : Guest) (plan : Plan) (chooser : Chooser) (run : List Step)
     → IsSchedule (has_tries plan.profile) (machine (first_flat guest plan)) (length (first_flat guest plan).threads) (tables (first_flat guest plan)) chooser run
     → IsByOrder (machine (first_flat guest plan)) (tables (first_flat guest plan)) (length guest.entries) (chosen_threads run) run
-schedule_is_run_by_order_of_its_turns guest plan chooser run h = schedules_are_orders (has_tries plan.profile) (machine (first_flat guest plan)) (length guest.entries)
+schedule_run_by_order guest plan chooser run h = schedules_are_orders (has_tries plan.profile) (machine (first_flat guest plan)) (length guest.entries)
     (tables (first_flat guest plan)) chooser run
     (subst (λ n. IsSchedule (has_tries plan.profile) (machine (first_flat guest plan)) n (tables (first_flat guest plan)) chooser run)
     (length_of_start_threads guest plan.budget plan.profile 0 (length guest.entries)) h)
@@ -51,10 +51,11 @@ run_is_planned : (guest : Guest) (plan : Plan) (chooser : Chooser) (b : Moment) 
     → IsPlanned guest plan (order_of_turns b.turns) h.run
 run_is_planned guest plan chooser b h answered = record {
   by_order = subst (λ o. IsByOrder (machine (first_flat guest plan)) (tables (first_flat guest plan)) (length guest.entries) o h.run)
-      (sym h.gained.order) (schedule_is_run_by_order_of_its_turns guest plan chooser h.run h.schedule);
+      (sym h.gained.order) (schedule_run_by_order guest plan chooser h.run h.schedule);
   answered = λ t l. subst (IsAnsweredFrom (origin_of true plan.random plan.input t))
-      (h.gained.answers t (subst (λ n. t < n) (sym (length_of_start_threads guest plan.budget plan.profile 0 (length guest.entries))) l) ∙ ap (λ z. z ++ answers_in (log (machine (first_flat guest plan)) (tables (first_flat guest plan)) h.run t))
-      (get_or_of_replicated_empty_is_empty (length guest.entries) t)) (answered t l);
+      (h.gained.answers t (subst (λ n. t < n) (sym (length_of_start_threads guest plan.budget plan.profile 0 (length guest.entries))) l)
+      ∙ ap (λ z. z ++ answers_in (log (machine (first_flat guest plan)) (tables (first_flat guest plan)) h.run t))
+      (replicated_empty_is (length guest.entries) t)) (answered t l);
 }
 
 -- what is found of what it came to
@@ -67,24 +68,24 @@ run_is_judged hunt chooser b h holds is = record {
 }
 
 -- the turns of a run to its end are of the guest's threads
-turns_are_of_guest_threads : (guest : Guest) (plan : Plan) (chooser : Chooser) (b : Moment) → RanBy guest plan chooser b
+turns_of_guest_threads : (guest : Guest) (plan : Plan) (chooser : Chooser) (b : Moment) → RanBy guest plan chooser b
     → AllByRecursion (λ t. t < length guest.entries) (order_of_turns b.turns)
-turns_are_of_guest_threads guest plan chooser b h = subst (AllByRecursion (λ t. t < length guest.entries)) (sym h.gained.order)
-    (schedules_are_of_threads (has_tries plan.profile) (machine (first_flat guest plan)) (length guest.entries) (tables (first_flat guest plan)) chooser
+turns_of_guest_threads guest plan chooser b h = subst (AllByRecursion (λ t. t < length guest.entries)) (sym h.gained.order)
+    (schedules_of_threads (has_tries plan.profile) (machine (first_flat guest plan)) (length guest.entries) (tables (first_flat guest plan)) chooser
     h.run (subst (λ n. IsSchedule (has_tries plan.profile) (machine (first_flat guest plan)) n (tables (first_flat guest plan)) chooser h.run)
     (length_of_start_threads guest plan.budget plan.profile 0 (length guest.entries)) h.schedule))
 
 -- and there are some
 pub turns_are_not_empty : (guest : Guest) (plan : Plan) (chooser : Chooser) (b : Moment) → 1 ≤ length guest.entries → RanBy guest plan chooser b
     → order_of_turns b.turns ≢ []
-turns_are_not_empty guest plan chooser b some h none = complete_runs_have_steps guest plan.budget plan.profile h.run some h.schedule.done
+turns_are_not_empty guest plan chooser b some h none = complete_have_steps guest plan.budget plan.profile h.run some h.schedule.done
     (sym h.gained.order ∙ none)
 
 -- a run by an order whose runs have what is wanted of them has it
-planned_run_fulfils_wanted_stale : (guest : Guest) (plan : Plan) (order : List ℕ) (wanted : Option Bool) (run : List Step) → IsWanted guest plan order wanted true
+planned_fulfils_stale : (guest : Guest) (plan : Plan) (order : List ℕ) (wanted : Option Bool) (run : List Step) → IsWanted guest plan order wanted true
     → IsPlanned guest plan order run → FulfilsStale guest plan wanted run
-planned_run_fulfils_wanted_stale guest plan order None run h planned = tt
-planned_run_fulfils_wanted_stale guest plan order (Some has) run h planned = h run planned
+planned_fulfils_stale guest plan order None run h planned = tt
+planned_fulfils_stale guest plan order (Some has) run h planned = h run planned
 
 -- and if none of its runs has it, the run hasn't
 planned_run_fails_stale : (guest : Guest) (plan : Plan) (order : List ℕ) (wanted : Option Bool) (run : List Step) → IsWanted guest plan order wanted false
@@ -93,22 +94,22 @@ planned_run_fails_stale guest plan order None run h planned = absurd cc
 planned_run_fails_stale guest plan order (Some has) run h planned = h run planned
 
 -- the list of a seed's turns, where what its run came to fulfils each condition, and the run has what is wanted of its stale writes
-pub is_found_if_seed_run_fulfils : (hunt : Hunt) (seed : ℕ) (b : Moment) (list : List ℕ)
+pub fulfilled_seed_is_found : (hunt : Hunt) (seed : ℕ) (b : Moment) (list : List ℕ)
     → RanBy hunt.guest hunt.plan (chooser_of hunt.way seed (length hunt.guest.entries) hunt.choices) b
     → ((t : ℕ) → t < length hunt.guest.entries → IsAnsweredFrom (origin_of true hunt.plan.random hunt.plan.input t) (answers_at b.answers t))
     → list_all (λ c. fulfils c (end_state b.flat)) hunt.conditions ≡ true → IsWanted hunt.guest hunt.plan (order_of_turns b.turns) hunt.wanted true
     → Spells list (order_of_turns b.turns) → IsFound hunt seed list
-is_found_if_seed_run_fulfils hunt seed b list h answered holds stale spells =
+fulfilled_seed_is_found hunt seed b list h answered holds stale spells =
     let chooser = chooser_of hunt.way seed (length hunt.guest.entries) hunt.choices in
     let planned = run_is_planned hunt.guest hunt.plan chooser b h answered in
     record {
       order = order_of_turns b.turns;
-      spelled = spells (length hunt.guest.entries) (turns_are_of_guest_threads hunt.guest hunt.plan chooser b h);
+      spelled = spells (length hunt.guest.entries) (turns_of_guest_threads hunt.guest hunt.plan chooser b h);
       run = h.run;
       of_seed = h.schedule;
       planned = planned;
       fulfilled = run_is_judged hunt chooser b h true holds;
-      stale = planned_run_fulfils_wanted_stale hunt.guest hunt.plan (order_of_turns b.turns) hunt.wanted h.run stale planned;
+      stale = planned_fulfils_stale hunt.guest hunt.plan (order_of_turns b.turns) hunt.wanted h.run stale planned;
     }
 
 fails_in_one_way : (hunt : Hunt) (chooser : Chooser) (b : Moment) (h : RanBy hunt.guest hunt.plan chooser b)
@@ -130,12 +131,12 @@ fails_if_seed_run_does hunt seed b h answered fails =
     record { run = h.run; order = order_of_turns b.turns; of_seed = h.schedule; planned = planned; fails = fails_in_one_way hunt chooser b h planned fails }
 
 -- a recording by the list is of the run that was found
-pub recording_of_found_is_finding : (image : List ℕ) (plan : HuntPlan) (left_out seed : ℕ) (list : List ℕ) (trace : Recorded) (outputs : List (List ℕ))
+pub found_is_finding : (image : List ℕ) (plan : HuntPlan) (left_out seed : ℕ) (list : List ℕ) (trace : Recorded) (outputs : List (List ℕ))
     → IsFoundIn image plan left_out seed list → IsRecordedOf image (by_list plan.record list) trace outputs → IsFinding image plan left_out seed list trace outputs
-recording_of_found_is_finding image plan left_out seed list trace outputs found r =
+found_is_finding image plan left_out seed list trace outputs found r =
     let run = found.lowest.found in
     record {
       is = found;
-      recorded = recordings_by_plain_list_are_of_the_run image found.guest (by_list plan.record list) list run.order run.run trace outputs found.is refl
+      recorded = plain_recordings_of_run image found.guest (by_list plan.record list) list run.order run.run trace outputs found.is refl
           run.spelled run.planned r;
     }

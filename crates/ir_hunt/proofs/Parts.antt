@@ -23,9 +23,9 @@ tried_with_those_after h first n (suc m) (suc k) a b c many sum before (inr (les
     inr (a + less, omega (arith, sum, more), tried_with_those_after h first n m k a less (a + less) (omega (arith, many)) refl before rest)
 
 -- a seed more, whose run fails
-pub tried_with_one_that_fails : (h : Hunt) (first seed a : ℕ) → first ≤ seed → AreTried h first (seed - first) a → Fails h seed
+pub tried_with_failing : (h : Hunt) (first seed a : ℕ) → first ≤ seed → AreTried h first (seed - first) a → Fails h seed
     → AreTried h first (seed + 1 - first) a
-tried_with_one_that_fails h first seed a from before fails =
+tried_with_failing h first seed a from before fails =
     let here : seed ≡ first + (seed - first) = omega (arith, from) in
     let more : suc (seed - first) ≡ seed + 1 - first = omega (arith, from) in
     subst (λ n. AreTried h first n a) more (inl (subst (Fails h) here fails, before))
@@ -109,7 +109,7 @@ no_seeds_are_tried h first last none =
     let few : 0 ≡ last + 1 - first = omega (arith, none) in subst (λ n. AreTried h first n 0) few refl
 
 -- each worker is of the hunt, and so is each with one more
-pub each_is_of_hunt_with_one_more : {W : Type 0} (workers more : List W) (w : W) (tries : W → Hunt) (h : Hunt) → All (λ x. tries x ≡ h) workers
+pub each_of_hunt_push : {W : Type 0} (workers more : List W) (w : W) (tries : W → Hunt) (h : Hunt) → All (λ x. tries x ≡ h) workers
     → more ≡ workers ++ w ∷ [] → tries w ≡ h → All (λ x. tries x ≡ h) more
-each_is_of_hunt_with_one_more workers more w tries h each added one =
+each_of_hunt_push workers more w tries h each added one =
     subst (All (λ x. tries x ≡ h)) (sym added) (All-push (λ x. tries x ≡ h) workers w each one)

@@ -13,7 +13,7 @@ use Rattle.ir_record.specs.Refusing.{plain_turns}
 use Rattle.ir_record.specs.Worlds.{AnsweredCall}
 use Rattle.ir_record_command.specs.Plan.{Plan}
 use Rattle.ir_world.specs.Sources.{origin_of, IsAnsweredFrom}
-use Rattle.ir_order.proofs.CallerLemmas.{recording_in_turns_is_of_run}
+use Rattle.ir_order.proofs.CallerLemmas.{recording_is_of_run}
 use Rattle.ir_stale_run.specs.Stale.{HasRests}
 use Rattle.ir_hunt.specs.Stale.{HasStaleBy, IsTraceBy}
 
@@ -35,23 +35,23 @@ pub recording_has_run : (guest : Guest) (budget : ℕ) (profile : Profile) (orde
 recording_has_run guest budget profile order before trace outputs answers r = (r.0, trace_of_run_has_run guest budget profile r.0 trace r.2.emitted)
 
 -- what is recorded in turns, with fresh worlds, is the trace of each run by their order
-pub fresh_recording_is_trace_by_order : (guest : Guest) (plan : Plan) (entries order : List ℕ) (before : List (List AnsweredCall)) (trace : Recorded) (outputs : List (List ℕ))
+pub fresh_trace_by_order : (guest : Guest) (plan : Plan) (entries order : List ℕ) (before : List (List AnsweredCall)) (trace : Recorded) (outputs : List (List ℕ))
     (answers : List (List AnsweredCall)) → entries ≡ guest.entries → before ≡ replicate (length entries) []
     → IsRecordingByTurns guest plan.budget plan.profile (plain_turns order) before trace outputs answers
     → ((t : ℕ) → t < length entries → IsAnsweredFrom (origin_of true plan.random plan.input t) (get_or answers t []))
     → IsTraceBy guest plan order trace
-fresh_recording_is_trace_by_order guest plan entries order before trace outputs answers same fresh r answered run planned =
+fresh_trace_by_order guest plan entries order before trace outputs answers same fresh r answered run planned =
     let long : length entries ≡ length guest.entries = ap (λ (z : List ℕ). length z) same in (
       outputs,
-      recording_in_turns_is_of_run guest plan order run trace outputs answers planned
+      recording_is_of_run guest plan order run trace outputs answers planned
           (subst (λ (z : List (List AnsweredCall)). IsRecordingByTurns guest plan.budget plan.profile (plain_turns order) z trace outputs answers)
           (fresh ∙ ap (λ (n : ℕ). replicate n []) long) r) (λ t l. answered t (subst (λ n. t < n) (sym long) l)),
     )
 
 -- whether a stale write of the trace rests is whether one of each run by the order does
-has_stale_by_order_if_trace_has_rests : (guest : Guest) (plan : Plan) (order : List ℕ) (trace : Recorded) (f : FittedTrace) (has : Bool) → IsTraceBy guest plan order trace
+rests_are_stale_by_order : (guest : Guest) (plan : Plan) (order : List ℕ) (trace : Recorded) (f : FittedTrace) (has : Bool) → IsTraceBy guest plan order trace
     → f.guest ≡ guest → f.recorded ≡ trace → HasRun f → HasRests f has → HasStaleBy guest plan order has
-has_stale_by_order_if_trace_has_rests guest plan order trace f has by of_guest of_trace fits rests run planned = let r = by run planned in record {
+rests_are_stale_by_order guest plan order trace f has by of_guest of_trace fits rests run planned = let r = by run planned in record {
   trace = trace;
   outputs = r.0;
   of_run = r.1;
@@ -63,7 +63,7 @@ has_stale_by_order_if_trace_has_rests guest plan order trace f has by of_guest o
 }
 
 -- the same, where that was found out
-pub ok_result_has_stale_by_order_if_it_has_rests : {E : Type 0} (guest : Guest) (plan : Plan) (order : List ℕ) (trace : Recorded) (f : FittedTrace) (r : Result Bool E)
+pub ok_stale_by_order : {E : Type 0} (guest : Guest) (plan : Plan) (order : List ℕ) (trace : Recorded) (f : FittedTrace) (r : Result Bool E)
     → IsTraceBy guest plan order trace → f.guest ≡ guest → f.recorded ≡ trace → HasRun f → IfOk r (HasRests f) → IfOk r (HasStaleBy guest plan order)
-ok_result_has_stale_by_order_if_it_has_rests guest plan order trace f (Ok has) by of_guest of_trace fits rests = has_stale_by_order_if_trace_has_rests guest plan order trace f has by of_guest of_trace fits rests
-ok_result_has_stale_by_order_if_it_has_rests guest plan order trace f (Err e) by of_guest of_trace fits rests = tt
+ok_stale_by_order guest plan order trace f (Ok has) by of_guest of_trace fits rests = rests_are_stale_by_order guest plan order trace f has by of_guest of_trace fits rests
+ok_stale_by_order guest plan order trace f (Err e) by of_guest of_trace fits rests = tt

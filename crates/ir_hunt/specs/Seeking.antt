@@ -7,9 +7,9 @@ use Rattle.ir_schedule.specs.declared.chooser.Chooser.{Chooser}
 use Rattle.ir_hunt.specs.Finding.{first_flat, has_tries}
 
 -- before the first step: no turns, and no world has answered
-abbrev pub fresh : Guest → Plan → Moment
-fresh guest plan = record { flat = first_flat guest plan; turns = []; answers = replicate (length guest.entries) [] }
+abbrev pub fresh_guest : Guest → Plan → Moment
+fresh_guest guest plan = record { flat = first_flat guest plan; turns = []; answers = replicate (length guest.entries) [] }
 
 -- it has run to its end by this chooser
 abbrev pub RanBy : Guest → Plan → Chooser → Moment → Type 0
-RanBy guest plan chooser moment = RanToEnd (has_tries plan.profile) (fresh guest plan) chooser moment
+RanBy guest plan chooser moment = RanToEnd (has_tries plan.profile) (fresh_guest guest plan) chooser moment

@@ -232,7 +232,8 @@ where
         ⊎ ((left_out seed : ℕ) × (list : List ℕ) × (said : O)
         × IsFoundIn image.now plan.now left_out seed list
         × Appends (O.written out.old) (O.written said) (found_line seed list)
-        × IsReported e image.now (by_list plan.now.record list) (unwritten_of (W.called files.new.trace) (W.cause files.new.trace)) (unwritten_of (P.called files.new.outputs) (P.cause files.new.outputs))
+        × IsReported e image.now (by_list plan.now.record list) (unwritten_of (W.called files.new.trace) (W.cause files.new.trace))
+        (unwritten_of (P.called files.new.outputs) (P.cause files.new.outputs))
         (writer_of (E.written faults.old) (E.written faults.new) (E.broken faults.new))
         × StopsRecord e image.now (by_list plan.now.record list)
         (writer_of (W.written files.old.trace) (W.written files.new.trace) (W.broken files.new.trace))

@@ -12,7 +12,7 @@ ghost use Rattle.ir_schedule.specs.Conditions.{as_condition, fulfils, end_state}
 ghost use Rattle.ir_schedule.specs.Moments.{moment_of};
 ghost use Rattle.ir_hunt.specs.Finding.{has_tries, IsFound};
 ghost use Rattle.ir_hunt.specs.Hunt.{hunt_of};
-ghost use Rattle.ir_hunt.specs.Seeking.{fresh, RanBy};
+ghost use Rattle.ir_hunt.specs.Seeking.{fresh_guest, RanBy};
 ghost use Rattle.ir_hunt.specs.Stale.{IsWanted};
 ghost use Rattle.ir_hunt.specs.Tried.{Fails};
 
@@ -128,7 +128,7 @@ impl<'a, C: Clock> Seeker<'a, C> {
     fn restart(&mut self) -> Result<(), AllocError>
         ensures image { self.new.image ≡ self.old.image }
         ensures plan { self.new.plan ≡ self.old.plan }
-        ensures fresh { OnOk result (moment_of (λ w. w.answers.items) self.new.runner ≡ fresh self.old.image.now self.old.plan.now.record) }
+        ensures fresh_guest { OnOk result (moment_of (λ w. w.answers.items) self.new.runner ≡ fresh_guest self.old.image.now self.old.plan.now.record) }
         ensures works { OnOk result (NoneFailed (map (λ w. w.failed) self.new.runner.worlds.items)) }
     {
         let record = &self.plan.record;
@@ -199,7 +199,10 @@ impl<'a, C: Clock> Seeker<'a, C> {
     fn fulfils(&mut self, seed: u64, choices: &Choices) -> Result<bool, Lost>
         ensures image { self.new.image ≡ self.old.image }
         ensures plan { self.new.plan ≡ self.old.plan }
-        ensures ran { OnOk result (RanBy self.old.image.now self.old.plan.now.record (chooser_of self.old.plan.now.way seed (length self.old.image.now.entries) choices.now) (moment_of (λ w. w.answers.items) self.new.runner)) }
+        ensures ran { OnOk result
+            (RanBy self.old.image.now self.old.plan.now.record
+            (chooser_of self.old.plan.now.way seed (length self.old.image.now.entries) choices.now)
+            (moment_of (λ w. w.answers.items) self.new.runner)) }
         ensures some { OnOk result (order_of_turns self.new.runner.turns.items ≢ []) }
         ensures each { IfOk result (λ b. b ≡ true → list_all (λ c. fulfils (as_condition c) (end_state self.new.runner.flat)) self.old.plan.now.conditions.now ≡ true) }
         ensures wanted { IfOk result (λ b. b ≡ true → IsWanted self.old.image.now self.old.plan.now.record (order_of_turns self.new.runner.turns.items) self.old.plan.now.stale true) }

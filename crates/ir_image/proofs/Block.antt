@@ -9,7 +9,7 @@ use Rattle.ir_bytes.specs.Reading.{number_at, bytes_at, fields_at}
 use Rattle.ir_bytes.proofs.CallerLemmas.{bytes_at_gives_parts, bytes_at_fails_if_short}
 use Rattle.ir_image.specs.declared.image_err.ImageErr.{ImageErr}
 use Rattle.ir_image.specs.Fields.{word_at}
-use Rattle.ir_image.specs.Results.{Fails}
+use Rattle.ir_image.specs.Results.{FailsAsImage}
 
 word_at_of_four_bytes : (a b c d : ℕ) (rest : List ℕ) → word_at (a ∷ b ∷ c ∷ d ∷ rest) ≡ Ok (little_number 4 (a ∷ b ∷ c ∷ d ∷ []), rest)
 unfolding number_at
@@ -18,24 +18,24 @@ word_at_of_four_bytes a b c d rest =
     rw long refl
 
 -- fewer bytes than the words need
-words_fail_if_bytes_short : (n : ℕ) (bytes : List ℕ) → length bytes < 4 * n → fields_at word_at n bytes ≡ Err Short
+words_fail_if_short : (n : ℕ) (bytes : List ℕ) → length bytes < 4 * n → fields_at word_at n bytes ≡ Err Short
 unfolding fields_at number_at
-words_fail_if_bytes_short zero bytes h = absurd (omega arith)
-words_fail_if_bytes_short (suc n) [] h = refl
-words_fail_if_bytes_short (suc n) (a ∷ []) h = refl
-words_fail_if_bytes_short (suc n) (a ∷ b ∷ []) h = refl
-words_fail_if_bytes_short (suc n) (a ∷ b ∷ c ∷ []) h = refl
-words_fail_if_bytes_short (suc n) (a ∷ b ∷ c ∷ d ∷ rest) h = rw (word_at_of_four_bytes a b c d rest, words_fail_if_bytes_short n rest (omega arith)) refl
+words_fail_if_short zero bytes h = absurd (omega arith)
+words_fail_if_short (suc n) [] h = refl
+words_fail_if_short (suc n) (a ∷ []) h = refl
+words_fail_if_short (suc n) (a ∷ b ∷ []) h = refl
+words_fail_if_short (suc n) (a ∷ b ∷ c ∷ []) h = refl
+words_fail_if_short (suc n) (a ∷ b ∷ c ∷ d ∷ rest) h = rw (word_at_of_four_bytes a b c d rest, words_fail_if_short n rest (omega arith)) refl
 
-pub words_fail_if_bytes_fail : (n : ℕ) (bytes : List ℕ) (e : ImageErr) → bytes_at Short (4 * n) bytes ≡ Err e → Fails e (fields_at word_at n bytes)
-words_fail_if_bytes_fail n bytes e h =
+pub words_fail : (n : ℕ) (bytes : List ℕ) (e : ImageErr) → bytes_at Short (4 * n) bytes ≡ Err e → FailsAsImage e (fields_at word_at n bytes)
+words_fail n bytes e h =
     let g = bytes_at_fails_if_short Short e (4 * n) bytes h in
-    subst (λ (x : ImageErr). Fails x (fields_at word_at n bytes)) g.1 (words_fail_if_bytes_short n bytes g.0)
+    subst (λ (x : ImageErr). FailsAsImage x (fields_at word_at n bytes)) g.1 (words_fail_if_short n bytes g.0)
 
 -- the words of a piece but its first
-tail_of_words_is_read_from_later_bytes : (w : ℕ) (ws : List ℕ) (a b c d : ℕ) (more : List ℕ) → IsRead little_number 4 (a ∷ b ∷ c ∷ d ∷ more) (w ∷ ws)
+pub tail_words_are_read : (w : ℕ) (ws : List ℕ) (a b c d : ℕ) (more : List ℕ) → IsRead little_number 4 (a ∷ b ∷ c ∷ d ∷ more) (w ∷ ws)
     → IsRead little_number 4 more ws
-tail_of_words_is_read_from_later_bytes w ws a b c d more h k lt =
+tail_words_are_read w ws a b c d more h k lt =
     let step : 4 * suc k ≡ suc (suc (suc (suc (4 * k)))) = omega arith in
     subst (λ (i : ℕ). slice_index ws k ≡ little_number 4 (drop i (a ∷ b ∷ c ∷ d ∷ more))) step (h (suc k) (omega arith))
 
@@ -49,20 +49,20 @@ words_at_of_read_bytes (w ∷ ws) (a ∷ b ∷ []) rest e h = absurd (omega arit
 words_at_of_read_bytes (w ∷ ws) (a ∷ b ∷ c ∷ []) rest e h = absurd (omega arith)
 words_at_of_read_bytes (w ∷ ws) (a ∷ b ∷ c ∷ d ∷ more) rest e h =
     let first : w ≡ little_number 4 (a ∷ b ∷ c ∷ d ∷ []) = h 0 (omega arith) in
-    let next = words_at_of_read_bytes ws more rest (omega arith) (tail_of_words_is_read_from_later_bytes w ws a b c d more h) in
+    let next = words_at_of_read_bytes ws more rest (omega arith) (tail_words_are_read w ws a b c d more h) in
     rw (word_at_of_four_bytes a b c d (more ++ rest), next, ← first) refl
 
 -- a list that was written over the whole of another of its length
-take_length_of_append_drop : (dst items : List ℕ) (n : ℕ) → length dst ≡ n → take n (dst ++ drop (length dst) items) ≡ dst
-take_length_of_append_drop dst items n e = ap (λ (k : ℕ). take k (dst ++ drop (length dst) items)) (sym e) ∙ take-append_seam dst (drop (length dst) items)
+take_written_prefix : (dst items : List ℕ) (n : ℕ) → length dst ≡ n → take n (dst ++ drop (length dst) items) ≡ dst
+take_written_prefix dst items n e = ap (λ (k : ℕ). take k (dst ++ drop (length dst) items)) (sym e) ∙ take-append_seam dst (drop (length dst) items)
 
-pub words_at_of_overwritten_items : (n room : ℕ) (bytes own rest ws items : List ℕ) → bytes_at Short (4 * n) bytes ≡ Ok (own, rest) → length ws ≡ n
+pub words_at_overwritten : (n room : ℕ) (bytes own rest ws items : List ℕ) → bytes_at Short (4 * n) bytes ≡ Ok (own, rest) → length ws ≡ n
     → room ≡ n → IsRead little_number 4 own ws
     → fields_at word_at n bytes ≡ Ok (take room (ws ++ drop (length ws) items), rest)
-words_at_of_overwritten_items n room bytes own rest ws items e count full h =
+words_at_overwritten n room bytes own rest ws items e count full h =
     let p = bytes_at_gives_parts Short (4 * n) bytes (own, rest) e in
     let whole : bytes ≡ own ++ rest = sym (take-append-drop (4 * n) bytes) ∙ ap (λ (x : List ℕ). x ++ drop (4 * n) bytes) (sym p.prefix) ∙
     ap (λ (x : List ℕ). own ++ x) (sym p.back) in
     let size : length own ≡ 4 * length ws = omega (arith, ap length p.prefix, length-take-le (4 * n) bytes p.long) in
     ap (λ (k : ℕ). fields_at word_at k bytes) (sym count) ∙ ap (fields_at word_at (length ws)) whole ∙ words_at_of_read_bytes ws own rest size h
-    ∙ ap (λ (x : List ℕ). Ok (x, rest)) (sym (take_length_of_append_drop ws items room (count ∙ sym full)))
+    ∙ ap (λ (x : List ℕ). Ok (x, rest)) (sym (take_written_prefix ws items room (count ∙ sym full)))

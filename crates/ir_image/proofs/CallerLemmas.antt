@@ -1,9 +1,11 @@
 -- What callers may cite of images.
 -- the limits of a form are within those of any
-pub use Rattle.ir_image.proofs.Forms.{word_limit_of_form_is_positive, words_of_form_at_most_limit, thread_limit_of_form_is_positive, threads_of_form_at_most_limit, objects_of_form_at_most_limit}
+pub use Rattle.ir_image.proofs.Forms.{word_limit_positive, form_words_within, thread_limit_positive, form_threads_within, form_objects_within}
 -- so are a guest's parts
-pub use Rattle.ir_image.proofs.Forms.{guest_threads_at_most_limit, guest_objects_at_most_limit, guest_words_at_most_limit}
+pub use Rattle.ir_image.proofs.Forms.{guest_threads_within, guest_objects_within, guest_words_within}
 -- words, and 0 after them
-pub use Rattle.ir_image.proofs.Forms.{get_or_zero_of_padded_is_unchanged}
+pub use Rattle.ir_image.proofs.Forms.{get_or_zero-padded}
 -- words of whole objects
-pub use Rattle.ir_image.proofs.Forms.{words_divided_by_limit_is_object_count, words_of_whole_objects_divide, words_are_limit_times_quotient_if_whole}
+pub use Rattle.ir_image.proofs.Forms.{words_div_is_objects, whole_words_divide, whole_words_multiply}
+pub use Rattle.ir_image.proofs.Fields.{place_test_sound}
+pub use Rattle.ir_image.proofs.Block.{tail_words_are_read}

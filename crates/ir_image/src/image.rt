@@ -80,7 +80,7 @@ impl Image {
     }
 
     /// The first words of the objects, `object_words` of each, in the order of the objects.
-    #[tactic(auto, using(crate::proofs::Forms::guest_words_at_most_limit))]
+    #[tactic(auto, using(crate::proofs::Forms::guest_words_within))]
     pub fn words(&self) -> &[u32]
         ensures value { result.now ≡ self.now.words }
         ensures within { IsGuest self.now }
@@ -99,7 +99,7 @@ impl Image {
     }
 
     /// How many objects there are.
-    #[tactic(auto, using(crate::proofs::Forms::guest_objects_at_most_limit))]
+    #[tactic(auto, using(crate::proofs::Forms::guest_objects_within))]
     pub fn object_count(&self) -> usize
         ensures value { result ≡ object_count self.now }
         ensures few { result ≤ most_objects }

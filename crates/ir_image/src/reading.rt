@@ -7,7 +7,7 @@ ghost use Rattle.ir_image.specs.Fields.{entry_at, word_at};
 ghost use Rattle.ir_image.specs.Encoding.{encoding};
 ghost use Rattle.ir_bytes.specs.Reading.{bytes_at, fields_at};
 ghost use Rattle.ir_image.specs.declared.image_err.ImageErr.TheVariants.{Short};
-ghost use Rattle.ir_image.specs.Results.{Gives};
+ghost use Rattle.ir_image.specs.Results.{YieldsImage};
 
 use crate::code::Code;
 use crate::counts::Counts;
@@ -31,7 +31,7 @@ struct Parts {
 // The form that the magic names.
 #[tactic(auto, unfolding(crate::specs::Guest::form_at, ir_bytes::specs::Reading::field_at))]
 fn form(bytes: &[u8]) -> Result<(ImageForm, &[u8]), ImageErr>
-    ensures { Gives (λ x. (x.0, x.1.now)) result (form_at bytes.now) }
+    ensures { YieldsImage (λ x. (x.0, x.1.now)) result (form_at bytes.now) }
 {
     let (magic, rest) = word(bytes, ImageErr::Short)?;
     let form = ImageForm::of_magic(magic);
@@ -44,7 +44,7 @@ fn form(bytes: &[u8]) -> Result<(ImageForm, &[u8]), ImageErr>
 
 #[tactic(auto, unfolding(crate::specs::Guest::counts_at))]
 fn counts(bytes: &[u8]) -> Result<(Counts, &[u8]), ImageErr>
-    ensures exact { Gives (λ x. (x.0, x.1.now)) result (counts_at bytes.now) }
+    ensures exact { YieldsImage (λ x. (x.0, x.1.now)) result (counts_at bytes.now) }
     ensures short_code { IfOk result (λ x. x.0.words ≤ most_code_words) }
 {
     let (form, rest) = form(bytes)?;
@@ -68,7 +68,7 @@ fn counts(bytes: &[u8]) -> Result<(Counts, &[u8]), ImageErr>
 #[tactic(auto, unfolding(ir_bytes::specs::Reading::field_at))]
 fn entry(words: u32, bytes: &[u8]) -> Result<(u32, &[u8]), ImageErr>
     requires { words ≤ most_code_words }
-    ensures { Gives (λ x. (x.0, x.1.now)) result (entry_at words bytes.now) }
+    ensures { YieldsImage (λ x. (x.0, x.1.now)) result (entry_at words bytes.now) }
 {
     let (entry, rest) = word(bytes, ImageErr::Short)?;
     if entry % 4 == 0 && entry >= CODE_START && entry < CODE_START + 4 * words {
@@ -85,7 +85,7 @@ fn entries(
     bytes: &[u8],
 ) -> Result<(Vec<u32>, &[u8]), ImageErr>
     requires { words ≤ most_code_words }
-    ensures { Gives (λ x. (x.0.items, x.1.now)) result (fields_at (entry_at words) count bytes.now) }
+    ensures { YieldsImage (λ x. (x.0.items, x.1.now)) result (fields_at (entry_at words) count bytes.now) }
 {
     let mut entries = Vec::new(alloc);
     let mut rest = bytes;
@@ -100,7 +100,7 @@ fn entries(
 // Room is taken once the words are known to be there.
 fn words(alloc: Global, count: usize, bytes: &[u8]) -> Result<(Vec<u32>, &[u8]), ImageErr>
     requires { count ≤ most_code_words }
-    ensures { Gives (λ x. (x.0.items, x.1.now)) result (fields_at word_at count bytes.now) }
+    ensures { YieldsImage (λ x. (x.0.items, x.1.now)) result (fields_at word_at count bytes.now) }
 {
     let (own, rest) = ir_bytes::bytes(4 * count, bytes, ImageErr::Short)?;
     let mut words = vec![in alloc; 0u32; count]?;
@@ -109,7 +109,7 @@ fn words(alloc: Global, count: usize, bytes: &[u8]) -> Result<(Vec<u32>, &[u8]),
 }
 
 fn data_bytes(alloc: Global, count: usize, bytes: &[u8]) -> Result<(Vec<u8>, &[u8]), ImageErr>
-    ensures { Gives (λ x. (x.0.items, x.1.now)) result (bytes_at Short count bytes.now) }
+    ensures { YieldsImage (λ x. (x.0.items, x.1.now)) result (bytes_at Short count bytes.now) }
 {
     let (own, rest) = ir_bytes::bytes(count, bytes, ImageErr::Short)?;
     let mut data = Vec::with_capacity(alloc, count)?;
@@ -120,7 +120,7 @@ fn data_bytes(alloc: Global, count: usize, bytes: &[u8]) -> Result<(Vec<u8>, &[u
 #[tactic(auto, unfolding(crate::specs::Guest::body_at))]
 fn body(alloc: Global, counts: Counts, bytes: &[u8]) -> Result<Parts, ImageErr>
     requires { counts.words ≤ most_code_words }
-    ensures { Gives (λ p. record { form = counts.form; entries = p.entries.items; code = p.code.items; bytes = p.bytes.items; words = p.words.items }) result (body_at counts bytes.now) }
+    ensures { YieldsImage (λ p. record { form = counts.form; entries = p.entries.items; code = p.code.items; bytes = p.bytes.items; words = p.words.items }) result (body_at counts bytes.now) }
 {
     let (entries, rest) = entries(alloc, counts.threads, counts.words, bytes)?;
     let (code, rest) = words(alloc, counts.words as usize, rest)?;
@@ -140,7 +140,7 @@ fn body(alloc: Global, counts: Counts, bytes: &[u8]) -> Result<Parts, ImageErr>
 #[tactic(auto, unfolding(crate::specs::Guest::guest_at))]
 fn image(alloc: Global, bytes: &[u8]) -> Result<Image, ImageErr>
     ensures found { IfOk result (λ image. IsGuest image × (bytes.now ≡ encoding image)) }
-    ensures exact { Gives (λ image. image) result (guest_at bytes.now) }
+    ensures exact { YieldsImage (λ image. image) result (guest_at bytes.now) }
 {
     let (counts, rest) = counts(bytes)?;
     let Parts {
@@ -161,9 +161,9 @@ pub fn read_image(alloc: Global, bytes: &[u8]) -> Result<Image, ImageErr>
     // What is read is a guest within its limits, and encoded so.
     ensures found { IfOk result (λ image. IsGuest image × (bytes.now ≡ encoding image)) }
     // What is encoded so is read, unless memory runs out.
-    ensures only { (g : Guest) → IsGuest g → bytes.now ≡ encoding g → Gives (λ image. image) result (Ok g) }
+    ensures only { (g : Guest) → IsGuest g → bytes.now ≡ encoding g → YieldsImage (λ image. image) result (Ok g) }
     // Which fault it is.
-    ensures exact { Gives (λ image. image) result (guest_at bytes.now) }
+    ensures exact { YieldsImage (λ image. image) result (guest_at bytes.now) }
 {
     image(alloc, bytes)
 }

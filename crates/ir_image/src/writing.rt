@@ -30,7 +30,7 @@ fn put_words(out: &mut Vec<u8>, words: &[u32]) -> Result<(), AllocError>
 ///
 /// # Errors
 /// Out of memory.
-#[tactic(auto, using(crate::proofs::Fields::bytes_of_magic_number, crate::proofs::Forms::guest_threads_at_most_limit))]
+#[tactic(auto, using(crate::proofs::Fields::bytes_of_magic_number, crate::proofs::Forms::guest_threads_within))]
 pub fn write_image(alloc: Global, image: &Image) -> Result<Vec<u8>, AllocError>
     ensures { IfOk result (λ v. v.items ≡ encoding image.now) }
 {

@@ -4,3 +4,4 @@ mod RowLaws
 mod Unique
 mod DecodedLaws
 mod WordLaws
+pub mod CallerLemmas

@@ -20,8 +20,8 @@ false_if_not_is_true true h = sym h
 false_if_not_is_true false h = refl
 
 -- what isn't so where its test says no
-pub proposition_refuted_if_test_is_false : (b : Bool) (P : Type 0) → IsTrue b ↔ P → b ≡ false → P → ⊥
-proposition_refuted_if_test_is_false b P test is h = let so : IsTrue b = test.1 h in cc (is, so)
+pub refuted_by_false_test : (b : Bool) (P : Type 0) → IsTrue b ↔ P → b ≡ false → P → ⊥
+refuted_by_false_test b P test is h = let so : IsTrue b = test.1 h in cc (is, so)
 
 pub left_of_true_and : (a b : Bool) → (a && b) ≡ true → a ≡ true
 left_of_true_and true b e = refl

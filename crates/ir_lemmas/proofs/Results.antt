@@ -14,9 +14,9 @@ ok_is_injective {A} {E} x y e = ap value e
     value (Err z) = x
 
 -- what holds, holds at an error
-pub on_err_if_proposition_holds : {A E P : Type 0} (result : Result A E) → P → OnErr result P
-on_err_if_proposition_holds (Ok x) h = tt
-on_err_if_proposition_holds (Err e) h = h
+pub on_err_holds : {A E P : Type 0} (result : Result A E) → P → OnErr result P
+on_err_holds (Ok x) h = tt
+on_err_holds (Err e) h = h
 
 -- what follows from what is so on success
 pub on_ok_of_implied : {A E P Q : Type 0} (r : Result A E) → (P → Q) → OnOk r P → OnOk r Q
@@ -24,6 +24,6 @@ on_ok_of_implied (Ok x) f p = f p
 on_ok_of_implied (Err e) f p = tt
 
 -- there was the step, so it was taken
-pub ok_fact_if_error_refuted : {X E : Type 0} (result : Result X E) (P Q : Type 0) → P → OnErr result (P → ⊥) → OnOk result Q → Q
-ok_fact_if_error_refuted (Ok x) P Q p err ok = ok
-ok_fact_if_error_refuted (Err e) P Q p err ok = absurd (err p)
+pub ok_fact_holds : {X E : Type 0} (result : Result X E) (P Q : Type 0) → P → OnErr result (P → ⊥) → OnOk result Q → Q
+ok_fact_holds (Ok x) P Q p err ok = ok
+ok_fact_holds (Err e) P Q p err ok = absurd (err p)

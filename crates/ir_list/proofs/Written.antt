@@ -1,11 +1,10 @@
 -- Lines that are written one after the other.
 use Rattle.std.proofs.Common.{◌≡◌, ◌+◌, ◌<◌, ◌≤◌, ℕ, List, [], ◌++◌, length, drop, get_or, Option, refl, sym, ap, subst, ◌∙◌, append_assoc, append-nil}
-use Rattle.std.specs.Prelude.{Result, Ok, Err, OnErr}
 use Rattle.std.proofs.lemmas.List.{at_drop_more, at_drop_all}
 use Rattle.std.specs.Io.KnownBytes.{Appends}
 use Rattle.std.proofs.KnownBytes.{Appends-nil, Appends-trans}
 use Rattle.ir_stream.specs.Answers.{AppendsPrefix}
-use Rattle.ir_stream.proofs.CallerLemmas.{appends_prefix_of_append_if_first_appended, appends_prefix_of_longer_text}
+use Rattle.ir_stream.proofs.CallerLemmas.{appends_prefix_append, appends_prefix_longer}
 use Rattle.ir_list.specs.Listing.{lines_from}
 
 -- a first part of the text was written, and the rest is left
@@ -14,8 +13,8 @@ pub record Written (old new : Option (List ℕ)) (rest text : List ℕ) : Type 0
   pub grown : Appends old new part
   pub joined : part ++ rest ≡ text
 
-pub written_at_start_with_whole_text_left : (a : Option (List ℕ)) (text : List ℕ) → Written a a text text
-written_at_start_with_whole_text_left a text = record { part = []; grown = Appends-nil a; joined = refl }
+pub written_at_start : (a : Option (List ℕ)) (text : List ℕ) → Written a a text text
+written_at_start a text = record { part = []; grown = Appends-nil a; joined = refl }
 
 -- what is left of the lines of a list
 abbrev pub lines_left : (ℕ → ℕ → List ℕ) → ℕ → List ℕ → List ℕ
@@ -27,10 +26,10 @@ unfolding lines_from
 lines_left_step lines n xs some = at_drop_more (lines_from lines n) xs n 0 some
 
 -- one element's lines more
-pub written_after_next_line_is_appended : (lines : ℕ → ℕ → List ℕ) (a b c : Option (List ℕ)) (n : ℕ) (xs bytes text : List ℕ) → n < length xs
+pub written_next_line : (lines : ℕ → ℕ → List ℕ) (a b c : Option (List ℕ)) (n : ℕ) (xs bytes text : List ℕ) → n < length xs
     → bytes ≡ lines n (get_or xs n 0) → Written a b (lines_left lines n xs) text → Appends b c bytes
     → Written a c (lines_left lines (n + 1) xs) text
-written_after_next_line_is_appended lines a b c n xs bytes text some same w done =
+written_next_line lines a b c n xs bytes text some same w done =
     let here : List ℕ = lines n (get_or xs n 0) in
     record {
       part = w.part ++ here;
@@ -40,14 +39,14 @@ written_after_next_line_is_appended lines a b c n xs bytes text some same w done
     }
 
 -- a prefix of one element's lines more
-pub appends_prefix_of_text_if_prefix_of_next_line : (lines : ℕ → ℕ → List ℕ) (a b c : Option (List ℕ)) (n : ℕ) (xs bytes text : List ℕ) → n < length xs
+pub prefix_of_next_line : (lines : ℕ → ℕ → List ℕ) (a b c : Option (List ℕ)) (n : ℕ) (xs bytes text : List ℕ) → n < length xs
     → bytes ≡ lines n (get_or xs n 0) → Written a b (lines_left lines n xs) text → AppendsPrefix b c bytes → AppendsPrefix a c text
-appends_prefix_of_text_if_prefix_of_next_line lines a b c n xs bytes text some same w begun =
+prefix_of_next_line lines a b c n xs bytes text some same w begun =
     let here : List ℕ = lines n (get_or xs n 0) in
     subst (AppendsPrefix a c) (append_assoc w.part here (lines_left lines (n + 1) xs)
     ∙ ap (λ (l : List ℕ). w.part ++ l) (sym (lines_left_step lines n xs some)) ∙ w.joined)
-    (appends_prefix_of_longer_text a c (w.part ++ here) (lines_left lines (n + 1) xs)
-    (appends_prefix_of_append_if_first_appended a b c w.part here w.grown (subst (AppendsPrefix b c) same begun)))
+    (appends_prefix_longer a c (w.part ++ here) (lines_left lines (n + 1) xs)
+    (appends_prefix_append a b c w.part here w.grown (subst (AppendsPrefix b c) same begun)))
 
 -- nothing more
 pub written_part_is_prefix : (a b : Option (List ℕ)) (rest text : List ℕ) → Written a b rest text → AppendsPrefix a b text
@@ -60,9 +59,3 @@ unfolding lines_from
 written_whole_at_end lines a b n xs text none w =
     subst (Appends a b) (sym (append-nil w.part)
     ∙ ap (λ (l : List ℕ). w.part ++ l) (sym (at_drop_all (lines_from lines n) xs n none)) ∙ w.joined) w.grown
-
--- the second text after the first, if there was an error in it
-pub appends_prefix_after_whole_text : {A E : Type 0} (result : Result A E) (a b c : Option (List ℕ)) (first rest : List ℕ) → Appends a b first
-    → OnErr result (AppendsPrefix b c rest) → OnErr result (AppendsPrefix a c (first ++ rest))
-appends_prefix_after_whole_text (Ok x) a b c first rest done h = tt
-appends_prefix_after_whole_text (Err e) a b c first rest done h = appends_prefix_of_append_if_first_appended a b c first rest done h

@@ -38,8 +38,14 @@ fn show_fitted<O: Sink>(
     out: &mut O,
 ) -> Result<ExitStatus, PastErr>
     requires { O.broken out.old ≡ false }
-    ensures ok { IfOk result (λ status. (i t : List ℕ) → IsFit i t fitted.now → Answered (IsFitAnswerOf (AreEventLines symbols.now) i t) status (writer_of (O.written out.old) (O.written out.new) (O.broken out.new))) }
-    ensures fails { IfErr result (λ e. (i t : List ℕ) → IsFit i t fitted.now → NotAnswered (IsFitAnswerOf (AreEventLines symbols.now) i t) e (writer_of (O.written out.old) (O.written out.new) (O.broken out.new))) }
+    ensures ok { IfOk result
+        (λ status. (i t : List ℕ) → IsFit i t fitted.now
+        → Answered (IsFitAnswerOf (AreEventLines symbols.now) i t) status
+        (writer_of (O.written out.old) (O.written out.new) (O.broken out.new))) }
+    ensures fails { IfErr result
+        (λ e. (i t : List ℕ) → IsFit i t fitted.now
+        → NotAnswered (IsFitAnswerOf (AreEventLines symbols.now) i t) e
+        (writer_of (O.written out.old) (O.written out.new) (O.broken out.new))) }
 {
     let text = fitted_lines(alloc, fitted, symbols)?;
     write_all(out, text.as_slice())?;
@@ -80,7 +86,10 @@ pub fn events_run<O: Sink, E: Sink>(
     requires writes { O.broken out.old ≡ false }
     requires reports { E.broken faults.old ≡ false }
     // The answer was written, and no fault reported.
-    ensures done { result ≢ status.Failed → Answered (IsFitAnswerOf (AreEventLines symbols.now) image.now trace.now) result (writer_of (O.written out.old) (O.written out.new) (O.broken out.new)) × (faults.new ≡ faults.old) }
+    ensures done { result ≢ status.Failed
+        → Answered (IsFitAnswerOf (AreEventLines symbols.now) image.now trace.now) result
+        (writer_of (O.written out.old) (O.written out.new) (O.broken out.new))
+        × (faults.new ≡ faults.old) }
     // Else what stopped it, what that leaves, and that it is reported.
     ensures stopped { result ≡ status.Failed → (e : PastErr)
         × NotAnswered (IsFitAnswerOf (AreEventLines symbols.now) image.now trace.now) e (writer_of (O.written out.old) (O.written out.new) (O.broken out.new))

@@ -20,5 +20,5 @@ try_of _ = None
 
 -- the event may be logged of a step that asks so: the kinds agree, or the objects and what they are entered for; a try that got in is
 -- logged as an entry for writing
-abbrev pub Suits : Ask → Event → Type 0
-Suits asked event = (ask_of event ≡ asked) ⊎ (try_of event ≡ Some asked)
+abbrev pub SuitsEvent : Ask → Event → Type 0
+SuitsEvent asked event = (ask_of event ≡ asked) ⊎ (try_of event ≡ Some asked)

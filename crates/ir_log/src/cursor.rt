@@ -2,7 +2,7 @@
 
 ghost use Rattle.std.specs.Prelude.{◌≡◌, ◌<◌, ◌≤◌, ◌+◌, ℕ, slice_get, Some, IfOk, OnOk, OnErr};
 ghost use Rattle.ir_thread.specs.State.{most_events};
-ghost use Rattle.ir_log.specs.Asked.{Suits};
+ghost use Rattle.ir_log.specs.Asked.{SuitsEvent};
 ghost use Rattle.ir_log.specs.declared.event.Event.{Event};
 
 use crate::event::Event;
@@ -70,9 +70,9 @@ impl Cursor {
     #[inline(always)]
     pub fn expect(&self, log: &Log, ask: &Ask) -> Result<Event, Disagree>
         ensures next { IfOk result (λ event. slice_get log.now.events self.now ≡ Some event) }
-        ensures suits { IfOk result (λ event. Suits ask.now event) }
+        ensures suits { IfOk result (λ event. SuitsEvent ask.now event) }
         ensures further { OnOk result (self.now < most_events) }
-        ensures disagrees { OnErr result ((event : Event) → slice_get log.now.events self.now ≡ Some event → Suits ask.now event → ⊥) }
+        ensures disagrees { OnErr result ((event : Event) → slice_get log.now.events self.now ≡ Some event → SuitsEvent ask.now event → ⊥) }
     {
         match log.events().get(self.place) {
             Some(event) if event.suits(*ask) => Ok(*event),

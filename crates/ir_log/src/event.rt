@@ -29,7 +29,7 @@ pub enum Event {
 const _: () = prove!(size_of::<Event>() == 12);
 
 impl Event {
-    ghost use Rattle.ir_log.specs.Asked.{Suits, ask_of};
+    ghost use Rattle.ir_log.specs.Asked.{SuitsEvent, ask_of};
     ghost use Rattle.std.specs.Prelude.{◌≡◌, ◌↔◌, IsTrue};
 
     /// What a thread asks for at the step that this event is logged of. An entry for writing may be logged of a try too.
@@ -48,7 +48,7 @@ impl Event {
     /// logged as an entry for writing where it got in, and else as refused.
     #[inline(always)]
     pub fn suits(self, ask: Ask) -> bool
-        ensures { IsTrue result ↔ Suits ask self }
+        ensures { IsTrue result ↔ SuitsEvent ask self }
     {
         match self {
             Event::Write { object, .. } if ask == Ask::Try(object) => true,

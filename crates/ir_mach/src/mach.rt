@@ -214,7 +214,7 @@ impl Mach {
 
     // Carries out operations, at most `limit`, as long as none is unusual, and says how many, and whether it stopped because
     // a system call comes next.
-    #[tactic(auto, using(crate::proofs::Runs::unmarked_after_zero_steps))]
+    #[tactic(auto, using(crate::proofs::Runs::unmarked_after_zero))]
     #[inline(never)]
     pub(crate) fn run_usual(&mut self, operations: &[Operation], limit: u64) -> (u64, bool)
         ensures within { result.0 ≤ limit }

@@ -7,13 +7,13 @@ use Rattle.ir_image.specs.Guest.{Guest, form_at, counts_at, guest_at}
 use Rattle.ir_image.specs.declared.image_err.ImageErr.{ImageErr}
 use Rattle.ir_image.specs.declared.image_err.ImageErr.TheVariants.{Short, Magic}
 use Rattle.ir_bytes.specs.Reading.{field_at}
-use Rattle.ir_bytes.proofs.CallerLemmas.{number_at_of_little_bytes}
+use Rattle.ir_bytes.proofs.CallerLemmas.{number_at-little_bytes}
 use Rattle.ir_make.specs.Converting.{elf_image_bytes}
 use Rattle.ir_make.specs.Opening.{elf_magic, is_elf, image_bytes}
 
 elf_magic_is_refused : (rest : List ℕ) → guest_at (elf_magic ++ rest) ≡ Err Magic
 unfolding guest_at counts_at form_at field_at
-elf_magic_is_refused rest = rw (number_at_of_little_bytes Short 4 0x464c457f rest (omega arith)) refl
+elf_magic_is_refused rest = rw (number_at-little_bytes Short 4 0x464c457f rest (omega arith)) refl
 
 refused_is_no_guest : (why : ImageErr) (guest : Guest) → Err why ≡ Ok guest → ⊥
 refused_is_no_guest why guest e = cc

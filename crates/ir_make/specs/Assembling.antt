@@ -3,9 +3,10 @@ use Rattle.std.specs.Prelude.{◌≡◌, ◌⊎◌, ◌==◌, ◌&&◌, ℕ, ◌
 use Rattle.ir_image.specs.Guest.{Guest}
 use Rattle.ir_image.specs.Encoding.{encoding}
 use Rattle.ir_asm.specs.declared.cause.Cause.{Cause}
-use Rattle.ir_asm.specs.declared.cause.Cause.TheVariants.{BadByte, UnknownStatement, WrongOperands, UnknownRegister, BadNumber, LabelTwice, LabelMissing, TooFar, WrongSection, BadSize, BadCount, BadLabel}
-use Rattle.ir_asm.specs.Causes.{number_of}
-use Rattle.ir_asm.specs.Source.{Fault, lines_of}
+use Rattle.ir_asm.specs.declared.cause.Cause.TheVariants.{BadByte, UnknownStatement, WrongOperands, UnknownRegister, BadNumber, LabelTwice}
+use Rattle.ir_asm.specs.declared.cause.Cause.TheVariants.{LabelMissing, TooFar, WrongSection, BadSize, BadCount, BadLabel}
+use Rattle.ir_asm.specs.Causes.{number_of_cause}
+use Rattle.ir_asm.specs.Source.{Fault, source_lines}
 use Rattle.ir_asm.specs.Passes.{assembled}
 use Rattle.ir_files.specs.Writers.{Writer, Failed}
 
@@ -24,7 +25,7 @@ image_bytes source = spelled (assembled (map masked source))
 
 -- the line that reports a fault
 abbrev pub fault_line : Fault → List ℕ
-fault_line fault = codes "line " ++ (decimal fault.line ++ (codes " error " ++ (decimal (number_of fault.cause) ++ 10 ∷ [])))
+fault_line fault = codes "line " ++ (decimal fault.line ++ (codes " error " ++ (decimal (number_of_cause fault.cause) ++ 10 ∷ [])))
 
 -- a cause in words
 abbrev pub cause_words : Cause → List ℕ
@@ -46,16 +47,16 @@ abbrev pub most_shown : ℕ
 most_shown = 200
 
 -- a byte as it is shown: a tab as a space, one that isn't printable as a question mark
-abbrev pub shown : ℕ → ℕ
-shown b = if b == 9 then 32 else (if nat_le 32 b && nat_le b 126 then b else 63)
+abbrev pub shown_fault : ℕ → ℕ
+shown_fault b = if b == 9 then 32 else (if nat_le 32 b && nat_le b 126 then b else 63)
 
 -- the line of a text that has this number, counted from 1; nothing where there is none
-abbrev pub line_at : List ℕ → ℕ → List ℕ
-line_at text number = get_or (lines_of text) (number - 1) []
+abbrev pub source_line_at : List ℕ → ℕ → List ℕ
+source_line_at text number = get_or (source_lines text) (number - 1) []
 
 -- as much of the line as is shown, as it is shown
 abbrev pub shown_line : List ℕ → ℕ → List ℕ
-shown_line text number = map shown (take most_shown (line_at text number))
+shown_line text number = map shown_fault (take most_shown (source_line_at text number))
 
 -- what follows the cause: the line, if anything of it is shown
 abbrev pub after_cause : List ℕ → List ℕ
@@ -74,8 +75,8 @@ report (Some name) text fault = fault_line fault ++ explaining_line name text fa
 
 -- what is left if neither the whole image nor the whole report of a fault was written. Memory ran out, and nothing was; or the
 -- writer that is concerned failed, of the image or of faults, and the other is as it was
-abbrev pub Stops : Option (List ℕ) → List ℕ → Writer → Type 0 → Writer → Type 0 → Type 0
-Stops name source image image_same faults faults_same =
+abbrev pub StopsAssembling : Option (List ℕ) → List ℕ → Writer → Type 0 → Writer → Type 0 → Type 0
+StopsAssembling name source image image_same faults faults_same =
     (image_same × faults_same)
     ⊎ ((bytes : List ℕ) × (image_bytes source ≡ Ok bytes) × Failed image bytes × faults_same)
     ⊎ ((fault : Fault) × (image_bytes source ≡ Err fault) × Failed faults (report name (map masked source) fault) × image_same)

@@ -2,7 +2,7 @@
 use Rattle.std.specs.Prelude.{◌≡◌, ◌⊎◌, ℕ, List, [], ◌∷◌, ◌++◌, codes, decimal, Option, Some, None, Result, Ok, Err}
 use Rattle.ir_image.specs.Guest.{Guest}
 use Rattle.ir_image.specs.Encoding.{encoding}
-use Rattle.ir_elf.specs.Refusal.{refusal_number, refusal_words}
+use Rattle.ir_elf.specs.Refusal.{elf_refusal_number, refusal_words}
 use Rattle.ir_elf.specs.Reading.{elf_guest_at}
 use Rattle.ir_elf.specs.declared.refusal.Refusal.{Refusal}
 use Rattle.ir_files.specs.Writers.{Writer, Failed}
@@ -18,7 +18,7 @@ elf_image_bytes file = encoded (elf_guest_at file)
 
 -- the line that reports a refusal
 abbrev pub refusal_line : Refusal → List ℕ
-refusal_line refusal = codes "elf refused " ++ (decimal (refusal_number refusal) ++ 10 ∷ [])
+refusal_line refusal = codes "elf refused " ++ (decimal (elf_refusal_number refusal) ++ 10 ∷ [])
 
 -- the line that explains a refusal of the file of this name
 abbrev pub refusal_explained : List ℕ → Refusal → List ℕ

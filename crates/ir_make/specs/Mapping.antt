@@ -3,7 +3,7 @@ use Rattle.std.specs.Prelude.{◌≡◌, ℕ, true, List, map}
 use Rattle.ir_asm.specs.declared.form.Section.{Section}
 use Rattle.ir_asm.specs.declared.form.Section.TheVariants.{Text, Data}
 use Rattle.ir_asm.specs.declared.item.Place.{Place}
-use Rattle.ir_asm.specs.Text.{is_name}
+use Rattle.ir_asm.specs.Text.{is_source_name}
 use Rattle.ir_symbols.specs.Symbols.{Symbol}
 
 -- the letter by which `nm` shows a label of a section that no other file sees: `t` and `d`
@@ -13,7 +13,7 @@ letter_of Data = 100
 
 -- a label that a source may define: its name is a letter or `_`, and then letters, digits and `_`
 abbrev pub IsNamed : List ℕ × Place → Type 0
-IsNamed label = is_name label.0 ≡ true
+IsNamed label = is_source_name label.0 ≡ true
 
 -- the symbol of a label
 abbrev pub label_symbol : List ℕ × Place → Symbol

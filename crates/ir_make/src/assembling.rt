@@ -5,10 +5,10 @@ ghost use Rattle.std.specs.List.{All};
 ghost use Rattle.std.specs.Option.{option_map};
 ghost use Rattle.std.specs.String.{string_bytes};
 ghost use Rattle.std.specs.Io.KnownBytes.{Appends};
-ghost use Rattle.ir_asm.specs.Answered.{Answers};
+ghost use Rattle.ir_asm.specs.Answered.{AnswersSource};
 ghost use Rattle.ir_asm.specs.Source.{Fault};
 ghost use Rattle.ir_asm.specs.Passes.{assembled, labels_of};
-ghost use Rattle.ir_make.specs.Assembling.{masked, spelled, image_bytes, report, Stops};
+ghost use Rattle.ir_make.specs.Assembling.{masked, spelled, image_bytes, report, StopsAssembling};
 ghost use Rattle.ir_make.specs.Mapping.{IsNamed};
 ghost use Rattle.ir_files.specs.Writers.{writer_of, Failed};
 ghost use Rattle.ir_files.specs.declared.exit_status.ExitStatus.TheVariants as status;
@@ -42,7 +42,7 @@ fn text_of(alloc: Global, source: &[u8]) -> Result<String, AllocError>
 // The bytes of the image of a text, and its labels.
 #[tactic(auto, using(crate::proofs::LabelNames::source_labels_are_named))]
 fn assembly_of(alloc: Global, text: &str) -> Result<(Vec<u8>, Labels), AsmErr>
-    ensures image { Answers (λ a. a.0.items) result (spelled (assembled text.now)) }
+    ensures image { AnswersSource (λ a. a.0.items) result (spelled (assembled text.now)) }
     ensures labels { IfOk result (λ a. labels_of text.now ≡ Ok a.1) }
     ensures named { IfOk result (λ a. All IsNamed a.1) }
 {
@@ -61,7 +61,9 @@ fn tell_place<E: Sink>(
 ) -> ExitStatus
     requires { E.broken faults.old ≡ false }
     ensures status { (result ≡ status.Failed) ⊎ (result ≡ status.Refused) }
-    ensures reported { result ≡ status.Refused → Appends (E.written faults.old) (E.written faults.new) (report (option_map (λ s. s.now) explained.entry) text.now (record { line = line; cause = cause })) }
+    ensures reported { result ≡ status.Refused
+        → Appends (E.written faults.old) (E.written faults.new)
+        (report (option_map (λ s. s.now) explained.entry) text.now (record { line = line; cause = cause })) }
     ensures failed { result ≡ status.Failed → (faults.new ≡ faults.old)
         ⊎ Failed (writer_of (E.written faults.old) (E.written faults.new) (E.broken faults.new)) (report (option_map (λ s. s.now) explained.entry) text.now (record { line = line; cause = cause })) }
 {
@@ -98,7 +100,7 @@ pub fn asm_run<W: Sink, E: Sink>(
     // Of a source with a fault nothing is written.
     ensures unwritten { (fault : Fault) → image_bytes source.now ≡ Err fault → image.new ≡ image.old }
     // Memory ran out and nothing was written or reported, or a writer failed in what it was to take.
-    ensures stopped { IfErr result (λ e. e ≡ status.Failed → Stops (option_map (λ s. s.now) explained.entry) source.now
+    ensures stopped { IfErr result (λ e. e ≡ status.Failed → StopsAssembling (option_map (λ s. s.now) explained.entry) source.now
         (writer_of (W.written image.old) (W.written image.new) (W.broken image.new)) (image.new ≡ image.old)
         (writer_of (E.written faults.old) (E.written faults.new) (E.broken faults.new)) (faults.new ≡ faults.old)) }
 {

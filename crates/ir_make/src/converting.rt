@@ -4,7 +4,7 @@ ghost use Rattle.std.specs.Prelude.{◌≡◌, ◌⊎◌, ℕ, List, false, IfOk
 ghost use Rattle.std.specs.Option.{option_map};
 ghost use Rattle.std.specs.String.{string_bytes};
 ghost use Rattle.std.specs.Io.KnownBytes.{Appends};
-ghost use Rattle.ir_elf.specs.Refusal.{Gives};
+ghost use Rattle.ir_elf.specs.Refusal.{YieldsOrRefuses};
 ghost use Rattle.ir_elf.specs.declared.refusal.Refusal.{Refusal};
 ghost use Rattle.ir_files.specs.Writers.{writer_of, Failed};
 ghost use Rattle.ir_files.specs.declared.exit_status.ExitStatus.TheVariants as status;
@@ -20,7 +20,7 @@ use std::alloc::{AllocError, Global};
 
 // The bytes of the image of the file's guest.
 pub fn image_of(alloc: Global, file: &[u8]) -> Result<Vec<u8>, ElfErr>
-    ensures bytes { Gives (λ v. v.items) result (elf_image_bytes file.now) }
+    ensures bytes { YieldsOrRefuses (λ v. v.items) result (elf_image_bytes file.now) }
     ensures read { IfOk result (λ v. AreOfGuest file.now v.items) }
 {
     let image = read_elf(alloc, file)?;

@@ -1,7 +1,7 @@
 //! The image in a file that is one, or an ELF file.
 
 ghost use Rattle.std.specs.Prelude.{◌≡◌, true, IfOk};
-ghost use Rattle.ir_elf.specs.Refusal.{Gives};
+ghost use Rattle.ir_elf.specs.Refusal.{YieldsOrRefuses};
 ghost use Rattle.ir_make.specs.Opening.{is_elf, image_bytes, AreOfGuest};
 
 use crate::converting::image_of;
@@ -21,7 +21,7 @@ pub fn is_elf(file: &[u8]) -> bool
 /// # Errors
 /// The ELF file is no guest, or out of memory.
 pub fn image_bytes(alloc: Global, file: Vec<u8>) -> Result<Vec<u8>, ElfErr>
-    ensures bytes { Gives (λ v. v.items) result (image_bytes file.items) }
+    ensures bytes { YieldsOrRefuses (λ v. v.items) result (image_bytes file.items) }
     // Of an ELF file they are read as its guest.
     ensures read { is_elf file.items ≡ true → IfOk result (λ v. AreOfGuest file.items v.items) }
 {

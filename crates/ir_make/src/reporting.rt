@@ -3,7 +3,7 @@
 ghost use Rattle.std.specs.Prelude.{◌≡◌, ◌<◌, map, take, IfOk};
 ghost use Rattle.std.specs.Option.{option_map};
 ghost use Rattle.std.specs.String.{string_bytes};
-ghost use Rattle.ir_make.specs.Assembling.{cause_words, most_shown, shown, line_at, fault_line, explaining_line, report};
+ghost use Rattle.ir_make.specs.Assembling.{cause_words, most_shown, shown_fault, source_line_at, fault_line, explaining_line, report};
 
 use ir_asm::Cause;
 use std::alloc::{AllocError, Global};
@@ -33,7 +33,7 @@ fn words_of(cause: Cause) -> &'static str
 }
 
 fn shown(byte: u8) -> u8
-    ensures exact { result ≡ shown byte }
+    ensures exact { result ≡ shown_fault byte }
     ensures ascii { result < 128 }
 {
     match byte {
@@ -45,13 +45,13 @@ fn shown(byte: u8) -> u8
 
 // A line of a text, counted from 1; nothing where there is none.
 fn line_at(text: &str, number: usize) -> &str
-    ensures { result.now ≡ line_at text.now number }
+    ensures { result.now ≡ source_line_at text.now number }
 {
     text.lines().nth(number.saturating_sub(1)).unwrap_or("")
 }
 
 // As many bytes of a line as are shown.
-#[tactic(auto, using(crate::proofs::ShownLines::take_ignores_min_with_length))]
+#[tactic(auto, using(crate::proofs::ShownLines::take_min_length))]
 fn shown_part(line: &[u8]) -> &[u8]
     ensures { result.now ≡ take most_shown line.now }
 {
@@ -60,7 +60,7 @@ fn shown_part(line: &[u8]) -> &[u8]
 
 // Bytes as they are shown.
 fn shown_text(alloc: Global, bytes: &[u8]) -> Result<String, AllocError>
-    ensures { IfOk result (λ s. string_bytes s ≡ map shown bytes.now) }
+    ensures { IfOk result (λ s. string_bytes s ≡ map shown_fault bytes.now) }
 {
     let mut text = String::with_capacity(alloc, bytes.len())?;
     for byte in bytes {

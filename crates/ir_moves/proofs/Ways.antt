@@ -10,15 +10,15 @@ use Rattle.ir_runs.specs.Run.{Cut, IsCut, Consistent}
 use Rattle.ir_fit.specs.Fit.{FittedTrace, HasRun}
 use Rattle.ir_cut.specs.Positions.{machine_of, start_of, cut_of, IsConsistentCut}
 use Rattle.ir_cut.specs.Searching.{IsLeastCut}
-use Rattle.ir_weave.specs.Standing.{Standing, StandsAt, flat_in, IsBetween, positions}
-use Rattle.ir_moves.specs.Checkpoints.{Stands}
+use Rattle.ir_weave.specs.Standing.{Standing, StandsAtCut, flat_in, IsBetween, positions}
+use Rattle.ir_moves.specs.Checkpoints.{StandsAtState}
 use Rattle.ir_moves.specs.Parts.{IsOnWay}
 
 -- the least cut with a thread further lies below each such that is above
-pub least_cut_toward_target_is_on_way : (f : FittedTrace) (low : Cut) (target cut new : List ℕ) (t k : ℕ) → HasRun f → IsConsistentCut f target
+pub least_toward_on_way : (f : FittedTrace) (low : Cut) (target cut new : List ℕ) (t k : ℕ) → HasRun f → IsConsistentCut f target
     → IsOnWay f low (cut_of target) cut → k ≤ cut_of target t → IsLeastCut f cut t k new → IsConsistentCut f new
     → IsOnWay f low (cut_of target) new
-least_cut_toward_target_is_on_way f low target cut new t k h target_is way le least consistent =
+least_toward_on_way f low target cut new t k h target_is way le least consistent =
     let one = least.1 h.run h.whole in
     let aim = target_is h.run h.whole in
     record {
@@ -29,23 +29,23 @@ least_cut_toward_target_is_on_way f low target cut new t k h target_is way le le
     }
 
 -- the threads' own positions, as a list
-pub cut_of_list_of_steps_is_thread_steps : (threads : List thread.ThreadState) (t : ℕ) → cut_of (map (λ x. x.steps) threads) t ≡ (slice_index_or threads t idle).steps
-cut_of_list_of_steps_is_thread_steps threads t = get_or-map (λ (x : thread.ThreadState). x.steps) threads t idle
+pub cut_of-map_steps : (threads : List thread.ThreadState) (t : ℕ) → cut_of (map (λ x. x.steps) threads) t ≡ (slice_index_or threads t idle).steps
+cut_of-map_steps threads t = get_or-map (λ (x : thread.ThreadState). x.steps) threads t idle
 
-pub list_of_steps_is_own_cut : (f : FittedTrace) (s : Standing) (cut : List ℕ) → cut ≡ map (λ t. t.steps) s.threads → cut_of cut ≡ positions (flat_in f s)
-list_of_steps_is_own_cut f s cut is = fun_ext (λ t. ap (λ (c : List ℕ). cut_of c t) is ∙ cut_of_list_of_steps_is_thread_steps s.threads t)
+pub own_cut_is_positions : (f : FittedTrace) (s : Standing) (cut : List ℕ) → cut ≡ map (λ t. t.steps) s.threads → cut_of cut ≡ positions (flat_in f s)
+own_cut_is_positions f s cut is = fun_ext (λ t. ap (λ (c : List ℕ). cut_of c t) is ∙ cut_of-map_steps s.threads t)
 
-own_cut_is_consistent : (f : FittedTrace) (s : Standing) (cut : List ℕ) → Stands f s → cut_of cut ≡ positions (flat_in f s) → IsConsistentCut f cut
+own_cut_is_consistent : (f : FittedTrace) (s : Standing) (cut : List ℕ) → StandsAtState f s → cut_of cut ≡ positions (flat_in f s) → IsConsistentCut f cut
 own_cut_is_consistent f s cut h same run whole =
     let at = h.at.each run whole in
     subst (λ (q : Cut). IsCut (machine_of f) (start_of f) run q × Consistent (machine_of f) (start_of f) run q) (sym same)
     (at.cut, at.consistent)
 
 -- they are the beginning of the way
-pub own_cut_is_on_way_if_below_target : (f : FittedTrace) (s : Standing) (target cut : List ℕ) → Stands f s → cut ≡ map (λ t. t.steps) s.threads
+pub own_cut_on_way : (f : FittedTrace) (s : Standing) (target cut : List ℕ) → StandsAtState f s → cut ≡ map (λ t. t.steps) s.threads
     → ((t : ℕ) → positions (flat_in f s) t ≤ cut_of target t) → IsOnWay f (cut_of cut) (cut_of target) cut
-own_cut_is_on_way_if_below_target f s target cut h is below =
-    let same = list_of_steps_is_own_cut f s cut is in
+own_cut_on_way f s target cut h is below =
+    let same = own_cut_is_positions f s cut is in
     record {
       size = ap length is ∙ length-map s.threads (λ (x : thread.ThreadState). x.steps) ∙ h.at.threads;
       consistent = own_cut_is_consistent f s cut h same;
@@ -53,16 +53,16 @@ own_cut_is_on_way_if_below_target f s target cut h is below =
       below = subst (λ (q : Cut). (t : ℕ) → q t ≤ cut_of target t) (sym same) below;
     }
 
-pub is_on_way_from_own_positions_if_from_list_of_steps : (f : FittedTrace) (s : Standing) (target from cut : List ℕ) → from ≡ map (λ t. t.steps) s.threads
+pub on_way_from_own : (f : FittedTrace) (s : Standing) (target from cut : List ℕ) → from ≡ map (λ t. t.steps) s.threads
     → IsOnWay f (cut_of from) (cut_of target) cut → IsOnWay f (positions (flat_in f s)) (cut_of target) cut
-is_on_way_from_own_positions_if_from_list_of_steps f s target from cut is way = subst (λ (q : Cut). IsOnWay f q (cut_of target) cut) (list_of_steps_is_own_cut f s from is) way
+on_way_from_own f s target from cut is way = subst (λ (q : Cut). IsOnWay f q (cut_of target) cut) (own_cut_is_positions f s from is) way
 
 -- what is at such a cut isn't past the target
-pub standing_on_way_below_target : (f : FittedTrace) (low : Cut) (target cut : List ℕ) (s : Standing) → IsOnWay f low (cut_of target) cut
-    → StandsAt f (cut_of cut) s → (t : ℕ) → positions (flat_in f s) t ≤ cut_of target t
-standing_on_way_below_target f low target cut s way at t = let same = at.at.steps t in let le = way.below t in omega (arith, same, le)
+pub on_way_below_target : (f : FittedTrace) (low : Cut) (target cut : List ℕ) (s : Standing) → IsOnWay f low (cut_of target) cut
+    → StandsAtCut f (cut_of cut) s → (t : ℕ) → positions (flat_in f s) t ≤ cut_of target t
+on_way_below_target f low target cut s way at t = let same = at.at.steps t in let le = way.below t in omega (arith, same, le)
 
 -- what is between isn't either
-pub standing_between_on_way_below_target : (f : FittedTrace) (low : Cut) (target cut : List ℕ) (old new : Standing) → IsOnWay f low (cut_of target) cut
+pub between_below_target : (f : FittedTrace) (low : Cut) (target cut : List ℕ) (old new : Standing) → IsOnWay f low (cut_of target) cut
     → IsBetween f cut old new → (t : ℕ) → positions (flat_in f new) t ≤ cut_of target t
-standing_between_on_way_below_target f low target cut old new way between t = let b = between.below t in let le = way.below t in omega (arith, b, le)
+between_below_target f low target cut old new way between t = let b = between.below t in let le = way.below t in omega (arith, b, le)

@@ -2,8 +2,8 @@
 
 ghost use Rattle.std.specs.Prelude.{◌<◌, length, IfOk, IfSome};
 ghost use Rattle.ir_weave.specs.Standing.{flat_in, positions};
-ghost use Rattle.ir_moves.specs.Checkpoints.{AllStand, Stands};
-ghost use Rattle.ir_moves.specs.Below.{IsBelow};
+ghost use Rattle.ir_moves.specs.Checkpoints.{AllStandAtStates, StandsAtState};
+ghost use Rattle.ir_moves.specs.Below.{IsStateBelow};
 
 use ir_checkpoint::{Keeper, MOST_CHECKPOINTS};
 use ir_fit::Fitted;
@@ -25,9 +25,9 @@ fn below_at(
     t: usize,
     position: u64,
 ) -> Option<Found>
-    requires kept { AllStand fitted.now keeper.now.kept }
+    requires kept { AllStandAtStates fitted.now keeper.now.kept }
     requires thread { t < length fitted.now.guest.entries }
-    ensures { IfSome result (IsBelow keeper.now.kept t position) }
+    ensures { IfSome result (IsStateBelow keeper.now.kept t position) }
 {
     let number = keeper.number_at(place)?;
     let cut = keeper.cut(number)?;
@@ -51,9 +51,9 @@ pub fn is_further(best: Option<Found>, found: Found) -> bool {
 
 /// The state with the most steps of thread t, of those in which it is below the position.
 pub fn last_below(fitted: &Fitted, keeper: &Keeper, t: usize, position: u64) -> Option<Found>
-    requires kept { AllStand fitted.now keeper.now.kept }
+    requires kept { AllStandAtStates fitted.now keeper.now.kept }
     requires thread { t < length fitted.now.guest.entries }
-    ensures { IfSome result (IsBelow keeper.now.kept t position) }
+    ensures { IfSome result (IsStateBelow keeper.now.kept t position) }
 {
     let mut best: Option<Found> = None;
     for place in 0..MOST_CHECKPOINTS {
@@ -77,9 +77,9 @@ pub fn restore_found(
     position: u64,
     found: Found,
 ) -> Result<State, AllocError>
-    requires kept { AllStand fitted.now keeper.now.kept }
-    requires below { IsBelow keeper.now.kept t position found }
-    ensures stands { IfOk result (λ s. Stands fitted.now s) }
+    requires kept { AllStandAtStates fitted.now keeper.now.kept }
+    requires below { IsStateBelow keeper.now.kept t position found }
+    ensures stands { IfOk result (λ s. StandsAtState fitted.now s) }
     ensures below { IfOk result (λ s. positions (flat_in fitted.now s) t < position) }
 {
     keeper.restore(found.number)

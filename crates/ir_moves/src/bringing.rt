@@ -4,7 +4,7 @@ ghost use Rattle.std.specs.Prelude.{◌≡◌, ◌<◌, ◌≤◌, ℕ, true, fa
 ghost use Rattle.ir_flat.specs.Flat.{idle};
 ghost use Rattle.ir_cut.specs.Positions.{IsConsistentCut, cut_of};
 ghost use Rattle.ir_weave.specs.Standing.{flat_in, positions};
-ghost use Rattle.ir_moves.specs.Checkpoints.{Stands};
+ghost use Rattle.ir_moves.specs.Checkpoints.{StandsAtState};
 ghost use Rattle.ir_moves.specs.Parts.{IsOnWay};
 
 use crate::parts::part_of;
@@ -91,7 +91,7 @@ pub fn next_stop(
     target: &Cut,
     gap: u64,
 ) -> Option<Cut>
-    requires stands { Stands fitted.now state.now }
+    requires stands { StandsAtState fitted.now state.now }
     requires target { (length target.now ≡ length fitted.now.guest.entries) × IsConsistentCut fitted.now target.now }
     requires below { (t : ℕ) → positions (flat_in fitted.now state.now) t ≤ cut_of target.now t }
     ensures { IfSome result (λ c. IsOnWay fitted.now (positions (flat_in fitted.now state.now)) (cut_of target.now) c) }

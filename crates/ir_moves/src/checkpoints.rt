@@ -3,10 +3,10 @@
 ghost use Rattle.std.specs.Prelude.{◌≡◌, ◌<◌, ◌≤◌, ℕ, length, IfOk, IfErr, OnOk, IsOk};
 ghost use Rattle.ir_cut.specs.Positions.{IsConsistentCut, cut_of};
 ghost use Rattle.ir_checkpoint.specs.Keeping.{IsNearest};
-ghost use Rattle.ir_weave.specs.Standing.{StandsAt, flat_in, positions};
+ghost use Rattle.ir_weave.specs.Standing.{StandsAtCut, flat_in, positions};
 ghost use Rattle.ir_moves.specs.Checkpoints as checkpoints;
-ghost use Rattle.ir_moves.specs.Checkpoints.{AllStand, Stands};
-ghost use Rattle.ir_moves.specs.Below.{IsBefore};
+ghost use Rattle.ir_moves.specs.Checkpoints.{AllStandAtStates, StandsAtState};
+ghost use Rattle.ir_moves.specs.Below.{IsBelowState};
 
 use crate::below::{is_further, last_below, restore_found};
 use crate::bringing::{gap_of, is_past, is_there, next_stop, steps_before, steps_of};
@@ -41,9 +41,9 @@ impl Model for Checkpoints {
 
 // Keeps a state, and answers its number. None where 64 are kept beside the start, or all numbers were given.
 fn keep_in(fitted: &Fitted, keeper: &mut Keeper, state: &State) -> Result<Option<u32>, AllocError>
-    requires kept { AllStand fitted.now keeper.old.kept }
-    requires stands { Stands fitted.now state.now }
-    ensures { AllStand fitted.now keeper.new.kept }
+    requires kept { AllStandAtStates fitted.now keeper.old.kept }
+    requires stands { StandsAtState fitted.now state.now }
+    ensures { AllStandAtStates fitted.now keeper.new.kept }
 {
     if keeper.last() == u32::MAX {
         return Ok(None);
@@ -57,8 +57,8 @@ fn keep_in(fitted: &Fitted, keeper: &mut Keeper, state: &State) -> Result<Option
 
 // Gives up the state kept as this number, if it is kept, and isn't the start.
 fn drop_in(fitted: &Fitted, keeper: &mut Keeper, number: u32)
-    requires { AllStand fitted.now keeper.old.kept }
-    ensures { AllStand fitted.now keeper.new.kept }
+    requires { AllStandAtStates fitted.now keeper.old.kept }
+    ensures { AllStandAtStates fitted.now keeper.new.kept }
 {
     if number != 0 && keeper.cut(number).is_some() {
         keeper.drop_kept(number);
@@ -86,7 +86,7 @@ fn last_at(keeper: &Keeper, cut: &Cut) -> Option<u32> {
 
 // The number of the nearest state at or below the target.
 fn nearest_in(fitted: &Fitted, keeper: &Keeper, target: &Cut) -> u32
-    requires kept { AllStand fitted.now keeper.now.kept }
+    requires kept { AllStandAtStates fitted.now keeper.now.kept }
     requires target { length target.now ≡ length fitted.now.guest.entries }
     ensures { IsNearest target.now keeper.now result }
 {
@@ -108,9 +108,9 @@ fn restore_in(
     number: u32,
     target: &Cut,
 ) -> Result<State, AllocError>
-    requires kept { AllStand fitted.now keeper.now.kept }
+    requires kept { AllStandAtStates fitted.now keeper.now.kept }
     requires nearest { IsNearest target.now keeper.now number }
-    ensures stands { IfOk result (λ s. Stands fitted.now s) }
+    ensures stands { IfOk result (λ s. StandsAtState fitted.now s) }
     ensures below { IfOk result (λ s. (t : ℕ) → positions (flat_in fitted.now s) t ≤ cut_of target.now t) }
 {
     keeper.restore(number)
@@ -168,7 +168,7 @@ impl Checkpoints {
     /// Out of memory; the states that were asked for stay.
     pub fn keep(&mut self, fitted: &Fitted, state: &State) -> Result<(), AllocError>
         requires checkpoints { AreCheckpoints fitted.now self.old }
-        requires stands { Stands fitted.now state.now }
+        requires stands { StandsAtState fitted.now state.now }
         ensures { AreCheckpoints fitted.now self.new }
     {
         if let Err(AllocError) = keep_in(fitted, &mut self.asked, state) {
@@ -204,7 +204,7 @@ impl Checkpoints {
     fn nearest(&self, fitted: &Fitted, target: &Cut) -> Result<State, AllocError>
         requires checkpoints { AreCheckpoints fitted.now self.now }
         requires target { length target.now ≡ length fitted.now.guest.entries }
-        ensures stands { IfOk result (λ s. Stands fitted.now s) }
+        ensures stands { IfOk result (λ s. StandsAtState fitted.now s) }
         ensures below { IfOk result (λ s. (t : ℕ) → positions (flat_in fitted.now s) t ≤ cut_of target.now t) }
     {
         let asked = nearest_in(fitted, &self.asked, target);
@@ -221,7 +221,7 @@ impl Checkpoints {
         requires checkpoints { AreCheckpoints fitted.now self.old }
         requires target { length target.now ≡ length fitted.now.guest.entries }
         ensures checkpoints { AreCheckpoints fitted.now self.new }
-        ensures stands { IfOk result (λ s. Stands fitted.now s) }
+        ensures stands { IfOk result (λ s. StandsAtState fitted.now s) }
         ensures below { IfOk result (λ s. (t : ℕ) → positions (flat_in fitted.now s) t ≤ cut_of target.now t) }
     {
         if let Ok(state) = self.nearest(fitted, target) {
@@ -243,8 +243,8 @@ impl Checkpoints {
     ) -> Result<State, AllocError>
         requires checkpoints { AreCheckpoints fitted.now self.now }
         requires thread { t < length fitted.now.guest.entries }
-        ensures stands { IfOk result (λ s. Stands fitted.now s) }
-        ensures before { IfOk result (IsBefore fitted.now t position) }
+        ensures stands { IfOk result (λ s. StandsAtState fitted.now s) }
+        ensures before { IfOk result (IsBelowState fitted.now t position) }
     {
         let asked = last_below(fitted, &self.asked, t, position);
         if let Some(passed) = last_below(fitted, &self.passed, t, position) {
@@ -273,8 +273,8 @@ impl Checkpoints {
         requires checkpoints { AreCheckpoints fitted.now self.old }
         requires thread { t < length fitted.now.guest.entries }
         ensures checkpoints { AreCheckpoints fitted.now self.new }
-        ensures stands { IfOk result (λ s. Stands fitted.now s) }
-        ensures before { IfOk result (IsBefore fitted.now t position) }
+        ensures stands { IfOk result (λ s. StandsAtState fitted.now s) }
+        ensures before { IfOk result (IsBelowState fitted.now t position) }
     {
         if let Ok(state) = self.last_before(alloc, fitted, t, position) {
             return Ok(state);
@@ -298,7 +298,7 @@ impl Checkpoints {
     // Keeps a state that a move passes, in place of another where there are 64; whether it is kept.
     fn note(&mut self, fitted: &Fitted, state: &State, present: u64) -> bool
         requires checkpoints { AreCheckpoints fitted.now self.old }
-        requires stands { Stands fitted.now state.now }
+        requires stands { StandsAtState fitted.now state.now }
         ensures { AreCheckpoints fitted.now self.new }
     {
         if self.places.is_full() {
@@ -317,7 +317,7 @@ impl Checkpoints {
     /// Keeps a state that a search passes, as moves keep those that they pass. Where memory runs out it isn't kept.
     pub fn pass(&mut self, fitted: &Fitted, state: &State)
         requires checkpoints { AreCheckpoints fitted.now self.old }
-        requires stands { Stands fitted.now state.now }
+        requires stands { StandsAtState fitted.now state.now }
         ensures { AreCheckpoints fitted.now self.new }
     {
         self.note(fitted, state, steps_of(state.threads()));
@@ -333,11 +333,11 @@ impl Checkpoints {
         pace: &mut Pace,
     ) -> State
         requires checkpoints { AreCheckpoints fitted.now self.old }
-        requires stands { Stands fitted.now state }
+        requires stands { StandsAtState fitted.now state }
         requires target { (length target.now ≡ length fitted.now.guest.entries) × IsConsistentCut fitted.now target.now }
         requires below { (t : ℕ) → positions (flat_in fitted.now state) t ≤ cut_of target.now t }
         ensures checkpoints { AreCheckpoints fitted.now self.new }
-        ensures stands { Stands fitted.now result }
+        ensures stands { StandsAtState fitted.now result }
         ensures below { (t : ℕ) → positions (flat_in fitted.now result) t ≤ cut_of target.now t }
     {
         let mut state = state;
@@ -368,12 +368,12 @@ impl Checkpoints {
         target: &Cut,
     ) -> Result<State, (State, AllocError)>
         requires checkpoints { AreCheckpoints fitted.now self.old }
-        requires stands { Stands fitted.now state }
+        requires stands { StandsAtState fitted.now state }
         requires target { (length target.now ≡ length fitted.now.guest.entries) × IsConsistentCut fitted.now target.now }
         requires below { (t : ℕ) → positions (flat_in fitted.now state) t ≤ cut_of target.now t }
         ensures checkpoints { AreCheckpoints fitted.now self.new }
-        ensures ok { IfOk result (λ s. StandsAt fitted.now (cut_of target.now) s) }
-        ensures err { IfErr result (λ e. Stands fitted.now e.0) }
+        ensures ok { IfOk result (λ s. StandsAtCut fitted.now (cut_of target.now) s) }
+        ensures err { IfErr result (λ e. StandsAtState fitted.now e.0) }
     {
         let steps = steps_before(target).saturating_sub(steps_of(state.threads()));
         let mut pace = Pace::of_move(steps);
@@ -405,12 +405,12 @@ impl Checkpoints {
         target: &Cut,
     ) -> Result<(), AllocError>
         requires checkpoints { AreCheckpoints fitted.now self.old }
-        requires stands { Stands fitted.now state.old }
+        requires stands { StandsAtState fitted.now state.old }
         requires target { (length target.now ≡ length fitted.now.guest.entries) × IsConsistentCut fitted.now target.now }
         ensures checkpoints { AreCheckpoints fitted.now self.new }
-        ensures stands { Stands fitted.now state.new }
-        ensures there { OnOk result (StandsAt fitted.now (cut_of target.now) state.new) }
-        ensures already { StandsAt fitted.now (cut_of target.now) state.old → IsOk result }
+        ensures stands { StandsAtState fitted.now state.new }
+        ensures there { OnOk result (StandsAtCut fitted.now (cut_of target.now) state.new) }
+        ensures already { StandsAtCut fitted.now (cut_of target.now) state.old → IsOk result }
     {
         if is_there(state.threads(), target) {
             return Ok(());

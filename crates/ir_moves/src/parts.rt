@@ -3,7 +3,7 @@
 ghost use Rattle.std.specs.Prelude.{◌≡◌, ◌<◌, ◌≤◌, ℕ, length, map, IfOk};
 ghost use Rattle.ir_cut.specs.Positions.{IsConsistentCut, cut_of};
 ghost use Rattle.ir_weave.specs.Standing.{flat_in, positions};
-ghost use Rattle.ir_moves.specs.Checkpoints.{Stands};
+ghost use Rattle.ir_moves.specs.Checkpoints.{StandsAtState};
 ghost use Rattle.ir_moves.specs.Parts.{IsOnWay};
 
 use ir_cut::{Cut, least};
@@ -67,7 +67,7 @@ pub fn part_of(
     pieces: u64,
 ) -> Result<Cut, AllocError>
     requires some { 0 < pieces }
-    requires stands { Stands fitted.now state.now }
+    requires stands { StandsAtState fitted.now state.now }
     requires target { (length target.now ≡ length fitted.now.guest.entries) × IsConsistentCut fitted.now target.now }
     requires below { (t : ℕ) → positions (flat_in fitted.now state.now) t ≤ cut_of target.now t }
     ensures { IfOk result (λ c. IsOnWay fitted.now (positions (flat_in fitted.now state.now)) (cut_of target.now) c) }

@@ -15,15 +15,15 @@ pub digit_below_radix : (digit value radix : ℕ) → (value < radix) × (digit 
 digit_below_radix digit value radix h = omega arith
 
 -- one digit more
-pub value_with_digit_added_below_next_power_of_16 : (v r d i : ℕ) → v < 16 ^ i → r ≤ 16 → d < r → v * r + d < 16 ^ (i + 1)
-value_with_digit_added_below_next_power_of_16 v r d i small radix digit =
+pub value_digit_below_power : (v r d i : ℕ) → v < 16 ^ i → r ≤ 16 → d < r → v * r + d < 16 ^ (i + 1)
+value_digit_below_power v r d i small radix digit =
     let more : 16 ^ (i + 1) ≡ 16 ^ i * 16 = rw add-one (pow-suc 16 i) in
     let most : v * r ≤ v * 16 = mul-le-mul_left v radix in
     rw more (omega arith)
 
-pub value_with_digit_added_below_two_to_128 : (v r d i : ℕ) → v < 16 ^ i → r ≤ 16 → d < r → i < 20 → v * r + d < 2 ^ 128
-value_with_digit_added_below_two_to_128 v r d i small radix digit short =
-    let next = value_with_digit_added_below_next_power_of_16 v r d i small radix digit in
+pub value_digit_below_128_bits : (v r d i : ℕ) → v < 16 ^ i → r ≤ 16 → d < r → i < 20 → v * r + d < 2 ^ 128
+value_digit_below_128_bits v r d i small radix digit short =
+    let next = value_digit_below_power v r d i small radix digit in
     let most : 16 ^ (i + 1) ≤ 16 ^ 20 = pow-le-pow_right {n = 16} (omega arith) {i = i + 1} {j = 20} (omega arith) in
     omega arith
 
@@ -51,18 +51,18 @@ pub value_of_prefix_step : (r i v d byte : ℕ) (ds : List ℕ) → i < length d
 value_of_prefix_step r i v d byte ds lt is digit radix so_far = record {
   all = all_digits_step r i byte ds lt is digit.0 so_far.all;
   value = digits_value_step r i v d byte ds lt is digit.1 so_far.value;
-  small = value_with_digit_added_below_next_power_of_16 v r d i so_far.small radix (digit_below_radix d (digit_value byte) r digit);
+  small = value_digit_below_power v r d i so_far.small radix (digit_below_radix d (digit_value byte) r digit);
 }
 
 -- more digits write no less at most
-number_below_greater_power_of_16 : (v i j : ℕ) → v < 16 ^ i → i ≤ j → v < 16 ^ j
-number_below_greater_power_of_16 v i j small more =
+below_greater_power : (v i j : ℕ) → v < 16 ^ i → i ≤ j → v < 16 ^ j
+below_greater_power v i j small more =
     let most : 16 ^ i ≤ 16 ^ j = pow-le-pow_right {n = 16} (omega arith) {i = i} {j = j} more in
     omega (arith, small, most)
 
-pub found_value_below_greater_power : (found : Option ℕ) (i j : ℕ) → i ≤ j → IfSome found (λ v. v < 16 ^ i) → IfSome found (λ v. v < 16 ^ j)
-found_value_below_greater_power None i j more small = small
-found_value_below_greater_power (Some v) i j more small = number_below_greater_power_of_16 v i j small more
+pub found_value_bound : (found : Option ℕ) (i j : ℕ) → i ≤ j → IfSome found (λ v. v < 16 ^ i) → IfSome found (λ v. v < 16 ^ j)
+found_value_bound None i j more small = small
+found_value_bound (Some v) i j more small = below_greater_power v i j small more
 
-pub found_value_of_ten_digits_below_two_to_40 : (found : Option ℕ) (i : ℕ) → i ≤ 10 → IfSome found (λ v. v < 16 ^ i) → IfSome found (λ v. v < 2 ^ 40)
-found_value_of_ten_digits_below_two_to_40 found i few small = found_value_below_greater_power found i 10 few small
+pub ten_digits_value_bound : (found : Option ℕ) (i : ℕ) → i ≤ 10 → IfSome found (λ v. v < 16 ^ i) → IfSome found (λ v. v < 2 ^ 40)
+ten_digits_value_bound found i few small = found_value_bound found i 10 few small

@@ -25,9 +25,9 @@ objects_after f [] = f
 objects_after f (x ∷ xs) = objects_after (objects_then f x) xs
 
 -- each object step is allowed after those before it, and answers what it says
-abbrev pub IsAllowed : {T : Type 0} → Machine T → (ℕ → Object) → List (ℕ × Shared) → Type 0
-IsAllowed m f [] = Unit {0}
-IsAllowed m f (x ∷ xs) = Admits m x.1.0 (f (target x.1.0)) × (reply x.1.0 (f (target x.1.0)) ≡ x.1.1) × IsAllowed m (objects_then f x) xs
+abbrev pub IsAllowedStep : {T : Type 0} → Machine T → (ℕ → Object) → List (ℕ × Shared) → Type 0
+IsAllowedStep m f [] = Unit {0}
+IsAllowedStep m f (x ∷ xs) = Admits m x.1.0 (f (target x.1.0)) × (reply x.1.0 (f (target x.1.0)) ≡ x.1.1) × IsAllowedStep m (objects_then f x) xs
 
 -- what each object step of the order emits
 abbrev pub order_labels : (ℕ → Object) → List (ℕ × Shared) → List (ℕ × Label)
@@ -47,7 +47,7 @@ Uses Never i = ⊥
 
 -- the object step is one of n threads' and of `count` objects', its thread is inside as it has to be, it is admitted, and this is its
 -- answer
-pub record IsStep {T : Type 0} (m : Machine T) (n count : ℕ) (f : ℕ → Object) (x : ℕ × Shared) : Type 0 where
+pub record IsObjectStep {T : Type 0} (m : Machine T) (n count : ℕ) (f : ℕ → Object) (x : ℕ × Shared) : Type 0 where
   pub thread : x.0 < n
   pub object : target x.1.0 < count
   pub uses : Uses x.1.0 ((f (target x.1.0)).inside x.0)
@@ -57,7 +57,7 @@ pub record IsStep {T : Type 0} (m : Machine T) (n count : ℕ) (f : ℕ → Obje
 -- each object step is one after those before it
 abbrev pub IsLegal : {T : Type 0} → Machine T → ℕ → ℕ → (ℕ → Object) → List (ℕ × Shared) → Type 0
 IsLegal m n count f [] = Unit {0}
-IsLegal m n count f (x ∷ xs) = IsStep m n count f x × IsLegal m n count (objects_then f x) xs
+IsLegal m n count f (x ∷ xs) = IsObjectStep m n count f x × IsLegal m n count (objects_then f x) xs
 
 -- how a thread is inside an object after an act about it
 abbrev pub inside_then : Act → Option Access → Option Access

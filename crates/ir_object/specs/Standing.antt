@@ -5,7 +5,7 @@ use Rattle.ir_runs.specs.declared.access.Access.{Access}
 use Rattle.ir_runs.specs.declared.access.Access.TheVariants.{Reading, Writing}
 use Rattle.ir_object.specs.declared.fields.Fields.{Fields}
 use Rattle.ir_runs.specs.Machine.{Object, acted, Entered, Left, Stored}
-use Rattle.ir_object.specs.Word.{entered, left_by}
+use Rattle.ir_object.specs.Word.{entered_word, left_by}
 use Rattle.ir_object.specs.Cell.{Cell, Counts}
 
 -- whether an entry is admitted
@@ -33,7 +33,7 @@ pub record WordsStand : Type 0 where
   pub leaves : (n : ℕ) (f : Fields) (inside : ℕ → Option Access) (t : ℕ) (a : Access) → t < n → inside t ≡ Some a → Counts n f inside
       → CanLeave a f
   pub entry : (n : ℕ) (c : Cell) (b : Object) (t : ℕ) (a : Access) (v : ℕ) → t < n → b.inside t ≡ None → StandsFor n c b
-      → StandsFor n (record c { fields = entered a c.fields }) (acted (Entered 0 a v) t b)
+      → StandsFor n (record c { fields = entered_word a c.fields }) (acted (Entered 0 a v) t b)
   pub exit : (n : ℕ) (c : Cell) (b : Object) (t : ℕ) (a : Access) → t < n → b.inside t ≡ Some a
       → (a ≡ Writing → (u : ℕ) → u ≢ t → b.inside u ≡ None) → StandsFor n c b
       → StandsFor n (record c { fields = left_by a c.fields }) (acted (Left 0 a) t b)

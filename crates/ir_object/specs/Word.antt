@@ -36,8 +36,8 @@ abbrev pub bit_of : Bool → ℕ
 bit_of writer = if writer then 1 else 0
 
 -- the word that says so
-abbrev pub word_of : Fields → ℕ
-word_of f = f.version * version_unit + f.left * left_unit + f.inside * reader_unit + bit_of f.writer
+abbrev pub word_of_object : Fields → ℕ
+word_of_object f = f.version * version_unit + f.left * left_unit + f.inside * reader_unit + bit_of f.writer
 
 -- what a word says
 abbrev pub fields_of : ℕ → Fields
@@ -49,9 +49,9 @@ fields_of word = record {
 }
 
 -- what is said after an entry
-abbrev pub entered : Access → Fields → Fields
-entered Reading f = record f { inside = f.inside + 1 }
-entered Writing f = record f { writer = true }
+abbrev pub entered_word : Access → Fields → Fields
+entered_word Reading f = record f { inside = f.inside + 1 }
+entered_word Writing f = record f { writer = true }
 
 -- what is said after a reader has left; a writer leaves no thread inside, and a new version
 abbrev pub left_by : Access → Fields → Fields
@@ -60,12 +60,12 @@ left_by Writing f = record { version = f.version + 1; left = 0; inside = 0; writ
 
 -- fields and words are the same
 abbrev pub OneWordEach : Type 0
-OneWordEach = (f : Fields) → IsFields f → fields_of (word_of f) ≡ f
+OneWordEach = (f : Fields) → IsFields f → fields_of (word_of_object f) ≡ f
 
 -- what an entry and a leave make of the word: a reader adds one inside and then takes it to those who have left, a writer adds 1, and
 -- leaves the next version alone
 pub record StepsOfWords : Type 0 where
-  pub read : (f : Fields) → word_of (entered Reading f) ≡ word_of f + reader_unit
-  pub read_left : (f : Fields) → 0 < f.inside → word_of (left_by Reading f) ≡ word_of f + reader_leaves
-  pub written : (f : Fields) → f.writer ≡ false → word_of (entered Writing f) ≡ word_of f + 1
-  pub write_left : (f : Fields) → word_of (left_by Writing f) ≡ (f.version + 1) * version_unit
+  pub read : (f : Fields) → word_of_object (entered_word Reading f) ≡ word_of_object f + reader_unit
+  pub read_left : (f : Fields) → 0 < f.inside → word_of_object (left_by Reading f) ≡ word_of_object f + reader_leaves
+  pub written : (f : Fields) → f.writer ≡ false → word_of_object (entered_word Writing f) ≡ word_of_object f + 1
+  pub write_left : (f : Fields) → word_of_object (left_by Writing f) ≡ (f.version + 1) * version_unit

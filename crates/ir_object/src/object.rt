@@ -4,7 +4,7 @@ ghost use Rattle.ir_image.specs.Guest.{most_object_words};
 ghost use Rattle.ir_object.specs.Cell.{Cell};
 ghost use Rattle.ir_object.specs.Standing.{Admitted, CanLeave, StandsFor};
 ghost use Rattle.ir_runs.specs.Machine.{Object, acted, Entered, Left, Stored};
-ghost use Rattle.ir_object.specs.Word.{IsFields, fields_of, entered, left_by};
+ghost use Rattle.ir_object.specs.Word.{IsFields, fields_of, entered_word, left_by};
 ghost use Rattle.ir_runs.specs.declared.access.Access.TheVariants.{Reading, Writing};
 ghost use Rattle.std.specs.Prelude.{◌≡◌, ◌<◌, ◌≢◌, ◌↔◌, ℕ, false, length, slice_index, slice_set, IsTrue, Some, None};
 
@@ -93,11 +93,11 @@ impl Object {
     }
 
     /// A thread enters.
-    #[tactic(auto, using(crate::proofs::Words::fields_after_reader_entry, crate::proofs::Words::fields_after_writer_entry))]
+    #[tactic(auto, using(crate::proofs::Words::reader_entry_fields, crate::proofs::Words::writer_entry_fields))]
     pub fn enter(&mut self, access: Access)
         requires admitted { Admitted access self.old.fields }
-        requires fits { IsFields (entered access self.old.fields) }
-        ensures { self.new ≡ record self.old { fields = entered access self.old.fields } }
+        requires fits { IsFields (entered_word access self.old.fields) }
+        ensures { self.new ≡ record self.old { fields = entered_word access self.old.fields } }
     {
         match access {
             Access::Reading => self.word.bits += Word::READER_ENTERS,
@@ -106,7 +106,7 @@ impl Object {
     }
 
     /// A thread that is inside leaves.
-    #[tactic(auto, using(crate::proofs::Words::fields_after_reader_leave_of_word, crate::proofs::Words::fields_after_writer_leave))]
+    #[tactic(auto, using(crate::proofs::Words::word_reader_leave_fields, crate::proofs::Words::writer_leave_fields))]
     pub fn leave(&mut self, access: Access)
         requires inside { CanLeave access self.old.fields }
         requires fits { IsFields (left_by access self.old.fields) }

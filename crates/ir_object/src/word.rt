@@ -1,7 +1,7 @@
 //! The word of an object.
 
 ghost use Rattle.ir_object.specs.Standing.{Admitted};
-ghost use Rattle.ir_object.specs.Word.{IsFields, word_of, fields_of, left_by};
+ghost use Rattle.ir_object.specs.Word.{IsFields, word_of_object, fields_of, left_by};
 ghost use Rattle.ir_runs.specs.declared.access.Access.TheVariants.{Reading, Writing};
 ghost use Rattle.std.specs.Prelude.{◌≡◌, ◌↔◌, ◌+◌, ◌<◌, ◌^◌, IsTrue};
 
@@ -37,7 +37,7 @@ impl Word {
     /// The word that says so.
     pub fn pack(fields: Fields) -> Word
         requires { IsFields fields }
-        ensures { result.bits ≡ word_of fields }
+        ensures { result.bits ≡ word_of_object fields }
     {
         Word {
             bits: fields.version as u64 * VERSION
@@ -51,7 +51,7 @@ impl Word {
     pub fn fields(self) -> Fields
         ensures value { result ≡ fields_of self.bits }
         ensures fits { IsFields result }
-        ensures word { word_of result ≡ self.bits }
+        ensures word { word_of_object result ≡ self.bits }
     {
         Fields {
             version: self.version(),
@@ -92,7 +92,7 @@ impl Word {
     /// The word once the writer who is inside has left: the next version alone.
     pub fn next_version(self) -> Word
         requires { (fields_of self.bits).version + 1 < 2 ^ 32 }
-        ensures { result.bits ≡ word_of (left_by Writing (fields_of self.bits)) }
+        ensures { result.bits ≡ word_of_object (left_by Writing (fields_of self.bits)) }
     {
         Word {
             bits: (u64::from(self.version()) + 1) * VERSION,

@@ -16,19 +16,19 @@ use Rattle.ir_trace.specs.Absent.{absent}
 use Rattle.ir_fit.specs.Fit.{FittedTrace, HasRun}
 use Rattle.ir_fit.proofs.CallerLemmas.{guest_start_is_start}
 use Rattle.ir_cut.specs.Positions.{machine_of, start_of}
-use Rattle.ir_cut.proofs.CallerLemmas.{no_trail_of_missing_thread}
-use Rattle.ir_weave.proofs.CallerLemmas.{guest_machine_is_lawful, state_invariant_at_guest_start}
+use Rattle.ir_cut.proofs.CallerLemmas.{missing_has_no_trail}
+use Rattle.ir_weave.proofs.CallerLemmas.{guest_machine_is_lawful, guest_start_invariant}
 use Rattle.ir_past.specs.Answers.{AreCoherent}
 
 pub run_trace_is_coherent : (f : FittedTrace) → HasRun f → AreCoherent f.recorded
 run_trace_is_coherent f h =
     let n : ℕ = length f.recorded.threads in
     let size : n ≡ length f.guest.entries = h.whole.0.threads in
-    let c = own_trace_is_coherent (length f.guest.entries) (machine_of f) (guest_machine_is_lawful f) (start_of f) (state_invariant_at_guest_start f)
+    let c = own_trace_is_coherent (length f.guest.entries) (machine_of f) (guest_machine_is_lawful f) (start_of f) (guest_start_invariant f)
     (guest_start_is_start f.guest f.recorded.budget f.recorded.profile) (guest_start_is_idle f.guest f.recorded.budget f.recorded.profile) h.run h.whole.1.runs in
     let same : (λ (t : ℕ). log (machine_of f) (start_of f) h.run t) ≡ (trace_of f.recorded).logs = fun_ext (λ t. elim (cases_lt t (length f.guest.entries)) [
       | inl l ↦ h.whole.1.logs t l
-      | inr past ↦ ap events (no_trail_of_missing_thread f h.run h.whole t past)
+      | inr past ↦ ap events (missing_has_no_trail f h.run h.whole t past)
           ∙ ap (λ (x : RecordedThread). map label_of x.events) (sym (get_or_past f.recorded.threads t absent (omega (arith, past, size))))
     ]) in
     record {

@@ -2,14 +2,14 @@
 use Rattle.std.proofs.Common.{◌≡◌, ◌⊎◌, ℕ, zero, suc, ◌+◌, ◌<◌, ◌≤◌, inl, inr, Some, List, [], ◌∷◌, ◌++◌, get_or, length, refl, sym, ap, ◌∙◌, subst, arith}
 use Rattle.std.specs.Prelude.{slice_get}
 use Rattle.std.proofs.lemmas.Option.{same_Some, none-some}
-use Rattle.ir_lemmas.proofs.CallerLemmas.{slice_get_of_append_cases}
+use Rattle.ir_lemmas.proofs.CallerLemmas.{slice_get_append_cases}
 use Rattle.ir_opened.specs.Paired.{ArePaired}
 
 -- an element of a list is at its place
-pub slice_get_is_get_or_below_length : {X : Type 0} (xs : List X) (n : ℕ) (d : X) → n < length xs → slice_get xs n ≡ Some (get_or xs n d)
-slice_get_is_get_or_below_length [] n d l = absurd (omega arith)
-slice_get_is_get_or_below_length (x ∷ xs) zero d l = refl
-slice_get_is_get_or_below_length (x ∷ xs) (suc n) d l = slice_get_is_get_or_below_length xs n d (omega arith)
+pub slice_get_as_get_or : {X : Type 0} (xs : List X) (n : ℕ) (d : X) → n < length xs → slice_get xs n ≡ Some (get_or xs n d)
+slice_get_as_get_or [] n d l = absurd (omega arith)
+slice_get_as_get_or (x ∷ xs) zero d l = refl
+slice_get_as_get_or (x ∷ xs) (suc n) d l = slice_get_as_get_or xs n d (omega arith)
 
 -- the first n elements have theirs
 pub record ArePairedTo {X Y : Type 0} (P : X → Y → Type 0) (xs : List X) (n : ℕ) (ys : List Y) : Type 0 where
@@ -23,7 +23,7 @@ pub paired_to_next_element : {X Y : Type 0} (P : X → Y → Type 0) (xs : List 
     → slice_get xs n ≡ Some x → P x y → ArePairedTo P xs (n + 1) (ys ++ y ∷ [])
 paired_to_next_element P xs n ys x y h at is = record {
   size = long ys y ∙ ap (λ k. k + 1) h.size;
-  each = λ k z w a b. elim (slice_get_of_append_cases ys (y ∷ []) k w b) [
+  each = λ k z w a b. elim (slice_get_append_cases ys (y ∷ []) k w b) [
     | inl before ↦ h.each k z w a before
     | inr here ↦ last k z w a here.0 here.1 here.2
   ];

@@ -14,44 +14,44 @@ use Rattle.ir_opened.specs.declared.opened.Refusal.{Refusal}
 use Rattle.ir_opened.specs.declared.opened.Refusal.TheVariants as refusal
 
 -- a text that says why bytes don't fit was written, or was stopped
-pub refusal_is_answered_or_stopped : (P : FittedTrace → List ℕ → Type 0) (image trace : List ℕ) (why : Refusal) (result : Result ExitStatus PastErr)
+pub fit_refusal_is_answered : (P : FittedTrace → List ℕ → Type 0) (image trace : List ℕ) (why : Refusal) (result : Result ExitStatus PastErr)
     (a b : Option (List ℕ)) (failed : Bool) → IsUnfitFor image trace why → IfOk result (λ s. s ≡ unfit_status why)
     → OnOk result (Appends a b (unfit_text why)) → OnOk result (failed ≡ false)
     → IfErr result (λ e. Stops e (writer_of a b failed) (unfit_text why))
     → IfOk result (λ s. Answered (IsFitAnswerOf P image trace) s (writer_of a b failed))
     × IfErr result (λ e. NotAnswered (IsFitAnswerOf P image trace) e (writer_of a b failed))
-refusal_is_answered_or_stopped P image trace why (Ok s) a b failed because same written works fails = (
+fit_refusal_is_answered P image trace why (Ok s) a b failed because same written works fails = (
   answered_if_written (IsFitAnswerOf P image trace) s a b failed (unfit_text why)
       (inr (record { why = why; because = because; status = same; line = refl })) written works,
   tt,
 )
-refusal_is_answered_or_stopped P image trace why (Err e) a b failed because same written works fails = (
+fit_refusal_is_answered P image trace why (Err e) a b failed because same written works fails = (
   tt,
   not_answered_if_stopped (IsFitAnswerOf P image trace) (unfit_status why) (unfit_text why) e (writer_of a b failed)
       (inr (record { why = why; because = because; status = refl; line = refl })) fails,
 )
 
 -- a refusal leaves the status of neither a failure nor bad arguments
-pub refusal_status_is_no_failure : (why : Refusal) → (status.Failed ≡ unfit_status why → ⊥) × (status.BadArguments ≡ unfit_status why → ⊥)
-refusal_status_is_no_failure (refusal.NoImage fault) = (
+pub unfit_status_no_failure : (why : Refusal) → (status.Failed ≡ unfit_status why → ⊥) × (status.BadArguments ≡ unfit_status why → ⊥)
+unfit_status_no_failure (refusal.NoImage fault) = (
   (λ same. let bad : status.Failed ≡ status.Refused = same in cc),
   (λ same. let bad : status.BadArguments ≡ status.Refused = same in cc),
 )
-refusal_status_is_no_failure (refusal.NoTrace fault) = (
+unfit_status_no_failure (refusal.NoTrace fault) = (
   (λ same. let bad : status.Failed ≡ status.Refused = same in cc),
   (λ same. let bad : status.BadArguments ≡ status.Refused = same in cc),
 )
-refusal_status_is_no_failure (refusal.NoRun verdict) = (
+unfit_status_no_failure (refusal.NoRun verdict) = (
   (λ same. let bad : status.Failed ≡ status.NotFit = same in cc),
   (λ same. let bad : status.BadArguments ≡ status.NotFit = same in cc),
 )
 
 -- no answer leaves the status of a failure
-answer_status_is_not_failed : (P : FittedTrace → List ℕ → Type 0) (image trace text : List ℕ) → IsFitAnswerOf P image trace status.Failed text → ⊥
-answer_status_is_not_failed P image trace text (inl h) = let bad : status.Failed ≡ status.Done = h.status in cc
-answer_status_is_not_failed P image trace text (inr h) = (refusal_status_is_no_failure h.why).0 h.status
+fit_answer_not_failed : (P : FittedTrace → List ℕ → Type 0) (image trace text : List ℕ) → IsFitAnswerOf P image trace status.Failed text → ⊥
+fit_answer_not_failed P image trace text (inl h) = let bad : status.Failed ≡ status.Done = h.status in cc
+fit_answer_not_failed P image trace text (inr h) = (unfit_status_no_failure h.why).0 h.status
 
-pub answered_status_is_not_failed : (P : FittedTrace → List ℕ → Type 0) (image trace : List ℕ) (s : ExitStatus) (w : Writer)
+pub fit_answered_not_failed : (P : FittedTrace → List ℕ → Type 0) (image trace : List ℕ) (s : ExitStatus) (w : Writer)
     → Answered (IsFitAnswerOf P image trace) s w → s ≡ status.Failed → ⊥
-answered_status_is_not_failed P image trace s w a same =
-    answer_status_is_not_failed P image trace a.text (subst (λ (z : ExitStatus). IsFitAnswerOf P image trace z a.text) same a.is)
+fit_answered_not_failed P image trace s w a same =
+    fit_answer_not_failed P image trace a.text (subst (λ (z : ExitStatus). IsFitAnswerOf P image trace z a.text) same a.is)

@@ -11,7 +11,7 @@ use Rattle.ir_fit.specs.Fit.{FittedTrace, HasRun}
 use Rattle.ir_fit.specs.declared.leave.Leave.{Leave}
 use Rattle.ir_cut.specs.Positions.{EachRun, machine_of, start_of}
 use Rattle.ir_past.specs.Past.{event_at, entered}
-use Rattle.ir_events.specs.Events.{entries_of, entry_of}
+use Rattle.ir_events.specs.Events.{entries_of, event_entry}
 
 -- thread t of the guest has an event i
 pub record IsInside (f : FittedTrace) (t i : ℕ) : Type 0 where
@@ -32,7 +32,7 @@ EntryLeaves f t from (Some (Try o)) k = ⊥
 
 -- step k of thread t is past its event i, and leaves the object that the event entered
 abbrev pub LeavesAfter : FittedTrace → ℕ → ℕ → ℕ → Type 0
-LeavesAfter f t i k = EntryLeaves f t (entry_of f t i + 1) (event_at f.recorded t i) k
+LeavesAfter f t i k = EntryLeaves f t (event_entry f t i + 1) (event_at f.recorded t i) k
 
 -- and is the first that does
 pub record IsLeaveOf (f : FittedTrace) (t i k : ℕ) : Type 0 where

@@ -3,7 +3,7 @@
 ghost use Rattle.std.specs.Prelude.{◌≡◌, ◌<◌, ◌≤◌, ◌↔◌, ℕ, None, length, IsTrue, IfSome, IfNone, MatchOption, IfOk};
 ghost use Rattle.std.specs.List.Sorted.{IsNonDecreasingBy, IsPartitionPoint};
 ghost use Rattle.std.specs.String.{string_bytes};
-ghost use Rattle.ir_events.specs.Events.{entry_of};
+ghost use Rattle.ir_events.specs.Events.{event_entry};
 ghost use Rattle.ir_fit.specs.declared.leave.Leave.{Leave};
 ghost use Rattle.ir_past.specs.Past.{entered};
 ghost use Rattle.ir_opened.specs.Positions.{IsInside, EntersAt, IsLeaveAs, IsFirstLeaveAs, NoLeaveAs, LeavesAfter, IsLeaveOf, step_if};
@@ -25,7 +25,7 @@ struct Stay {
 /// How many steps a thread took before the one that logged an event.
 pub fn step_of(fitted: &Fitted, place: Place) -> u64
     requires { IsInside fitted.now place.thread place.event }
-    ensures { result ≡ entry_of fitted.now place.thread place.event }
+    ensures { result ≡ event_entry fitted.now place.thread place.event }
 {
     fitted.entries(place.thread as usize)[place.event as usize]
 }

@@ -3,7 +3,7 @@ use Rattle.std.proofs.Common.{◌≡◌, ℕ, eqb, List, ◌∷◌, length, ap, 
 use Rattle.std.proofs.Math.Path.{fun_ext}
 use Rattle.ir_runs.specs.Machine.{Act, Machine, target, emitted, Label, Trace}
 use Rattle.ir_runs.specs.Run.{State, Step, act, after, after_act, end, join_if, trail, events}
-use Rattle.ir_order.specs.OneRun.{acts, AreSame}
+use Rattle.ir_order.specs.OneRun.{acts, AreSameRuns}
 
 -- what a run's first steps fix
 pub record Alike {T : Type 0} (m : Machine T) (s : State T) (a b : List Step) : Type 0 where
@@ -33,7 +33,7 @@ alike_step {T} m s t r w a b p h = record {
 abbrev pub trace_by : {T : Type 0} → Machine T → (ℕ → List (T × Label)) → State T → Trace
 trace_by m trails last = record { steps = λ t. length (trails t); logs = λ t. events (trails t); ends = λ t. m.ended (last.now t) }
 
-pub same_runs_if_alike : {T : Type 0} (m : Machine T) (s : State T) (a b : List Step) → Alike m s a b → AreSame m s a b
+pub same_runs_if_alike : {T : Type 0} (m : Machine T) (s : State T) (a b : List Step) → Alike m s a b → AreSameRuns m s a b
 same_runs_if_alike {T} m s a b h = record {
   steps = h.steps;
   trails = h.trails;

@@ -1,9 +1,10 @@
 -- What the world of a thread answers next.
 use Rattle.std.proofs.Common.{◌≡◌, ◌<◌, ℕ, zero, suc, Bool, true, false, List, ◌∷◌, refl, sym, ap, ◌∙◌, subst}
-use Rattle.ir_runs.specs.Machine.{Ask, Private, Env, Enter, Try, Leave, Get, Put, Done, Act, act_of, Silent, Replied, Entered, TryFailed, Left, Got, Stored, Never, Machine, upd, Object, target, Admits, emitted, Label, logged}
+use Rattle.ir_runs.specs.Machine.{Ask, Private, Env, Enter, Try, Leave, Get, Put, Done, Act, act_of, Silent, Replied, Entered, TryFailed}
+use Rattle.ir_runs.specs.Machine.{Left, Got, Stored, Never, Machine, upd, Object, target, Admits, emitted, Label, logged}
 use Rattle.ir_runs.specs.declared.access.Access.TheVariants.{Reading, Writing}
 use Rattle.ir_runs.specs.Run.{State, Step, asked, act, after, events, log}
-use Rattle.ir_runs.proofs.CallerLemmas.{property_of_upd_by_cases, trail_of_cons_own_thread, trail_of_cons_other_thread}
+use Rattle.ir_runs.proofs.CallerLemmas.{upd_by_cases, trail_cons_own, trail_cons_other}
 use Rattle.ir_record.specs.Refusing.{Tries}
 use Rattle.ir_record.specs.Worlds.{answers_in}
 use Rattle.ir_world.specs.Sources.{Source, given, Gave}
@@ -34,41 +35,41 @@ source_left_by Never s = s
 abbrev pub HasGiven : Source → List Label → Type 0
 HasGiven s es = (left : Source) × Gave s (answers_in es) left
 
-pub has_given_splits_off_act : (q : Act) (b : Object) (es : List Label) (s : Source) → HasGiven s (logged (emitted q b) es)
+pub given_splits_off_act : (q : Act) (b : Object) (es : List Label) (s : Source) → HasGiven s (logged (emitted q b) es)
     → TakesNextAnswer q s × HasGiven (source_left_by q s) es
-has_given_splits_off_act Silent b es s h = (tt, h)
-has_given_splits_off_act (Replied k v) b es s h = (h.1.0, (h.0, h.1.1))
-has_given_splits_off_act (Entered o Reading v) b es s h = (tt, h)
-has_given_splits_off_act (Entered o Writing v) b es s h = (tt, h)
-has_given_splits_off_act (TryFailed o) b es s h = (tt, h)
-has_given_splits_off_act (Left o a) b es s h = (tt, h)
-has_given_splits_off_act (Got o i) b es s h = (tt, h)
-has_given_splits_off_act (Stored o i w) b es s h = (tt, h)
-has_given_splits_off_act Never b es s h = (tt, h)
+given_splits_off_act Silent b es s h = (tt, h)
+given_splits_off_act (Replied k v) b es s h = (h.1.0, (h.0, h.1.1))
+given_splits_off_act (Entered o Reading v) b es s h = (tt, h)
+given_splits_off_act (Entered o Writing v) b es s h = (tt, h)
+given_splits_off_act (TryFailed o) b es s h = (tt, h)
+given_splits_off_act (Left o a) b es s h = (tt, h)
+given_splits_off_act (Got o i) b es s h = (tt, h)
+given_splits_off_act (Stored o i w) b es s h = (tt, h)
+given_splits_off_act Never b es s h = (tt, h)
 
 -- each of n threads was answered from what is left to it
 abbrev pub AreGiven : {T : Type 0} → Machine T → State T → ℕ → (ℕ → Source) → List Step → Type 0
 AreGiven m s n sources run = (t : ℕ) → t < n → HasGiven (sources t) (log m s run t)
 
-own_log_has_given_splits_off_step : {T : Type 0} (m : Machine T) (s : State T) (e : Step) (run : List Step) (source : Source) → HasGiven source (log m s (e ∷ run) e.0)
+given_splits_off_step : {T : Type 0} (m : Machine T) (s : State T) (e : Step) (run : List Step) (source : Source) → HasGiven source (log m s (e ∷ run) e.0)
     → TakesNextAnswer (act m s e) source × HasGiven (source_left_by (act m s e) source) (log m (after m s e) run e.0)
-own_log_has_given_splits_off_step m s e run source h =
-    has_given_splits_off_act (act m s e) (s.objects (target (act m s e))) (log m (after m s e) run e.0) source
-    (subst (HasGiven source) (ap events (trail_of_cons_own_thread m s e run)) h)
+given_splits_off_step m s e run source h =
+    given_splits_off_act (act m s e) (s.objects (target (act m s e))) (log m (after m s e) run e.0) source
+    (subst (HasGiven source) (ap events (trail_cons_own m s e run)) h)
 
 -- a step's act has the answer that comes next
-pub first_step_of_given_run_takes_next_answer : {T : Type 0} (m : Machine T) (s : State T) (n : ℕ) (sources : ℕ → Source) (e : Step) (run : List Step)
+pub first_takes_next_answer : {T : Type 0} (m : Machine T) (s : State T) (n : ℕ) (sources : ℕ → Source) (e : Step) (run : List Step)
     → AreGiven m s n sources (e ∷ run) → e.0 < n → TakesNextAnswer (act m s e) (sources e.0)
-first_step_of_given_run_takes_next_answer m s n sources e run h l = (own_log_has_given_splits_off_step m s e run (sources e.0) (h e.0 l)).0
+first_takes_next_answer m s n sources e run h l = (given_splits_off_step m s e run (sources e.0) (h e.0 l)).0
 
 -- and what is left after it answers the others
-pub rest_of_given_run_is_given_after_first_step : {T : Type 0} (m : Machine T) (s : State T) (n : ℕ) (sources : ℕ → Source) (e : Step) (run : List Step)
+pub rest_is_given : {T : Type 0} (m : Machine T) (s : State T) (n : ℕ) (sources : ℕ → Source) (e : Step) (run : List Step)
     → AreGiven m s n sources (e ∷ run) → AreGiven m (after m s e) n (upd sources e.0 (source_left_by (act m s e) (sources e.0))) run
-rest_of_given_run_is_given_after_first_step m s n sources e run h t l =
-    property_of_upd_by_cases sources e.0 (source_left_by (act m s e) (sources e.0)) t (λ source. HasGiven source (log m (after m s e) run t))
+rest_is_given m s n sources e run h t l =
+    upd_by_cases sources e.0 (source_left_by (act m s e) (sources e.0)) t (λ source. HasGiven source (log m (after m s e) run t))
     (λ same. subst (λ u. HasGiven (source_left_by (act m s e) (sources e.0)) (log m (after m s e) run u)) (sym same)
-    (own_log_has_given_splits_off_step m s e run (sources e.0) (h e.0 (subst (λ u. u < n) same l))).1)
-    (λ other. subst (HasGiven (sources t)) (ap events (trail_of_cons_other_thread m s e run t other)) (h t l))
+    (given_splits_off_step m s e run (sources e.0) (h e.0 (subst (λ u. u < n) same l))).1)
+    (λ other. subst (HasGiven (sources t)) (ap events (trail_cons_other m s e run t other)) (h t l))
 
 -- ---- there is one act of a thread
 
@@ -77,27 +78,27 @@ abbrev pub EntersIfItCan : {T : Type 0} → Machine T → (ℕ → Object) → B
 EntersIfItCan m objects true q r = (o : ℕ) → q ≡ Try o → r ≡ 0
 EntersIfItCan m objects false q r = (o : ℕ) → q ≡ Try o → Admits m (act_of q 1) (objects (target (act_of q 1))) → r ≡ 1
 
-pub enters_if_it_can_if_tries : {T : Type 0} (m : Machine T) (s : State T) (t r : ℕ) (refused : Bool) → Tries m s refused (t, r)
+pub trying_enters_if_it_can : {T : Type 0} (m : Machine T) (s : State T) (t r : ℕ) (refused : Bool) → Tries m s refused (t, r)
     → EntersIfItCan m s.objects refused (asked m s t) r
-enters_if_it_can_if_tries m s t r true h = h
-enters_if_it_can_if_tries m s t r false h = h
+trying_enters_if_it_can m s t r true h = h
+trying_enters_if_it_can m s t r false h = h
 
-pub act_taken_from_source_is_unique : {T : Type 0} (m : Machine T) (objects : ℕ → Object) (source : Source) (refused : Bool) (q : Ask) (r w : ℕ)
+pub source_act_unique : {T : Type 0} (m : Machine T) (objects : ℕ → Object) (source : Source) (refused : Bool) (q : Ask) (r w : ℕ)
     → Admits m (act_of q r) (objects (target (act_of q r))) → Admits m (act_of q w) (objects (target (act_of q w)))
     → EntersIfItCan m objects refused q r → EntersIfItCan m objects refused q w → TakesNextAnswer (act_of q r) source → TakesNextAnswer (act_of q w) source
     → act_of q r ≡ act_of q w
-act_taken_from_source_is_unique m objects source refused Private r w can can' enters enters' takes takes' = refl
-act_taken_from_source_is_unique m objects source refused (Env k) r w can can' enters enters' takes takes' = ap (Replied k) (takes ∙ sym takes')
-act_taken_from_source_is_unique m objects source refused (Enter o a) r w can can' enters enters' takes takes' = refl
-act_taken_from_source_is_unique m objects source true (Try o) r w can can' enters enters' takes takes' = ap (act_of (Try o)) (enters o refl ∙ sym (enters' o refl))
-act_taken_from_source_is_unique m objects source false (Try o) zero zero can can' enters enters' takes takes' = refl
-act_taken_from_source_is_unique m objects source false (Try o) zero (suc zero) can can' enters enters' takes takes' = absurd (cc (enters o refl can'))
-act_taken_from_source_is_unique m objects source false (Try o) zero (suc (suc w)) can can' enters enters' takes takes' = absurd can'
-act_taken_from_source_is_unique m objects source false (Try o) (suc zero) zero can can' enters enters' takes takes' = absurd (cc (enters' o refl can))
-act_taken_from_source_is_unique m objects source false (Try o) (suc zero) (suc zero) can can' enters enters' takes takes' = refl
-act_taken_from_source_is_unique m objects source false (Try o) (suc zero) (suc (suc w)) can can' enters enters' takes takes' = absurd can'
-act_taken_from_source_is_unique m objects source false (Try o) (suc (suc r)) w can can' enters enters' takes takes' = absurd can
-act_taken_from_source_is_unique m objects source refused (Leave o a) r w can can' enters enters' takes takes' = refl
-act_taken_from_source_is_unique m objects source refused (Get o i) r w can can' enters enters' takes takes' = refl
-act_taken_from_source_is_unique m objects source refused (Put o i v) r w can can' enters enters' takes takes' = refl
-act_taken_from_source_is_unique m objects source refused Done r w can can' enters enters' takes takes' = absurd can
+source_act_unique m objects source refused Private r w can can' enters enters' takes takes' = refl
+source_act_unique m objects source refused (Env k) r w can can' enters enters' takes takes' = ap (Replied k) (takes ∙ sym takes')
+source_act_unique m objects source refused (Enter o a) r w can can' enters enters' takes takes' = refl
+source_act_unique m objects source true (Try o) r w can can' enters enters' takes takes' = ap (act_of (Try o)) (enters o refl ∙ sym (enters' o refl))
+source_act_unique m objects source false (Try o) zero zero can can' enters enters' takes takes' = refl
+source_act_unique m objects source false (Try o) zero (suc zero) can can' enters enters' takes takes' = absurd (cc (enters o refl can'))
+source_act_unique m objects source false (Try o) zero (suc (suc w)) can can' enters enters' takes takes' = absurd can'
+source_act_unique m objects source false (Try o) (suc zero) zero can can' enters enters' takes takes' = absurd (cc (enters' o refl can))
+source_act_unique m objects source false (Try o) (suc zero) (suc zero) can can' enters enters' takes takes' = refl
+source_act_unique m objects source false (Try o) (suc zero) (suc (suc w)) can can' enters enters' takes takes' = absurd can'
+source_act_unique m objects source false (Try o) (suc (suc r)) w can can' enters enters' takes takes' = absurd can
+source_act_unique m objects source refused (Leave o a) r w can can' enters enters' takes takes' = refl
+source_act_unique m objects source refused (Get o i) r w can can' enters enters' takes takes' = refl
+source_act_unique m objects source refused (Put o i v) r w can can' enters enters' takes takes' = refl
+source_act_unique m objects source refused Done r w can can' enters enters' takes takes' = absurd can

@@ -1,5 +1,6 @@
 -- What a list of items spells.
-use Rattle.std.proofs.Common.{◌≡◌, ◌<◌, ◌≤◌, ◌+◌, ◌-◌, ◌^◌, ℕ, zero, suc, Bool, true, false, List, [], ◌∷◌, ◌++◌, length, take, get_or, refl, sym, ap, ◌∙◌, subst, arith, inl, inr, append_assoc, append-nil}
+use Rattle.std.proofs.Common.{◌≡◌, ◌<◌, ◌≤◌, ◌+◌, ◌-◌, ◌^◌, ℕ, zero, suc, Bool, true, false, List, [], ◌∷◌, ◌++◌, length, take, get_or}
+use Rattle.std.proofs.Common.{refl, sym, ap, ◌∙◌, subst, arith, inl, inr, append_assoc, append-nil}
 use Rattle.std.specs.Prelude.{◌≢◌, ◌==◌, replicate, Option, Some, None}
 use Rattle.std.specs.List.{AllByRecursion, slice_split, onto_first}
 use Rattle.std.proofs.lemmas.Bool.{eq-eqb, cases_Bool}
@@ -8,17 +9,17 @@ use Rattle.std.proofs.lemmas.List.{replicate-append-replicate, get_or_default}
 use Rattle.ir_record.specs.Recording.{order_of_turns, turns_of_items}
 use Rattle.ir_record.specs.Refusing.{Turn, plain_turns}
 use Rattle.ir_record.specs.declared.item.Item.{Item}
-use Rattle.ir_record.proofs.CallerLemmas.{plain_turns_of_append}
+use Rattle.ir_record.proofs.CallerLemmas.{plain_turns_of_append, plain_turns-replicate}
 use Rattle.ir_record.specs.declared.turns.Turns.{Turns}
 use Rattle.ir_record_command.specs.Order.{most_turns, items_joined, item_of, items_of, order_of}
 use Rattle.ir_order.specs.Spelling.{item_text, with_item, SpellsTurns, Spells, IsListOf}
-use Rattle.ir_order.proofs.Items.{item_of_item_text_is_repeated_turn, split_of_item_text_is_itself, item_text_is_not_empty}
+use Rattle.ir_order.proofs.Items.{item_of-item_text, split_of_item_text, item_text_is_not_empty}
 
 -- ---- a text that is cut at its last mark
 
-onto_first_of_append_of_nonempty : (b : ℕ) (parts more : List (List ℕ)) → 0 < length parts → onto_first b (parts ++ more) ≡ onto_first b parts ++ more
-onto_first_of_append_of_nonempty b [] more some = absurd (omega (arith, some))
-onto_first_of_append_of_nonempty b (part ∷ parts) more some = refl
+onto_first_append : (b : ℕ) (parts more : List (List ℕ)) → 0 < length parts → onto_first b (parts ++ more) ≡ onto_first b parts ++ more
+onto_first_append b [] more some = absurd (omega (arith, some))
+onto_first_append b (part ∷ parts) more some = refl
 
 split_is_not_empty : (p : ℕ → Bool) (bs : List ℕ) → 0 < length (slice_split p bs)
 split_is_not_empty p bs = omega (arith, length-slice_split p bs)
@@ -31,7 +32,7 @@ split_at_mark_between p (b ∷ bs) mark cs is = elim (cases_Bool (p b)) [
   | inl is_mark ↦ slice_split-cons_yes p b (bs ++ mark ∷ cs) is_mark ∙ ap (λ (z : List (List ℕ)). [] ∷ z) (split_at_mark_between p bs mark cs is)
       ∙ sym (ap (λ (z : List (List ℕ)). z ++ slice_split p cs) (slice_split-cons_yes p b bs is_mark))
   | inr is_none ↦ slice_split-cons_no p b (bs ++ mark ∷ cs) is_none ∙ ap (onto_first b) (split_at_mark_between p bs mark cs is)
-      ∙ onto_first_of_append_of_nonempty b (slice_split p bs) (slice_split p cs) (split_is_not_empty p bs)
+      ∙ onto_first_append b (slice_split p bs) (slice_split p cs) (split_is_not_empty p bs)
       ∙ sym (ap (λ (z : List (List ℕ)). z ++ slice_split p cs) (slice_split-cons_no p b bs is_none))
 ]
 
@@ -47,85 +48,85 @@ joined_with_empty : (a : Option (List Turn)) → items_joined (Some []) a ≡ a
 joined_with_empty None = refl
 joined_with_empty (Some a) = refl
 
-items_of_append_are_joined : (n : ℕ) (items more : List (List ℕ)) → items_of n (items ++ more) ≡ items_joined (items_of n items) (items_of n more)
-items_of_append_are_joined n [] more = sym (joined_with_empty (items_of n more))
-items_of_append_are_joined n (item ∷ items) more = ap (items_joined (item_of n item)) (items_of_append_are_joined n items more)
+items_of_append : (n : ℕ) (items more : List (List ℕ)) → items_of n (items ++ more) ≡ items_joined (items_of n items) (items_of n more)
+items_of_append n [] more = sym (joined_with_empty (items_of n more))
+items_of_append n (item ∷ items) more = ap (items_joined (item_of n item)) (items_of_append n items more)
     ∙ joined_associative (item_of n item) (items_of n items) (items_of n more)
 
 -- ---- all of two lists
 
-all_by_recursion_of_both_parts_if_of_append : {X : Type 0} (P : X → Type 0) (xs ys : List X) → AllByRecursion P (xs ++ ys) → AllByRecursion P xs × AllByRecursion P ys
-all_by_recursion_of_both_parts_if_of_append P [] ys h = (tt, h)
-all_by_recursion_of_both_parts_if_of_append P (x ∷ xs) ys h = let rest = all_by_recursion_of_both_parts_if_of_append P xs ys h.1 in ((h.0, rest.0), rest.1)
+all_append_parts : {X : Type 0} (P : X → Type 0) (xs ys : List X) → AllByRecursion P (xs ++ ys) → AllByRecursion P xs × AllByRecursion P ys
+all_append_parts P [] ys h = (tt, h)
+all_append_parts P (x ∷ xs) ys h = let rest = all_append_parts P xs ys h.1 in ((h.0, rest.0), rest.1)
 
-element_has_property_if_all_of_replicate_do : {X : Type 0} (P : X → Type 0) (count : ℕ) (x : X) → 1 ≤ count → AllByRecursion P (replicate count x) → P x
-element_has_property_if_all_of_replicate_do P zero x some h = absurd (omega (arith, some))
-element_has_property_if_all_of_replicate_do P (suc count) x some h = h.0
+replicate_all_element : {X : Type 0} (P : X → Type 0) (count : ℕ) (x : X) → 1 ≤ count → AllByRecursion P (replicate count x) → P x
+replicate_all_element P zero x some h = absurd (omega (arith, some))
+replicate_all_element P (suc count) x some h = h.0
 
 -- ---- a list with one item more
 
 -- a list that is one item
-order_of_item_text_is_repeated_turn : (n thread : ℕ) (refused : Bool) (count : ℕ) → thread < n → thread < 2 ^ 8 → 1 ≤ count → count ≤ most_turns
+order_of_item_text : (n thread : ℕ) (refused : Bool) (count : ℕ) → thread < n → thread < 2 ^ 8 → 1 ≤ count → count ≤ most_turns
     → order_of n (item_text thread refused count) ≡ Some (replicate count (thread, refused))
-order_of_item_text_is_repeated_turn n thread refused count l small some few =
-    ap (items_of n) (split_of_item_text_is_itself thread refused count small few)
-    ∙ ap (λ (z : Option (List Turn)). items_joined z (Some [])) (item_of_item_text_is_repeated_turn n thread refused count l small some few)
+order_of_item_text n thread refused count l small some few =
+    ap (items_of n) (split_of_item_text thread refused count small few)
+    ∙ ap (λ (z : Option (List Turn)). items_joined z (Some [])) (item_of-item_text n thread refused count l small some few)
     ∙ ap (λ (z : List Turn). Some z) (append-nil (replicate count (thread, refused)))
 
-order_of_list_with_item_is_joined_orders : (n : ℕ) (list item : List ℕ) → order_of n (list ++ 44 ∷ item) ≡ items_joined (order_of n list) (order_of n item)
-order_of_list_with_item_is_joined_orders n list item = ap (items_of n) (split_at_mark_between (λ b. b == 44) list 44 item (eq-eqb 44 44 refl))
-    ∙ items_of_append_are_joined n (slice_split (λ b. b == 44) list) (slice_split (λ b. b == 44) item)
+order_of_list_and_item : (n : ℕ) (list item : List ℕ) → order_of n (list ++ 44 ∷ item) ≡ items_joined (order_of n list) (order_of n item)
+order_of_list_and_item n list item = ap (items_of n) (split_at_mark_between (λ b. b == 44) list 44 item (eq-eqb 44 44 refl))
+    ∙ items_of_append n (slice_split (λ b. b == 44) list) (slice_split (λ b. b == 44) item)
 
-append_of_replicate_is_not_empty : (turns : List Turn) (one : Turn) (count : ℕ) → 1 ≤ count → turns ++ replicate count one ≢ []
-append_of_replicate_is_not_empty [] one zero some h = absurd (omega (arith, some))
-append_of_replicate_is_not_empty [] one (suc count) some h = absurd (cc h)
-append_of_replicate_is_not_empty (t ∷ turns) one count some h = absurd (cc h)
+append_replicate_nonempty : (turns : List Turn) (one : Turn) (count : ℕ) → 1 ≤ count → turns ++ replicate count one ≢ []
+append_replicate_nonempty [] one zero some h = absurd (omega (arith, some))
+append_replicate_nonempty [] one (suc count) some h = absurd (cc h)
+append_replicate_nonempty (t ∷ turns) one count some h = absurd (cc h)
 
 is_list_of_if_spelled : (list : List ℕ) (turns : List Turn) → 0 < length list → turns ≢ [] → SpellsTurns list turns → IsListOf list turns
 is_list_of_if_spelled [] turns some steps h = absurd (omega (arith, some))
 is_list_of_if_spelled (b ∷ list) turns some steps h = (steps, h)
 
-pub is_list_of_holds_with_item_added : (list : List ℕ) (turns : List Turn) (thread : ℕ) (refused : Bool) (count : ℕ) → thread < 2 ^ 8 → 1 ≤ count → count ≤ most_turns
+pub is_list_of_item_added : (list : List ℕ) (turns : List Turn) (thread : ℕ) (refused : Bool) (count : ℕ) → thread < 2 ^ 8 → 1 ≤ count → count ≤ most_turns
     → IsListOf list turns → IsListOf (with_item list (item_text thread refused count)) (turns ++ replicate count (thread, refused))
-is_list_of_holds_with_item_added [] turns thread refused count small some few none =
+is_list_of_item_added [] turns thread refused count small some few none =
     is_list_of_if_spelled (item_text thread refused count) (turns ++ replicate count (thread, refused)) (item_text_is_not_empty thread refused count small)
-    (append_of_replicate_is_not_empty turns (thread, refused) count some)
+    (append_replicate_nonempty turns (thread, refused) count some)
     (subst (λ (z : List Turn). SpellsTurns (item_text thread refused count) (z ++ replicate count (thread, refused))) (sym none)
-    (λ n all. order_of_item_text_is_repeated_turn n thread refused count (element_has_property_if_all_of_replicate_do (λ t. t.0 < n) count (thread, refused) some all) small some few))
-is_list_of_holds_with_item_added (b ∷ list) turns thread refused count small some few h = (
-  append_of_replicate_is_not_empty turns (thread, refused) count some,
+    (λ n all. order_of_item_text n thread refused count (replicate_all_element (λ t. t.0 < n) count (thread, refused) some all) small some few))
+is_list_of_item_added (b ∷ list) turns thread refused count small some few h = (
+  append_replicate_nonempty turns (thread, refused) count some,
   λ n all.
-      let parts = all_by_recursion_of_both_parts_if_of_append (λ t. t.0 < n) turns (replicate count (thread, refused)) all in
-      order_of_list_with_item_is_joined_orders n (b ∷ list) (item_text thread refused count)
+      let parts = all_append_parts (λ t. t.0 < n) turns (replicate count (thread, refused)) all in
+      order_of_list_and_item n (b ∷ list) (item_text thread refused count)
       ∙ ap (λ (z : Option (List Turn)). items_joined z (order_of n (item_text thread refused count))) (h.1 n parts.0)
       ∙ ap (items_joined (Some turns))
-      (order_of_item_text_is_repeated_turn n thread refused count (element_has_property_if_all_of_replicate_do (λ t. t.0 < n) count (thread, refused) some parts.1) small some few),
+      (order_of_item_text n thread refused count (replicate_all_element (λ t. t.0 < n) count (thread, refused) some parts.1) small some few),
 )
 
 -- a list isn't empty where there are turns
-pub list_spells_if_order_not_empty : (list : List ℕ) (turns : List Turn) → IsListOf list turns → turns ≢ [] → SpellsTurns list turns
-list_spells_if_order_not_empty [] turns none some = absurd (some none)
-list_spells_if_order_not_empty (b ∷ list) turns h some = h.1
+pub nonempty_list_spells : (list : List ℕ) (turns : List Turn) → IsListOf list turns → turns ≢ [] → SpellsTurns list turns
+nonempty_list_spells [] turns none some = absurd (some none)
+nonempty_list_spells (b ∷ list) turns h some = h.1
 
 -- and is empty where there is none
-pub list_empty_if_order_empty : (list : List ℕ) (turns : List Turn) → IsListOf list turns → turns ≡ [] → list ≡ []
-list_empty_if_order_empty [] turns none e = refl
-list_empty_if_order_empty (b ∷ list) turns h e = absurd (h.0 e)
+pub empty_order_empty_list : (list : List ℕ) (turns : List Turn) → IsListOf list turns → turns ≡ [] → list ≡ []
+empty_order_empty_list [] turns none e = refl
+empty_order_empty_list (b ∷ list) turns h e = absurd (h.0 e)
 
 -- the same of turns in which no try is refused that may enter
-plain_turns_not_empty_if_order_not_empty : (order : List ℕ) → order ≢ [] → plain_turns order ≢ []
-plain_turns_not_empty_if_order_not_empty [] some e = some refl
-plain_turns_not_empty_if_order_not_empty (t ∷ order) some e = absurd (cc e)
+plain_turns_nonempty : (order : List ℕ) → order ≢ [] → plain_turns order ≢ []
+plain_turns_nonempty [] some e = some refl
+plain_turns_nonempty (t ∷ order) some e = absurd (cc e)
 
-plain_turns_have_threads_below_count : (n : ℕ) (order : List ℕ) → AllByRecursion (λ t. t < n) order → AllByRecursion (λ (t : Turn). t.0 < n) (plain_turns order)
-plain_turns_have_threads_below_count n [] all = tt
-plain_turns_have_threads_below_count n (t ∷ order) all = (all.0, plain_turns_have_threads_below_count n order all.1)
+plain_turns_below_count : (n : ℕ) (order : List ℕ) → AllByRecursion (λ t. t < n) order → AllByRecursion (λ (t : Turn). t.0 < n) (plain_turns order)
+plain_turns_below_count n [] all = tt
+plain_turns_below_count n (t ∷ order) all = (all.0, plain_turns_below_count n order all.1)
 
-pub list_of_plain_turns_spells_order : (list order : List ℕ) → IsListOf list (plain_turns order) → order ≢ [] → Spells list order
-list_of_plain_turns_spells_order list order h some n all = list_spells_if_order_not_empty list (plain_turns order) h (plain_turns_not_empty_if_order_not_empty order some) n (plain_turns_have_threads_below_count n order all)
+pub plain_list_spells_order : (list order : List ℕ) → IsListOf list (plain_turns order) → order ≢ [] → Spells list order
+plain_list_spells_order list order h some n all = nonempty_list_spells list (plain_turns order) h (plain_turns_nonempty order some) n (plain_turns_below_count n order all)
 
-pub list_of_plain_turns_empty_if_order_empty : (list order : List ℕ) → IsListOf list (plain_turns order) → order ≡ [] → list ≡ []
-list_of_plain_turns_empty_if_order_empty list order h e = list_empty_if_order_empty list (plain_turns order) h (ap plain_turns e)
+pub empty_turns_empty_list : (list order : List ℕ) → IsListOf list (plain_turns order) → order ≡ [] → list ≡ []
+empty_turns_empty_list list order h e = empty_order_empty_list list (plain_turns order) h (ap plain_turns e)
 
 -- count turns more
 pub is_list_of_turns_step : (old list new : List ℕ) (thread : ℕ) (refused : Bool) (total left count : ℕ) → thread < 2 ^ 8 → left ≤ total → 1 ≤ count
@@ -140,11 +141,7 @@ is_list_of_turns_step old list new thread refused total left count small within 
     ∙ ap (λ (z : List Turn). turns ++ z) (replicate-append-replicate (total - left) count one ∙ ap (λ (k : ℕ). replicate k one) longer) in
     subst (λ (z : List ℕ). IsListOf z (turns ++ replicate (total - (left - count)) one)) (sym is)
     (subst (IsListOf (with_item list (item_text thread refused count))) same
-    (is_list_of_holds_with_item_added list (turns ++ replicate (total - left) one) thread refused count small some few (before turns h)))
-
-plain_turns_of_replicate : (n t : ℕ) → plain_turns (replicate n t) ≡ replicate n (t, false)
-plain_turns_of_replicate zero t = refl
-plain_turns_of_replicate (suc n) t = ap (λ z. (t, false) ∷ z) (plain_turns_of_replicate n t)
+    (is_list_of_item_added list (turns ++ replicate (total - left) one) thread refused count small some few (before turns h)))
 
 -- the turns so far, and one more
 order_of_turns_step : (turns : List Turns) (k : ℕ) (t : Turns) → k < length turns → t ≡ get_or turns k t
@@ -157,17 +154,17 @@ order_of_turns_step (x ∷ xs) (suc k) t l e = ap (λ (z : List ℕ). replicate 
     ∙ sym (append_assoc (replicate x.count x.thread) (order_of_turns (take k xs)) (replicate t.count t.thread))
 
 -- a list of the turns so far, and of one more
-pub is_list_of_plain_turns_step : (turns : List Turns) (k : ℕ) (none : Turns) (list : List ℕ) → k < length turns
+pub list_of_plain_step : (turns : List Turns) (k : ℕ) (none : Turns) (list : List ℕ) → k < length turns
     → IsListOf list (plain_turns (order_of_turns (take k turns)) ++ replicate (get_or turns k none).count ((get_or turns k none).thread, false))
     → IsListOf list (plain_turns (order_of_turns (take (k + 1) turns)))
-is_list_of_plain_turns_step turns k none list l h =
+list_of_plain_step turns k none list l h =
     let t : Turns = get_or turns k none in
     let next : k + 1 ≡ suc k = omega arith in
     let same : plain_turns (order_of_turns (take (k + 1) turns)) ≡ plain_turns (order_of_turns (take k turns)) ++ replicate t.count (t.thread, false) =
     ap (λ (z : ℕ). plain_turns (order_of_turns (take z turns))) next
     ∙ ap plain_turns (order_of_turns_step turns k t l (get_or_default turns k none t l))
     ∙ plain_turns_of_append (order_of_turns (take k turns)) (replicate t.count t.thread)
-    ∙ ap (λ (z : List Turn). plain_turns (order_of_turns (take k turns)) ++ z) (plain_turns_of_replicate t.count t.thread) in
+    ∙ ap (λ (z : List Turn). plain_turns (order_of_turns (take k turns)) ++ z) (plain_turns-replicate t.count t.thread) in
     subst (IsListOf list) (sym same) h
 
 pub turns_of_items_step : (items : List Item) (k : ℕ) (x : Item) → k < length items → x ≡ get_or items k x

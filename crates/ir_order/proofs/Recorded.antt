@@ -18,12 +18,12 @@ use Rattle.ir_record_command.specs.Order.{order_of}
 use Rattle.ir_record_command.specs.Plan.{Plan}
 use Rattle.ir_record_command.specs.Recording.{unasked, IsRecordedBy, IsRecordedOf}
 use Rattle.ir_world.specs.Sources.{origin_of, IsAnsweredFrom}
-use Rattle.ir_order.specs.OneRun.{AreSame, IsAnsweredByTurns}
+use Rattle.ir_order.specs.OneRun.{AreSameRuns, IsAnsweredByTurns}
 use Rattle.ir_order.specs.Recording.{IsPlanned, IsPlannedInTurns, IsOfRun, RecordingsAreOfTheRun, OneRecordingByAList}
-use Rattle.ir_order.proofs.OneRun.{one_run_by_turns, answered_by_turns_if_answered_by_order}
-use Rattle.ir_order.proofs.Traces.{recording_of_run_is_unique}
+use Rattle.ir_order.proofs.OneRun.{one_run_by_turns, answered_by_plain_turns}
+use Rattle.ir_order.proofs.Traces.{run_recording_unique}
 
-is_whole_of_same_run : {T : Type 0} (m : Machine T) (s : State T) (n : ℕ) (tr : Trace) (a b : List Step) → AreSame m s a b → IsRun m s a
+is_whole_of_same_run : {T : Type 0} (m : Machine T) (s : State T) (n : ℕ) (tr : Trace) (a b : List Step) → AreSameRuns m s a b → IsRun m s a
     → IsDone m (end m s a) → IsWhole m s n tr b → IsWhole m s n tr a
 is_whole_of_same_run m s n tr a b same runs done w = record {
   runs = runs;
@@ -36,7 +36,7 @@ is_whole_of_same_run m s n tr a b same runs done w = record {
 -- what is recorded of a run is of each that is the same
 recording_is_of_same_run : (guest : Guest) (budget : ℕ) (profile : Profile) (turns : List Turn) (run b : List Step) (before : List (List AnsweredCall)) (trace : Recorded)
     (outputs : List (List ℕ)) (answers : List (List AnsweredCall)) (made : _) → IsAnsweredByTurns guest budget profile turns made run
-    → AreSame (machine (start_flat guest budget profile)) (tables (start_flat guest budget profile)) run b
+    → AreSameRuns (machine (start_flat guest budget profile)) (tables (start_flat guest budget profile)) run b
     → IsRecordingOf guest budget profile b before trace outputs answers → IsOfRun guest budget profile run trace outputs
 recording_is_of_same_run guest budget profile turns run b before trace outputs answers made x same h =
     let f = start_flat guest budget profile in
@@ -87,17 +87,17 @@ recording_is_of_planned_run guest plan list turns run trace outputs answers is x
     (recorded_run_is_planned guest plan list turns trace outputs answers is r answered)) r.2
 
 -- a run by an order is one by its turns
-planned_in_turns_if_planned_by_order : (guest : Guest) (plan : Plan) (order : List ℕ) (run : List Step) → IsPlanned guest plan order run
+planned_in_plain_turns : (guest : Guest) (plan : Plan) (order : List ℕ) (run : List Step) → IsPlanned guest plan order run
     → IsPlannedInTurns guest plan (plain_turns order) run
-planned_in_turns_if_planned_by_order guest plan order run x = answered_by_turns_if_answered_by_order guest plan.budget plan.profile order (origin_of true plan.random plan.input) run x
+planned_in_plain_turns guest plan order run x = answered_by_plain_turns guest plan.budget plan.profile order (origin_of true plan.random plan.input) run x
 
 -- what is recorded in turns is of each run that the guest makes by their order with the same answers
-pub recording_in_turns_is_of_run : (guest : Guest) (plan : Plan) (order : List ℕ) (run : List Step) (trace : Recorded) (outputs : List (List ℕ)) (answers : List (List AnsweredCall))
+pub recording_is_of_run : (guest : Guest) (plan : Plan) (order : List ℕ) (run : List Step) (trace : Recorded) (outputs : List (List ℕ)) (answers : List (List AnsweredCall))
     → IsPlanned guest plan order run → IsRecordingByTurns guest plan.budget plan.profile (plain_turns order) (unasked guest) trace outputs answers
     → ((t : ℕ) → t < length guest.entries → IsAnsweredFrom (origin_of true plan.random plan.input t) (get_or answers t []))
     → IsOfRun guest plan.budget plan.profile run trace outputs
-recording_in_turns_is_of_run guest plan order run trace outputs answers x r answered =
-    recording_is_of_planned_run guest (record plan { order = Some [] }) [] (plain_turns order) run trace outputs answers refl (planned_in_turns_if_planned_by_order guest plan order run x) r
+recording_is_of_run guest plan order run trace outputs answers x r answered =
+    recording_is_of_planned_run guest (record plan { order = Some [] }) [] (plain_turns order) run trace outputs answers refl (planned_in_plain_turns guest plan order run x) r
     answered
 
 -- the same of a recording by the list
@@ -120,8 +120,8 @@ recording_of_image_is_of_run image guest plan list turns run trace outputs is r 
     recording_by_list_is_of_run r.guest plan list turns run trace outputs r.answers is spelled x
     (subst (λ (o : Option (List ℕ)). IsRecordedBy o r.guest plan.budget plan.profile trace outputs r.answers) is r.recorded) r.answered
 
-pub recordings_by_list_are_of_the_run : RecordingsAreOfTheRun
-recordings_by_list_are_of_the_run image guest plan list turns run trace outputs found is spelled x r =
+pub list_recordings_of_run : RecordingsAreOfTheRun
+list_recordings_of_run image guest plan list turns run trace outputs found is spelled x r =
     let same : guest ≡ r.guest = cc (found, r.is) in
     subst (λ (g : Guest). IsOfRun g plan.budget plan.profile run trace outputs) (sym same)
     (recording_of_image_is_of_run image guest plan list turns run trace outputs is r
@@ -129,12 +129,12 @@ recordings_by_list_are_of_the_run image guest plan list turns run trace outputs 
     (subst (λ (g : Guest). IsPlannedInTurns g plan turns run) same x))
 
 -- the same of a list that refuses no try
-pub recordings_by_plain_list_are_of_the_run : (image : List ℕ) (guest : Guest) (plan : Plan) (list order : List ℕ) (run : List Step) (trace : Recorded) (outputs : List (List ℕ))
+pub plain_recordings_of_run : (image : List ℕ) (guest : Guest) (plan : Plan) (list order : List ℕ) (run : List Step) (trace : Recorded) (outputs : List (List ℕ))
     → guest_at image ≡ Ok guest → plan.order ≡ Some list → order_of (length guest.entries) list ≡ Some (plain_turns order)
     → IsPlanned guest plan order run → IsRecordedOf image plan trace outputs
     → IsOfRun guest plan.budget plan.profile run trace outputs
-recordings_by_plain_list_are_of_the_run image guest plan list order run trace outputs found is spelled x r =
-    recordings_by_list_are_of_the_run image guest plan list (plain_turns order) run trace outputs found is spelled (planned_in_turns_if_planned_by_order guest plan order run x) r
+plain_recordings_of_run image guest plan list order run trace outputs found is spelled x r =
+    list_recordings_of_run image guest plan list (plain_turns order) run trace outputs found is spelled (planned_in_plain_turns guest plan order run x) r
 
 -- the run that was recorded with a list
 record RecordedRun (image : List ℕ) (plan : Plan) (list : List ℕ) (guest : Guest) (trace : Recorded) (outputs : List (List ℕ)) : Type 0 where
@@ -158,8 +158,8 @@ recording_by_list_has_run image plan list guest trace outputs answers is (turns,
 
 recordings_by_list_equal_of_run : (image : List ℕ) (plan : Plan) (list : List ℕ) (a b : Recorded) (x y : List (List ℕ)) → plan.order ≡ Some list
     → (r : IsRecordedOf image plan a x) → RecordedRun image plan list r.guest a x → IsRecordedOf image plan b y → (a ≡ b) × (x ≡ y)
-recordings_by_list_equal_of_run image plan list a b x y is r h other = recording_of_run_is_unique r.guest plan.budget plan.profile h.run a b x y h.of
-    (recordings_by_list_are_of_the_run image r.guest plan list h.turns h.run b y r.is is h.spelled h.planned other)
+recordings_by_list_equal_of_run image plan list a b x y is r h other = run_recording_unique r.guest plan.budget plan.profile h.run a b x y h.of
+    (list_recordings_of_run image r.guest plan list h.turns h.run b y r.is is h.spelled h.planned other)
 
 pub one_recording_by_list : OneRecordingByAList
 one_recording_by_list image plan list a b x y is r other = recordings_by_list_equal_of_run image plan list a b x y is r

@@ -18,7 +18,7 @@ acts m s [] = []
 acts m s (e ∷ run) = (e.0, act m s e) ∷ acts m (after m s e) run
 
 -- the same run, but for the results of steps whose acts have none
-pub record AreSame {T : Type 0} (m : Machine T) (s : State T) (a b : List Step) : Type 0 where
+pub record AreSameRuns {T : Type 0} (m : Machine T) (s : State T) (a b : List Step) : Type 0 where
   -- the same threads step in the same order, and do the same
   pub steps : acts m s a ≡ acts m s b
   -- each thread is the same before each of its steps, which emit the same
@@ -47,7 +47,7 @@ abbrev pub OneRunByTurns : Type 0
 OneRunByTurns = (guest : Guest) (budget : ℕ) (profile : Profile) (turns : List Turn) (made : ℕ → MadeWith) (a b : List Step)
     → ((t : ℕ) → t < length guest.entries → (made t).counted ≡ true)
     → IsAnsweredByTurns guest budget profile turns made a → IsAnsweredByTurns guest budget profile turns made b
-    → AreSame (machine (start_flat guest budget profile)) (tables (start_flat guest budget profile)) a b
+    → AreSameRuns (machine (start_flat guest budget profile)) (tables (start_flat guest budget profile)) a b
 
 -- turns in which no try is refused that may enter are the order of their threads
 abbrev pub PlainTurnsAreOrders : Type 0
@@ -59,4 +59,4 @@ abbrev pub OneRunByAnOrder : Type 0
 OneRunByAnOrder = (guest : Guest) (budget : ℕ) (profile : Profile) (order : List ℕ) (made : ℕ → MadeWith) (a b : List Step)
     → ((t : ℕ) → t < length guest.entries → (made t).counted ≡ true)
     → IsAnsweredByOrder guest budget profile order made a → IsAnsweredByOrder guest budget profile order made b
-    → AreSame (machine (start_flat guest budget profile)) (tables (start_flat guest budget profile)) a b
+    → AreSameRuns (machine (start_flat guest budget profile)) (tables (start_flat guest budget profile)) a b

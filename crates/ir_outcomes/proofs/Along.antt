@@ -6,9 +6,9 @@ use Rattle.ir_search.specs.declared.origin.Origin.{Origin}
 use Rattle.ir_search.specs.declared.origin.Refusal.{Refusal}
 use Rattle.ir_search.specs.Following.{BothWays}
 use Rattle.ir_search.specs.Origins.{AreReached, AreWaysOf, BeginsAt}
-use Rattle.ir_search.proofs.CallerLemmas.{ways_under_number_are_one}
-use Rattle.ir_lemmas.proofs.CallerLemmas.{element_below_length_exists}
-use Rattle.ir_store.specs.Nodes.{SourcedFlat}
+use Rattle.ir_search.proofs.CallerLemmas.{same_number_same_ways}
+use Rattle.ir_lemmas.proofs.CallerLemmas.{element_below_length}
+use Rattle.ir_state_store.specs.Nodes.{SourcedFlat}
 use Rattle.ir_graph.specs.Graph.{IsGraph}
 use Rattle.ir_graph.specs.Nodes.{AllRest}
 use Rattle.ir_graph.specs.Plain.{GoesPlain}
@@ -17,17 +17,17 @@ use Rattle.ir_graph.proofs.CallerLemmas.{plain_start_is_reached}
 use Rattle.ir_outcomes.specs.Along.{AlongPath, ArrivesBy, FailsBy, HaveWays, MayFail, StandsAt}
 use Rattle.ir_outcomes.specs.Path.{FallInLevel, IsPathTo, ways_of}
 use Rattle.ir_outcomes.specs.declared.rerun_error.RerunError.{RerunError}
-use Rattle.ir_outcomes.proofs.Onwards.{rests_alike_at_first_node}
+use Rattle.ir_outcomes.proofs.Onwards.{first_node_rests_alike}
 use Rattle.ir_outcomes.proofs.Paths.{last_turns, last_ways}
 
 -- ---- what is so of each turn
 
-begins_lower : (origins : List Origin) (k from : ℕ) → BeginsAt origins k from → 0 < k → (m : Origin) × (slice_get origins from ≡ Some m) × (m.level < k)
-begins_lower origins zero from b some = absurd (omega (arith, some))
-begins_lower origins (suc k) from b some = (b.0, b.1, let e = b.2 in omega (arith, e))
+begins_at_lower_level : (origins : List Origin) (k from : ℕ) → BeginsAt origins k from → 0 < k → (m : Origin) × (slice_get origins from ≡ Some m) × (m.level < k)
+begins_at_lower_level origins zero from b some = absurd (omega (arith, some))
+begins_at_lower_level origins (suc k) from b some = (b.0, b.1, let e = b.2 in omega (arith, e))
 
 pub origins_fall_in_level : (noted : ℕ → BothWays) (table : List Refusal) (origins : List Origin) → AreReached noted table origins → FallInLevel origins
-origins_fall_in_level noted table origins reached v n at some = begins_lower origins n.level n.from (reached v n at).0 some
+origins_fall_in_level noted table origins reached v n at some = begins_at_lower_level origins n.level n.from (reached v n at).0 some
 
 pub path_has_ways : (noted : ℕ → BothWays) (table : List Refusal) (origins : List Origin) → AreReached noted table origins
     → (v : ℕ) (path : List Origin) → IsPathTo origins v path → HaveWays table path
@@ -41,9 +41,9 @@ path_has_ways noted table origins reached v (m ∷ k ∷ path) leads (suc i) n a
     path_has_ways noted table origins reached m.from (k ∷ path) leads.1 i n at
 
 -- a turn has one list of ways
-pub ways_of_turn_are_one : (table : List Refusal) (n : Origin) (ways more : List Bool) → AreWaysOf table n ways → AreWaysOf table n more → ways ≡ more
-ways_of_turn_are_one table n ways more one other =
-    one.2 ∙ ap (λ z. z ++ replicate n.entries false) (ways_under_number_are_one table n.last_refusal one.0 other.0 one.1 other.1) ∙ sym other.2
+pub ways_of_turn_unique : (table : List Refusal) (n : Origin) (ways more : List Bool) → AreWaysOf table n ways → AreWaysOf table n more → ways ≡ more
+ways_of_turn_unique table n ways more one other =
+    one.2 ∙ ap (λ z. z ++ replicate n.entries false) (same_number_same_ways table n.last_refusal one.0 other.0 one.1 other.1) ∙ sym other.2
 
 -- the ways of all refused tries begin with those of the last k, of which the last comes first
 ways_of_drop_come_first : (xs : List Refusal) (j : ℕ) → (more : List Bool) × (ways_of xs ≡ ways_of (drop j xs) ++ more)
@@ -111,7 +111,7 @@ abbrev pub along_path_from_first_node : (setup : Setup) (flats : List SourcedFla
     → IsPathTo origins node path → GoesPlain (setup_start setup) s → AllRest s.flat → length s.sources ≡ length s.flat.threads
     → AlongPath table path node s
 along_path_from_first_node setup flats noted threads table origins path node s graph reached leads goes rest each =
-    let first = element_below_length_exists flats 0 graph.some in record {
+    let first = element_below_length flats 0 graph.some in record {
       setup = setup;
       flats = flats;
       noted = noted;
@@ -123,7 +123,7 @@ along_path_from_first_node setup flats noted threads table origins path node s g
       stands = record {
         node = first.0;
         at = first.1;
-        alike = rests_alike_at_first_node setup flats noted threads graph s first.0 first.1 goes rest;
+        alike = first_node_rests_alike setup flats noted threads graph s first.0 first.1 goes rest;
         rest = rest;
         reached = plain_start_is_reached setup s goes;
         each = each;

@@ -3,14 +3,14 @@ use Rattle.std.proofs.Common.{◌≡◌, ℕ, suc, ◌+◌, ◌<◌, ◌≤◌, 
 use Rattle.std.specs.Prelude.{slice_get}
 use Rattle.std.proofs.lemmas.Bool.{cases_lt}
 use Rattle.std.proofs.lemmas.Option.{same_Some}
-use Rattle.ir_lemmas.proofs.CallerLemmas.{element_below_length_exists}
+use Rattle.ir_lemmas.proofs.CallerLemmas.{element_below_length}
 use Rattle.ir_search.specs.declared.origin.Origin.{Origin}
-use Rattle.ir_search.proofs.CallerLemmas.{slice_get_after_push_cases, slice_get_kept_by_append, index_of_element_is_below_length}
+use Rattle.ir_search.proofs.CallerLemmas.{slice_get-push_cases, slice_get_append_kept, slice_get_some_below}
 use Rattle.ir_runs.specs.Run.{Step}
 use Rattle.ir_record.specs.Recording.{turns_of_items}
 use Rattle.ir_thread.specs.State.{most_budget}
 use Rattle.ir_flat.specs.Flat.{Flat, tables}
-use Rattle.ir_store.specs.Nodes.{SourcedFlat}
+use Rattle.ir_state_store.specs.Nodes.{SourcedFlat}
 use Rattle.ir_graph.specs.Listing.{HasOutcome, AreOutcomes}
 use Rattle.ir_graph.specs.Outcomes.{run_outcome, AllListed}
 use Rattle.ir_graph.specs.Searched.{AreSearched}
@@ -29,17 +29,17 @@ pub are_shown_step : (setup : Setup) (flats : List SourcedFlat) (origins : List 
     → AreOutcomesShown setup flats origins listed (many + 1) (outcomes ++ x ∷ [])
 are_shown_step setup flats origins listed many outcomes x s node level shown = record {
   count = let a = length-append outcomes (x ∷ []) in let b = s.count in omega (arith, a, b);
-  node = λ i y is. elim (slice_get_after_push_cases outcomes x i y is) [
+  node = λ i y is. elim (slice_get-push_cases outcomes x i y is) [
     | inl old ↦ s.node i y old
     | inr p ↦ subst (λ z. slice_get listed i ≡ Some z.node) p.1
         (subst (λ z. slice_get listed z ≡ Some x.node) (sym (p.0 ∙ s.count)) node)
   ];
-  level = λ i y n is at. elim (slice_get_after_push_cases outcomes x i y is) [
+  level = λ i y n is at. elim (slice_get-push_cases outcomes x i y is) [
     | inl old ↦ s.level i y n old at
     | inr p ↦
         ap (λ z. z.level) (sym p.1) ∙ level n (subst (λ z. slice_get origins z.node ≡ Some n) (sym p.1) at)
   ];
-  shown = λ i y f at. elim (slice_get_after_push_cases outcomes x i y at.0) [
+  shown = λ i y f at. elim (slice_get-push_cases outcomes x i y at.0) [
     | inl old ↦ s.shown i y f (old, at.1)
     | inr p ↦
         subst (λ z. IsShown setup f z.level (turns_of_items z.turns.items)) p.1
@@ -53,8 +53,8 @@ module _ (setup : Setup) (flats : List SourcedFlat) (origins : List Origin) (lev
   -- a listed node is shown
   in_list : (i v : ℕ) → slice_get listed i ≡ Some v → (x : Shown) × (slice_get outcomes i ≡ Some x) × (x.node ≡ v)
   in_list i v is =
-      let less : i < length outcomes = (let a = index_of_element_is_below_length listed i v is in let b = has.shown.count in omega (arith, a, b)) in
-      let x = element_below_length_exists outcomes i less in
+      let less : i < length outcomes = (let a = slice_get_some_below listed i v is in let b = has.shown.count in omega (arith, a, b)) in
+      let x = element_below_length outcomes i less in
       (x.0, x.1, same_Some x.0.node v (sym (has.shown.node i x.0 x.1) ∙ is))
 
   -- where a listed node has the outcome of a state, it is in the list
@@ -64,7 +64,7 @@ module _ (setup : Setup) (flats : List SourcedFlat) (origins : List Origin) (lev
       (h.place, x.0, h.state, (x.1, subst (λ z. slice_get flats z ≡ Some h.state) (sym x.2) h.at), h.same)
 
   origin_of : (i v : ℕ) → slice_get listed i ≡ Some v → (n : Origin) × (slice_get origins v ≡ Some n)
-  origin_of i v is = element_below_length_exists origins v (let a = (has.different.done i v is).0 in omega (arith, a, within))
+  origin_of i v is = element_below_length origins v (let a = (has.different.done i v is).0 in omega (arith, a, within))
 
   origin_at : (i : ℕ) (x : Shown) → slice_get outcomes i ≡ Some x → (n : Origin) × (slice_get origins x.node ≡ Some n)
   origin_at i x is = origin_of i x.node (has.shown.node i x is)
@@ -141,7 +141,7 @@ module _ (setup : Setup) (flats : List SourcedFlat) (origins : List Origin) (lev
   -- if all nodes were looked at
   pub explored_whole : seen ≡ length origins → AreExplored setup flats levels outcomes
   explored_whole all = explored_to levels (omega arith)
-      (λ v n high is. absurd (let a = index_of_element_is_below_length origins v n is in omega (arith, a, high, all)))
+      (λ v n high is. absurd (let a = slice_get_some_below origins v n is in omega (arith, a, high, all)))
       (λ v n low is. searched.most v n is)
 
   -- if only those before this one were
@@ -155,7 +155,7 @@ module _ (setup : Setup) (flats : List SourcedFlat) (origins : List Origin) (lev
   all_outcomes whole all nodes x = (
     λ h.
         let r = all h.0 h.1 h.2 in
-        let less : r.0 < seen = (let a = index_of_element_is_below_length flats r.0 r.1 r.2.0 in omega (arith, a, nodes, whole)) in
+        let less : r.0 < seen = (let a = slice_get_some_below flats r.0 r.1 r.2.0 in omega (arith, a, nodes, whole)) in
         let k = has.different.all r.0 r.1 less r.2.0 r.2.1 in
         subst (IsIn flats outcomes) (r.2.2 ∙ h.3) (has_in r.1.flat k.0),
     λ h.
@@ -169,12 +169,12 @@ module _ (setup : Setup) (flats more : List SourcedFlat) (origins new : List Ori
     (stay : Stay flats more) (stays : Stay origins new) where
   old_flat : (v : ℕ) (f : SourcedFlat) → v < seen → slice_get more v ≡ Some f → slice_get flats v ≡ Some f
   old_flat v f low is =
-      let g = element_below_length_exists flats v (omega (arith, low, few)) in
+      let g = element_below_length flats v (omega (arith, low, few)) in
       g.1 ∙ sym (stay v g.0 g.1) ∙ is
 
   old_origin : (v : ℕ) (n : Origin) → v < seen → slice_get new v ≡ Some n → slice_get origins v ≡ Some n
   old_origin v n low is =
-      let m = element_below_length_exists origins v (omega (arith, low, within)) in
+      let m = element_below_length origins v (omega (arith, low, within)) in
       m.1 ∙ sym (stays v m.0 m.1) ∙ is
 
   kept : (f : Flat) → HasOutcome flats listed f → HasOutcome more listed f
@@ -208,8 +208,8 @@ module _ (setup : Setup) (flats more : List SourcedFlat) (origins new : List Ori
   }
 
 -- no node was looked at
-pub has_shown_before_first_node : (setup : Setup) (flats : List SourcedFlat) (origins : List Origin) → HasShown setup flats origins 0 [] []
-has_shown_before_first_node setup flats origins = record {
+pub shown_before_first_node : (setup : Setup) (flats : List SourcedFlat) (origins : List Origin) → HasShown setup flats origins 0 [] []
+shown_before_first_node setup flats origins = record {
   different = record {
     done = λ i v is. absurd (cc is);
     all = λ v f less at done. absurd (omega (arith, less));
@@ -225,9 +225,9 @@ has_shown_before_first_node setup flats origins = record {
 }
 
 -- the last of a list
-slice_get_of_last_pushed : (xs : List ℕ) (x : ℕ) → slice_get (xs ++ x ∷ []) (length xs) ≡ Some x
-slice_get_of_last_pushed [] x = refl
-slice_get_of_last_pushed (y ∷ xs) x = slice_get_of_last_pushed xs x
+slice_get_last_pushed : (xs : List ℕ) (x : ℕ) → slice_get (xs ++ x ∷ []) (length xs) ≡ Some x
+slice_get_last_pushed [] x = refl
+slice_get_last_pushed (y ∷ xs) x = slice_get_last_pushed xs x
 
 -- one more node is listed and shown
 pub has_shown_step : (setup : Setup) (flats : List SourcedFlat) (origins : List Origin) (seen : ℕ) (listed : List ℕ) (outcomes : List Shown) (x : Shown)
@@ -239,7 +239,7 @@ has_shown_step setup flats origins seen listed outcomes x has different node lev
   different = different;
   shown = subst (λ n. AreOutcomesShown setup flats origins (listed ++ seen ∷ []) n (outcomes ++ x ∷ []))
       (let a = length-append listed (seen ∷ []) in omega (arith, a))
-      (are_shown_step setup flats origins (listed ++ seen ∷ []) (length listed) outcomes x wide (slice_get_of_last_pushed listed seen ∙ ap Some (sym node))
+      (are_shown_step setup flats origins (listed ++ seen ∷ []) (length listed) outcomes x wide (slice_get_last_pushed listed seen ∙ ap Some (sym node))
       (λ n is. level n (subst (λ z. slice_get origins z ≡ Some n) node is))
       (λ f is. shown f (subst (λ z. slice_get flats z ≡ Some f) node is)));
 }
@@ -247,14 +247,14 @@ has_shown_step setup flats origins seen listed outcomes x has different node lev
     wide : AreOutcomesShown setup flats origins (listed ++ seen ∷ []) (length listed) outcomes
     wide = record {
       count = has.shown.count;
-      node = λ i y is. slice_get_kept_by_append listed (seen ∷ []) i y.node (has.shown.node i y is);
+      node = λ i y is. slice_get_append_kept listed (seen ∷ []) i y.node (has.shown.node i y is);
       level = has.shown.level;
       shown = has.shown.shown;
     }
 
 -- no outcomes, before the first level
-pub are_explored_before_first_level : (setup : Setup) (flats : List SourcedFlat) → AreExplored setup flats 0 []
-are_explored_before_first_level setup flats = record {
+pub explored_before_first : (setup : Setup) (flats : List SourcedFlat) → AreExplored setup flats 0 []
+explored_before_first setup flats = record {
   shown = λ i x f at. absurd (cc at.0);
   fewest = λ i x f at. absurd (cc at.0);
   different = λ i j x y f g at. absurd (cc at.0);

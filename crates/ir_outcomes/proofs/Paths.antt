@@ -21,10 +21,10 @@ turn_before_is_lower origins falls v less some =
     let l = r.2 in (inside, omega (arith, l, one))
 
 -- one turn more at the beginning of a path
-path_to_node_is_its_origin_and_path_to_where_it_came_from : (origins : List Origin) (v : ℕ) (n : Origin) (more : List Origin) → slice_get origins v ≡ Some n
+path_by_origin : (origins : List Origin) (v : ℕ) (n : Origin) (more : List Origin) → slice_get origins v ≡ Some n
     → IsPathTo origins n.from more → IsPathTo origins v (n ∷ more)
-path_to_node_is_its_origin_and_path_to_where_it_came_from origins v n [] at path = absurd path
-path_to_node_is_its_origin_and_path_to_where_it_came_from origins v n (m ∷ more) at path = (at, path)
+path_by_origin origins v n [] at path = absurd path
+path_by_origin origins v n (m ∷ more) at path = (at, path)
 
 -- the refused try at the place that a number says, and the ways before it
 pub refusal_at_number : (table : List Refusal) (number : ℕ) (d : Refusal) → 0 < number → (ways : List Bool) → AreWaysUnder table number ways
@@ -45,27 +45,27 @@ refusal_at_number table number d some ways under =
     )
 
 -- so is one at the end of those that were found
-pub path_prefix_to_node_step_with_origin_pushed : (origins : List Origin) (node v : ℕ) (n : Origin) (found : List Origin) → slice_get origins v ≡ Some n
+pub path_prefix_step : (origins : List Origin) (node v : ℕ) (n : Origin) (found : List Origin) → slice_get origins v ≡ Some n
     → ((more : List Origin) → IsPathTo origins v more → IsPathTo origins node (found ++ more))
     → (more : List Origin) → IsPathTo origins n.from more → IsPathTo origins node ((found ++ n ∷ []) ++ more)
-path_prefix_to_node_step_with_origin_pushed origins node v n found at path more rest =
-    subst (IsPathTo origins node) (sym (append_assoc found (n ∷ []) more)) (path (n ∷ more) (path_to_node_is_its_origin_and_path_to_where_it_came_from origins v n more at rest))
+path_prefix_step origins node v n found at path more rest =
+    subst (IsPathTo origins node) (sym (append_assoc found (n ∷ []) more)) (path (n ∷ more) (path_by_origin origins v n more at rest))
 
-ways_of_push_are_ways_of_pushed_before_ways_of_rest : (refusals : List Refusal) (x : Refusal) → ways_of (refusals ++ x ∷ []) ≡ (replicate x.entries false ++ true ∷ []) ++ ways_of refusals
-ways_of_push_are_ways_of_pushed_before_ways_of_rest [] x = sym (append-nil (replicate x.entries false ++ true ∷ []))
-ways_of_push_are_ways_of_pushed_before_ways_of_rest (y ∷ refusals) x =
-    ap (λ z. z ++ (replicate y.entries false ++ true ∷ [])) (ways_of_push_are_ways_of_pushed_before_ways_of_rest refusals x)
+ways_of_push : (refusals : List Refusal) (x : Refusal) → ways_of (refusals ++ x ∷ []) ≡ (replicate x.entries false ++ true ∷ []) ++ ways_of refusals
+ways_of_push [] x = sym (append-nil (replicate x.entries false ++ true ∷ []))
+ways_of_push (y ∷ refusals) x =
+    ap (λ z. z ++ (replicate y.entries false ++ true ∷ [])) (ways_of_push refusals x)
     ∙ append_assoc (replicate x.entries false ++ true ∷ []) (ways_of refusals) (replicate y.entries false ++ true ∷ [])
 
 -- one refused try more of those that the table has under a number
-pub ways_under_number_step_with_refusal_pushed : (table refusals : List Refusal) (number i : ℕ) (x : Refusal) → slice_get table i ≡ Some x → x.before ≤ i
+pub ways_under_step : (table refusals : List Refusal) (number i : ℕ) (x : Refusal) → slice_get table i ≡ Some x → x.before ≤ i
     → ((ways : List Bool) → AreWaysUnder table (suc i) ways → AreWaysUnder table number (ways ++ ways_of refusals))
     → (ways : List Bool) → AreWaysUnder table x.before ways → AreWaysUnder table number (ways ++ ways_of (refusals ++ x ∷ []))
-ways_under_number_step_with_refusal_pushed table refusals number i x at low found ways spelled =
+ways_under_step table refusals number i x at low found ways spelled =
     let one : List Bool = replicate x.entries false ++ true ∷ [] in
     let joined : ((ways ++ replicate x.entries false) ++ true ∷ []) ++ ways_of refusals ≡ ways ++ ways_of (refusals ++ x ∷ []) =
     ap (λ z. z ++ ways_of refusals) (append_assoc ways (replicate x.entries false) (true ∷ []))
-    ∙ append_assoc ways one (ways_of refusals) ∙ ap (λ z. ways ++ z) (sym (ways_of_push_are_ways_of_pushed_before_ways_of_rest refusals x)) in
+    ∙ append_assoc ways one (ways_of refusals) ∙ ap (λ z. ways ++ z) (sym (ways_of_push refusals x)) in
     subst (AreWaysUnder table number) joined (found ((ways ++ replicate x.entries false) ++ true ∷ []) (Refused i x ways at low spelled))
 
 -- the ways of the last k of these refused tries, of which the last comes first

@@ -10,16 +10,16 @@ ok_fact_if_no_error (Ok x) never p = p
 ok_fact_if_no_error (Err e) never p = absurd never
 
 -- what is so of this error
-pub error_fact_of_known_error : {A E : Type 0} (P : E → Type 0) (r : Result A E) (e : E) → IsErrOf r e → IfErr r P → P e
-error_fact_of_known_error P r e is p = subst (λ z. IfErr z P) is p
+pub known_error_fact : {A E : Type 0} (P : E → Type 0) (r : Result A E) (e : E) → IsErrOf r e → IfErr r P → P e
+known_error_fact P r e is p = subst (λ z. IfErr z P) is p
 
 -- what is so of a new value on success, and of the old one, where an error leaves that
-pub property_carries_from_old_to_new_if_error_keeps_old : {A E L : Type 0} (P : L → Type 0) (r : Result A E) (new old : L) → OnOk r (P new) → OnErr r (new ≡ old) → P old → P new
-property_carries_from_old_to_new_if_error_keeps_old P (Ok x) new old ok same p = ok
-property_carries_from_old_to_new_if_error_keeps_old P (Err e) new old ok same p = subst P (sym same) p
+pub error_keeps_property : {A E L : Type 0} (P : L → Type 0) (r : Result A E) (new old : L) → OnOk r (P new) → OnErr r (new ≡ old) → P old → P new
+error_keeps_property P (Ok x) new old ok same p = ok
+error_keeps_property P (Err e) new old ok same p = subst P (sym same) p
 
 -- fewer levels are left once one is gone over
-pub fewer_levels_left_after_one_is_gone_over : (stop : Option Stop) (old new most : ℕ) → old ≤ most → (stop ≡ None → new ≡ suc old)
+pub fewer_levels_left : (stop : Option Stop) (old new most : ℕ) → old ≤ most → (stop ≡ None → new ≡ suc old)
     → levels_left stop (suc most - new) < levels_left None (suc most - old)
-fewer_levels_left_after_one_is_gone_over None old new most few next = let a = next refl in omega (arith, a, few)
-fewer_levels_left_after_one_is_gone_over (Some why) old new most few next = omega arith
+fewer_levels_left None old new most few next = let a = next refl in omega (arith, a, few)
+fewer_levels_left (Some why) old new most few next = omega arith

@@ -5,8 +5,8 @@ use Rattle.ir_search.specs.declared.origin.Refusal.{Refusal}
 use Rattle.ir_search.specs.Origins.{AreWaysOf}
 use Rattle.ir_record.specs.Refusing.{Turn, InTurns}
 use Rattle.ir_runs.specs.Run.{Step, end}
-use Rattle.ir_store.specs.Nodes.{SourcedFlat}
-use Rattle.ir_graph.specs.Plain.{full_by, full_of, IsAnsweredRun, IsLike}
+use Rattle.ir_state_store.specs.Nodes.{SourcedFlat}
+use Rattle.ir_graph.specs.Plain.{full_by, full_of, IsAnsweredRun, LooksAlike}
 use Rattle.ir_graph.specs.Reached.{beginning}
 use Rattle.ir_graph.specs.Setup.{Setup, setup_start}
 use Rattle.ir_graph.specs.Turn.{ways_taken}
@@ -18,7 +18,7 @@ TakesEach turns steps = map (λ (e : Step). e.0) steps ≡ map (λ (t : Turn). t
 -- s is the guest after a run by these turns from its start, which goes these ways: so its threads enter and try, in turn, and no try but those is
 -- refused. Each call is answered by its thread's source.
 pub record IsAgain (setup : Setup) (turns : List Turn) (ways : List (ℕ × Bool)) (s : SourcedFlat) : Type 0 where
-  pub like : IsLike (setup_start setup).flat s.flat
+  pub like : LooksAlike (setup_start setup).flat s.flat
   pub steps : List Step
   pub answered : IsAnsweredRun setup.guest.code (beginning setup) steps
   pub in_turns : InTurns (full_by setup.guest.code) (beginning setup) turns steps

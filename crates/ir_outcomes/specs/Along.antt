@@ -4,7 +4,7 @@ use Rattle.ir_search.specs.declared.origin.Origin.{Origin}
 use Rattle.ir_search.specs.declared.origin.Refusal.{Refusal}
 use Rattle.ir_search.specs.Following.{BothWays}
 use Rattle.ir_search.specs.Origins.{AreReached, AreWaysOf, Goes}
-use Rattle.ir_store.specs.Nodes.{SourcedFlat}
+use Rattle.ir_state_store.specs.Nodes.{SourcedFlat}
 use Rattle.ir_graph.specs.Graph.{IsGraph}
 use Rattle.ir_graph.specs.Nodes.{LookAlike, AllRest}
 use Rattle.ir_graph.specs.Reached.{IsReached}

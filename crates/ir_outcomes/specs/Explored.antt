@@ -7,7 +7,7 @@ use Rattle.ir_search.specs.Ways.{shut}
 use Rattle.ir_record.specs.Recording.{turns_of_items}
 use Rattle.ir_runs.specs.Run.{Step}
 use Rattle.ir_flat.specs.Flat.{tables}
-use Rattle.ir_store.specs.Nodes.{SourcedFlat}
+use Rattle.ir_state_store.specs.Nodes.{SourcedFlat}
 use Rattle.ir_graph.specs.Hangs.{IsHangOf, AreMarked}
 use Rattle.ir_graph.specs.Nodes.{AreNodes}
 use Rattle.ir_graph.specs.Reached.{AllReached}

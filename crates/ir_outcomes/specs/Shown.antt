@@ -6,7 +6,7 @@ use Rattle.ir_search_laws.specs.Counting.{entering}
 use Rattle.ir_search_laws.specs.Outcomes.{switches}
 use Rattle.ir_thread.specs.State.{most_budget, thread_machine}
 use Rattle.ir_flat.specs.Flat.{tables, start_flat}
-use Rattle.ir_store.specs.Nodes.{SourcedFlat}
+use Rattle.ir_state_store.specs.Nodes.{SourcedFlat}
 use Rattle.ir_graph.specs.Hangs.{IsCounting, CanEnd, CanEndFrom, IsHangOf}
 use Rattle.ir_graph.specs.Outcomes.{RunOutcome, run_outcome}
 use Rattle.ir_graph.specs.Setup.{Setup, IsCountedOf}

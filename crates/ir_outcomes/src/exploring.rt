@@ -5,7 +5,7 @@ ghost use Rattle.ir_search.specs.declared.search.Ended.TheVariants.{Finished, Co
 ghost use Rattle.ir_search.specs.declared.stop.Stop.{Stop};
 ghost use Rattle.ir_search.specs.declared.stop.Stop.TheVariants.{Memory};
 ghost use Rattle.ir_search.specs.Following.{Stay};
-ghost use Rattle.ir_graph.specs.Searched.{IsWhole};
+ghost use Rattle.ir_graph.specs.Searched.{IsWholeGraph};
 ghost use Rattle.ir_graph.specs.Stops.{IsStop, MayStop};
 ghost use Rattle.ir_outcomes.specs.Explored.{AreHangs, IsExplored};
 ghost use Rattle.ir_outcomes.specs.Exploring.{IsExploring};
@@ -133,7 +133,7 @@ impl<'a> Exploring<'a> {
         requires is { IsExploring self.now }
         requires stop { self.now.stop ≡ None }
         requires over { self.now.states.search.level.until ≤ self.now.states.search.level.first }
-        requires whole { IsWhole self.now.states }
+        requires whole { IsWholeGraph self.now.states }
         ensures hangs { IfOk result (λ found. AreHangs self.now.states.graph.setup self.now.states.graph.flats.items found.0 found.1) }
         ensures refused { IfErr result (λ why. MayStop self.now.states.graph.setup self.now.states.graph.flats.items self.now.states.graph.bounds.nodes self.now.states.graph.bounds.private why) }
     {
@@ -149,8 +149,10 @@ impl<'a> Exploring<'a> {
     fn ending(&self) -> Ending
         requires allowed { IsAllowed self.now.states.graph.setup.profile self.now.states.graph.setup.guest }
         requires is { IsExploring self.now }
-        ensures stopped { (why : Stop) → result.ended ≡ Stopped why → MayStop self.now.states.graph.setup self.now.states.graph.flats.items self.now.states.graph.bounds.nodes self.now.states.graph.bounds.private why }
-        ensures finished { result.ended ≡ Finished → (self.now.stop ≡ None) × (self.now.states.search.level.until ≤ self.now.states.search.level.first) × IsWhole self.now.states }
+        ensures stopped { (why : Stop) → result.ended ≡ Stopped why
+            → MayStop self.now.states.graph.setup self.now.states.graph.flats.items self.now.states.graph.bounds.nodes
+            self.now.states.graph.bounds.private why }
+        ensures finished { result.ended ≡ Finished → (self.now.stop ≡ None) × (self.now.states.search.level.until ≤ self.now.states.search.level.first) × IsWholeGraph self.now.states }
         ensures covered { result.ended ≡ Covered → (self.now.stop ≡ None) × (self.now.states.search.level.first < self.now.states.search.level.until) }
         ensures hangs { result.ended ≡ Finished → AreHangs self.now.states.graph.setup self.now.states.graph.flats.items result.hangs result.hang }
         ensures unknown { (result.ended ≡ Finished → ⊥) → result.hang ≡ None }

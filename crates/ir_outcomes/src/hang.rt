@@ -2,14 +2,14 @@
 
 ghost use Rattle.std.specs.Prelude.{◌≡◌, ℕ, ◌<◌, ◌≤◌, false, Some, None, length, slice_get, IfOk, IfErr};
 ghost use Rattle.ir_search.specs.declared.origin.Origin.{Origin};
-ghost use Rattle.ir_search.specs.Following.{IsOpen};
+ghost use Rattle.ir_search.specs.Following.{IsNodeOpen};
 ghost use Rattle.ir_search.specs.Ways.{shut};
 ghost use Rattle.ir_graph.specs.Searched.{IsSearch};
 ghost use Rattle.ir_graph.specs.Stops.{MayStop};
 ghost use Rattle.ir_record.specs.Recording.{turns_of_items};
-ghost use Rattle.ir_store.specs.Nodes.{SourcedFlat};
+ghost use Rattle.ir_state_store.specs.Nodes.{SourcedFlat};
 ghost use Rattle.ir_thread.specs.State.{IsAllowed};
-ghost use Rattle.ir_outcomes.specs.Hang.{IsFirst};
+ghost use Rattle.ir_outcomes.specs.Hang.{IsFirstHang};
 ghost use Rattle.ir_outcomes.specs.Shown.{IsShownAt};
 ghost use Rattle.ir_outcomes.specs.declared.shown.Shown.{Shown};
 
@@ -35,8 +35,8 @@ pub fn count_lost(marks: &[bool]) -> usize
 
 // The first that isn't.
 fn first_lost(marks: &[bool]) -> Option<usize>
-    ensures some { (v : ℕ) → result ≡ Some v → IsFirst marks.now v }
-    ensures none { result ≡ None → (v : ℕ) → v < length marks.now → IsOpen marks.now v }
+    ensures some { (v : ℕ) → result ≡ Some v → IsFirstHang marks.now v }
+    ensures none { result ≡ None → (v : ℕ) → v < length marks.now → IsNodeOpen marks.now v }
 {
     for v in 0..marks.len() {
         if !marks[v] {
@@ -54,7 +54,9 @@ fn lead(alloc: Global, states: &States<'_>, node: usize) -> Result<Shown, Stop>
     ensures refused { IfErr result (λ stop. MayStop states.now.graph.setup states.now.graph.flats.items states.now.graph.bounds.nodes states.now.graph.bounds.private stop) }
     ensures node { IfOk result (λ shown. shown.node ≡ node) }
     ensures level { IfOk result (λ shown. (n : Origin) → slice_get states.now.search.found.nodes.items node ≡ Some n → shown.level ≡ n.level) }
-    ensures shown { IfOk result (λ shown. (s : SourcedFlat) → slice_get states.now.graph.flats.items node ≡ Some s → IsShownAt states.now.graph.setup s shown.level (turns_of_items shown.turns.items)) }
+    ensures shown { IfOk result
+        (λ shown. (s : SourcedFlat) → slice_get states.now.graph.flats.items node ≡ Some s
+        → IsShownAt states.now.graph.setup s shown.level (turns_of_items shown.turns.items)) }
 {
     let origins = states.search.found.nodes.as_slice();
     let path = path_to(alloc, origins, node)?;
@@ -78,10 +80,12 @@ pub fn find_hang(alloc: Global, states: &States<'_>, marks: &[bool]) -> Result<O
     requires search { IsSearch states.now }
     requires marks { length marks.now ≤ length states.now.search.found.nodes.items }
     ensures refused { IfErr result (λ stop. MayStop states.now.graph.setup states.now.graph.flats.items states.now.graph.bounds.nodes states.now.graph.bounds.private stop) }
-    ensures none { IfOk result (λ hang. hang ≡ None → (v : ℕ) → v < length marks.now → IsOpen marks.now v) }
-    ensures first { IfOk result (λ hang. (x : Shown) → hang ≡ Some x → IsFirst marks.now x.node) }
+    ensures none { IfOk result (λ hang. hang ≡ None → (v : ℕ) → v < length marks.now → IsNodeOpen marks.now v) }
+    ensures first { IfOk result (λ hang. (x : Shown) → hang ≡ Some x → IsFirstHang marks.now x.node) }
     ensures level { IfOk result (λ hang. (x : Shown) → hang ≡ Some x → (n : Origin) → slice_get states.now.search.found.nodes.items x.node ≡ Some n → x.level ≡ n.level) }
-    ensures shown { IfOk result (λ hang. (x : Shown) → hang ≡ Some x → (s : SourcedFlat) → slice_get states.now.graph.flats.items x.node ≡ Some s → IsShownAt states.now.graph.setup s x.level (turns_of_items x.turns.items)) }
+    ensures shown { IfOk result
+        (λ hang. (x : Shown) → hang ≡ Some x → (s : SourcedFlat) → slice_get states.now.graph.flats.items x.node ≡ Some s
+        → IsShownAt states.now.graph.setup s x.level (turns_of_items x.turns.items)) }
 {
     let Some(node) = first_lost(marks) else {
         return Ok(None);

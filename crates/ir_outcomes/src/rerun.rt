@@ -12,7 +12,7 @@ ghost use Rattle.ir_graph.specs.Setup.{Setup, setup_start};
 ghost use Rattle.ir_graph.specs.Stops.{MayStop, StopsFollowing};
 ghost use Rattle.ir_graph.specs.Turn.{GoesAlone};
 ghost use Rattle.ir_record.specs.Recording.{turns_of_items};
-ghost use Rattle.ir_store.specs.Nodes.{SourcedFlat};
+ghost use Rattle.ir_state_store.specs.Nodes.{SourcedFlat};
 ghost use Rattle.ir_thread.specs.State.{IsAllowed, ask_of};
 ghost use Rattle.ir_outcomes.specs.Again.{IsAgain, IsAgainBy, ways_by};
 ghost use Rattle.ir_outcomes.specs.Along.{AlongPath, ArrivesBy, FailsBy, HaveWays, MayFail, StandsAt};
@@ -24,7 +24,7 @@ use crate::rerun_error::RerunError;
 use ir_graph::{States, run_to_rest, same_state, way_result};
 use ir_record::Item;
 use ir_search::{Origin, Refusal, Stop};
-use ir_store::SourcedFlat;
+use ir_state_store::SourcedFlat;
 use std::alloc::Global;
 
 // So many steps of a thread from where it rests, each up to where it rests again: all are refused tries, or all enter.
@@ -113,7 +113,10 @@ fn add_stretch(
     stretch: Stretch,
     limit: u64,
 ) -> Result<(), RerunError>
-    ensures again { OnOk result ((setup : Setup) (before : List (ℕ × Bool)) → IsAgain setup (turns_of_items items.old.items) before state.old → IsAgain setup (turns_of_items items.new.items) (before ++ replicate stretch.steps (stretch.thread, stretch.refused)) state.new) }
+    ensures again { OnOk result
+        ((setup : Setup) (before : List (ℕ × Bool)) → IsAgain setup (turns_of_items items.old.items) before state.old
+        → IsAgain setup (turns_of_items items.new.items) (before ++ replicate stretch.steps (stretch.thread, stretch.refused))
+        state.new) }
     ensures arrives { OnOk result (ArrivesBy stretch.thread (replicate stretch.steps stretch.refused) state.old state.new) }
     ensures fails { IfErr result (λ e. FailsBy limit stretch.thread (replicate stretch.steps stretch.refused) state.old e) }
 {
@@ -146,7 +149,10 @@ fn add_refusal(
     refusal: Refusal,
     limit: u64,
 ) -> Result<(), RerunError>
-    ensures again { OnOk result ((setup : Setup) (before : List (ℕ × Bool)) → IsAgain setup (turns_of_items items.old.items) before state.old → IsAgain setup (turns_of_items items.new.items) (before ++ ways_by thread (replicate refusal.entries false ++ true ∷ [])) state.new) }
+    ensures again { OnOk result
+        ((setup : Setup) (before : List (ℕ × Bool)) → IsAgain setup (turns_of_items items.old.items) before state.old
+        → IsAgain setup (turns_of_items items.new.items) (before ++ ways_by thread (replicate refusal.entries false ++ true ∷ []))
+        state.new) }
     ensures arrives { OnOk result (ArrivesBy thread (replicate refusal.entries false ++ true ∷ []) state.old state.new) }
     ensures fails { IfErr result (λ e. FailsBy limit thread (replicate refusal.entries false ++ true ∷ []) state.old e) }
 {
@@ -179,7 +185,10 @@ fn add_turn(
     limit: u64,
 ) -> Result<(), RerunError>
     requires { (ways : List Bool) × AreWaysOf table.now origin ways }
-    ensures again { OnOk result ((setup : Setup) (before : List (ℕ × Bool)) → IsAgain setup (turns_of_items items.old.items) before state.old → (ways : List Bool) × AreWaysOf table.now origin ways × IsAgain setup (turns_of_items items.new.items) (before ++ ways_by origin.thread ways) state.new) }
+    ensures again { OnOk result
+        ((setup : Setup) (before : List (ℕ × Bool)) → IsAgain setup (turns_of_items items.old.items) before state.old
+        → (ways : List Bool) × AreWaysOf table.now origin ways
+        × IsAgain setup (turns_of_items items.new.items) (before ++ ways_by origin.thread ways) state.new) }
     ensures arrives { OnOk result ((ways : List Bool) → AreWaysOf table.now origin ways → ArrivesBy origin.thread ways state.old state.new) }
     ensures fails { IfErr result (λ e. (ways : List Bool) → AreWaysOf table.now origin ways → FailsBy limit origin.thread ways state.old e) }
 {
@@ -236,7 +245,9 @@ fn add_rest(
 ) -> Result<(), RerunError>
     requires thread { thread < length state.old.flat.threads }
     requires source { thread < length state.old.sources }
-    ensures again { OnOk result ((setup : Setup) (ways : List (ℕ × Bool)) → IsAgain setup (turns_of_items items.old.items) ways state.old → IsAgain setup (turns_of_items items.new.items) ways state.new) }
+    ensures again { OnOk result
+        ((setup : Setup) (ways : List (ℕ × Bool)) → IsAgain setup (turns_of_items items.old.items) ways state.old
+        → IsAgain setup (turns_of_items items.new.items) ways state.new) }
     ensures goes { GoesPlain state.old state.new }
     ensures others { OthersStay state.old state.new thread }
     ensures rests { OnOk result (Rests (ask_of state.new.flat.code (thread_of state.new.flat thread))) }
@@ -264,7 +275,9 @@ fn add_rests(
     limit: u64,
 ) -> Result<(), RerunError>
     requires { length state.old.sources ≡ length state.old.flat.threads }
-    ensures again { OnOk result ((setup : Setup) (ways : List (ℕ × Bool)) → IsAgain setup (turns_of_items items.old.items) ways state.old → IsAgain setup (turns_of_items items.new.items) ways state.new) }
+    ensures again { OnOk result
+        ((setup : Setup) (ways : List (ℕ × Bool)) → IsAgain setup (turns_of_items items.old.items) ways state.old
+        → IsAgain setup (turns_of_items items.new.items) ways state.new) }
     ensures goes { GoesPlain state.old state.new }
     ensures rest { OnOk result (AllRest state.new.flat) }
     ensures fails { IfErr result (λ e. (setup : Setup) → state.old ≡ setup_start setup → MayFail setup limit e) }

@@ -11,14 +11,14 @@ tail xs = take (length xs - 1) (drop 1 xs)
 tail_of_cons : (a : ℕ) (xs : List ℕ) → tail (a ∷ xs) ≡ xs
 tail_of_cons a xs = take_all (length (a ∷ xs) - 1) xs (omega arith)
 
-pub decimal_from_of_first_two_digits_and_rest : (n m : ℕ) (digits : List ℕ) (r : Option ℕ) → 1 ≤ length digits → 1 ≤ length (tail digits)
+pub decimal_from_two_digits : (n m : ℕ) (digits : List ℕ) (r : Option ℕ) → 1 ≤ length digits → 1 ≤ length (tail digits)
     → decimal_more n (get_or digits 0 0) (get_or (tail digits) 0 0) ≡ Some m → r ≡ decimal_from m (tail (tail digits)) → r ≡ decimal_from n digits
 unfolding decimal_from
-decimal_from_of_first_two_digits_and_rest n m [] r long more one is = absurd (omega (arith, long))
-decimal_from_of_first_two_digits_and_rest n m (a ∷ []) r long more one is =
+decimal_from_two_digits n m [] r long more one is = absurd (omega (arith, long))
+decimal_from_two_digits n m (a ∷ []) r long more one is =
     let none = ap length (tail_of_cons a []) in
     absurd (omega (arith, more, none))
-decimal_from_of_first_two_digits_and_rest n m (a ∷ b ∷ rest) r long more one is =
+decimal_from_two_digits n m (a ∷ b ∷ rest) r long more one is =
     let second : tail (a ∷ b ∷ rest) ≡ b ∷ rest = tail_of_cons a (b ∷ rest) in
     is ∙ ap (λ xs. decimal_from m (tail xs)) second ∙ ap (decimal_from m) (tail_of_cons b rest)
     ∙ sym (ap (option_and_then (λ k. decimal_from k rest)) (sym (ap (λ xs. decimal_more n a (get_or xs 0 0)) second) ∙ one))

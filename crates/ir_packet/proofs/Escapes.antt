@@ -7,7 +7,7 @@ unescaped_of_empty : (e : Bool) → unescaped_from e [] ≡ []
 unfolding unescaped_from
 unescaped_of_empty e = refl
 
-pub unescaped_complete_past_end : (done whole raw : List ℕ) (e : Bool) (i : ℕ) → length raw ≤ i → done ++ unescaped_from e (drop i raw) ≡ whole
+pub unescaped_past_end : (done whole raw : List ℕ) (e : Bool) (i : ℕ) → length raw ≤ i → done ++ unescaped_from e (drop i raw) ≡ whole
     → done ≡ whole
-unescaped_complete_past_end done whole raw e i past is =
+unescaped_past_end done whole raw e i past is =
     sym (append-nil done) ∙ ap (λ (r : List ℕ). done ++ r) (sym (ap (unescaped_from e) (drop_of_length-le raw past) ∙ unescaped_of_empty e)) ∙ is

@@ -3,8 +3,8 @@ use Rattle.std.proofs.Common.{◌≡◌, ◌++◌, ◌∷◌, [], ℕ, List, Boo
 use Rattle.std.specs.Prelude.{flat_map, ⊤}
 use Rattle.std.specs.List.{AllByRecursion}
 use Rattle.ir_packet.specs.Stream.{Place, Between, Inside, Summing, Digit, step}
-use Rattle.ir_packet.specs.Parts.{Part, Byte, Whole, CutOff, bytes_of, begun, parts_from, parts, IsPlain, IsPlainPlace, IsPart, BeginsPacket, CutsOff, AreCutOff}
-use Rattle.ir_packet.proofs.Cut.{inside_by, step_keeps_plain_place, place_is_not_between_if_is_between_is_false}
+use Rattle.ir_packet.specs.Parts.{Part, Byte, Whole, CutOff, bytes_of, begun_packet, parts_from, parts, IsPlain, IsPlainPlace, IsStreamPart, BeginsPacket, CutsOff, AreCutOff}
+use Rattle.ir_packet.proofs.Cut.{inside_by, step_keeps_plain_place, not_between_by_test}
 
 -- ---- each that is cut off is so
 
@@ -14,16 +14,16 @@ AreBegun [] = ⊤
 AreBegun (p ∷ ps) = BeginsPacket p
 
 -- from a place in a packet on
-parts_from_packet_are_begun : (p : Place) (bytes : List ℕ) → (p ≡ Between → ⊥) → AreBegun (parts_from p bytes)
+packet_parts_begun : (p : Place) (bytes : List ℕ) → (p ≡ Between → ⊥) → AreBegun (parts_from p bytes)
 unfolding parts_from
-parts_from_packet_are_begun Between bytes inside = absurd (inside refl)
-parts_from_packet_are_begun (Inside raw) [] inside = tt
-parts_from_packet_are_begun (Summing raw) [] inside = tt
-parts_from_packet_are_begun (Digit raw a) [] inside = tt
-parts_from_packet_are_begun (Digit raw a) (b ∷ bytes) inside = tt
-parts_from_packet_are_begun (Summing raw) (b ∷ bytes) inside = parts_from_packet_are_begun (Digit raw b) bytes (place_is_not_between_if_is_between_is_false (Digit raw b) refl)
-parts_from_packet_are_begun (Inside raw) (b ∷ bytes) inside = by (eqb b 36) (eqb b 35) (parts_from_packet_are_begun (Inside (raw ++ b ∷ [])) bytes (place_is_not_between_if_is_between_is_false (Inside (raw ++ b ∷ [])) refl))
-    (parts_from_packet_are_begun (Summing raw) bytes (place_is_not_between_if_is_between_is_false (Summing raw) refl))
+packet_parts_begun Between bytes inside = absurd (inside refl)
+packet_parts_begun (Inside raw) [] inside = tt
+packet_parts_begun (Summing raw) [] inside = tt
+packet_parts_begun (Digit raw a) [] inside = tt
+packet_parts_begun (Digit raw a) (b ∷ bytes) inside = tt
+packet_parts_begun (Summing raw) (b ∷ bytes) inside = packet_parts_begun (Digit raw b) bytes (not_between_by_test (Digit raw b) refl)
+packet_parts_begun (Inside raw) (b ∷ bytes) inside = by (eqb b 36) (eqb b 35) (packet_parts_begun (Inside (raw ++ b ∷ [])) bytes (not_between_by_test (Inside (raw ++ b ∷ [])) refl))
+    (packet_parts_begun (Summing raw) bytes (not_between_by_test (Summing raw) refl))
   where
     by : (t u : Bool) → AreBegun (parts_from (Inside (raw ++ b ∷ [])) bytes) → AreBegun (parts_from (Summing raw) bytes)
         → AreBegun (cond t (CutOff (36 ∷ raw) ∷ []) [] ++ parts_from (inside_by t u raw b) bytes)
@@ -31,7 +31,7 @@ parts_from_packet_are_begun (Inside raw) (b ∷ bytes) inside = by (eqb b 36) (e
     by false true on summing = summing
     by false false on summing = on
 
-cut_off_before_begun : (bytes : List ℕ) (raw : List ℕ) (rest : List Part) → bytes ≡ begun (Inside raw) → IsPlain raw → AreBegun rest → CutsOff bytes rest
+cut_off_before_begun : (bytes : List ℕ) (raw : List ℕ) (rest : List Part) → bytes ≡ begun_packet (Inside raw) → IsPlain raw → AreBegun rest → CutsOff bytes rest
 cut_off_before_begun bytes raw [] is plain begins = tt
 cut_off_before_begun bytes raw (next ∷ rest) is plain begins = ((raw, is, plain), begins)
 
@@ -50,7 +50,7 @@ parts_from_are_cut_off (Inside raw) (b ∷ bytes) plain = by (eqb b 36) refl (pa
   where
     begins : eqb b 36 ≡ true → AreBegun (parts_from (step (Inside raw) b) bytes)
     begins is = subst (λ (t : Bool). AreBegun (parts_from (inside_by t (eqb b 35) raw b) bytes)) (sym is)
-        (parts_from_packet_are_begun (Inside []) bytes (place_is_not_between_if_is_between_is_false (Inside []) refl))
+        (packet_parts_begun (Inside []) bytes (not_between_by_test (Inside []) refl))
 
     by : (t : Bool) → eqb b 36 ≡ t → AreCutOff (parts_from (step (Inside raw) b) bytes)
         → AreCutOff (cond t (CutOff (36 ∷ raw) ∷ []) [] ++ parts_from (step (Inside raw) b) bytes)
@@ -59,8 +59,8 @@ parts_from_are_cut_off (Inside raw) (b ∷ bytes) plain = by (eqb b 36) refl (pa
 parts_from_are_cut_off (Summing raw) (b ∷ bytes) plain = parts_from_are_cut_off (Digit raw b) bytes plain
 parts_from_are_cut_off (Digit raw a) (b ∷ bytes) plain = parts_from_are_cut_off Between bytes tt
 
-pub parts_of_stream_are_cut_off : (bytes : List ℕ) → AreCutOff (parts bytes)
-parts_of_stream_are_cut_off bytes = parts_from_are_cut_off Between bytes tt
+pub stream_parts_cut_off : (bytes : List ℕ) → AreCutOff (parts bytes)
+stream_parts_cut_off bytes = parts_from_are_cut_off Between bytes tt
 
 -- ---- no other parts are
 
@@ -95,7 +95,7 @@ unfolding parts_from
 parts_of_cut_off raw rest plain = parts_past_plain [] raw (36 ∷ rest) plain
 
 -- one that the end cuts off
-parts_of_last : (p : Place) → IsPlainPlace p → (p ≡ Between → ⊥) → parts_from Between (begun p) ≡ CutOff (begun p) ∷ []
+parts_of_last : (p : Place) → IsPlainPlace p → (p ≡ Between → ⊥) → parts_from Between (begun_packet p) ≡ CutOff (begun_packet p) ∷ []
 unfolding parts_from
 parts_of_last Between plain inside = absurd (inside refl)
 parts_of_last (Inside raw) plain inside = ap (λ (xs : List ℕ). parts_from (Inside []) xs) (sym (append-nil raw)) ∙ parts_past_plain [] raw [] plain
@@ -103,7 +103,7 @@ parts_of_last (Summing raw) plain inside = parts_past_plain [] raw (35 ∷ []) p
 parts_of_last (Digit raw a) plain inside = parts_past_plain [] raw (35 ∷ a ∷ []) plain
 
 -- what begins with `$` has it as its first byte
-first_byte_of_begun : (part : Part) → BeginsPacket part → IsPart part → (rest : List ℕ) × (bytes_of part ≡ 36 ∷ rest)
+first_byte_of_begun : (part : Part) → BeginsPacket part → IsStreamPart part → (rest : List ℕ) × (bytes_of part ≡ 36 ∷ rest)
 first_byte_of_begun (Byte b) begins is = absurd begins
 first_byte_of_begun (Whole raw a b) begins is = (raw ++ 35 ∷ a ∷ b ∷ [], refl)
 first_byte_of_begun (CutOff bytes) begins (Between, same, plain, inside) = absurd (inside refl)
@@ -111,7 +111,7 @@ first_byte_of_begun (CutOff bytes) begins (Inside raw, same, plain, inside) = (r
 first_byte_of_begun (CutOff bytes) begins (Summing raw, same, plain, inside) = (raw ++ 35 ∷ [], same)
 first_byte_of_begun (CutOff bytes) begins (Digit raw a, same, plain, inside) = (raw ++ 35 ∷ a ∷ [], same)
 
-parts_are_read_back : (those : List Part) → AllByRecursion IsPart those → AreCutOff those → parts_from Between (flat_map bytes_of those) ≡ those
+parts_are_read_back : (those : List Part) → AllByRecursion IsStreamPart those → AreCutOff those → parts_from Between (flat_map bytes_of those) ≡ those
 unfolding AreCutOff parts_from
 parts_are_read_back [] all cut = refl
 parts_are_read_back (Byte b ∷ rest) all cut = parts_of_byte b (flat_map bytes_of rest) all.0 ∙ ap (λ (ps : List Part). Byte b ∷ ps) (parts_are_read_back rest all.1 cut)
@@ -132,7 +132,7 @@ parts_are_read_back (CutOff bytes ∷ next ∷ rest) all cut =
     ∙ ap (λ (ps : List Part). CutOff (36 ∷ raw) ∷ ps) (parts_are_read_back (next ∷ rest) all.1 cut.1)
     ∙ ap (λ (xs : List ℕ). CutOff xs ∷ next ∷ rest) (sym same)
 
-pub such_parts_are_parts_of_stream : (bytes : List ℕ) (those : List Part) → flat_map bytes_of those ≡ bytes → AllByRecursion IsPart those → AreCutOff those
+pub such_parts_are_of_stream : (bytes : List ℕ) (those : List Part) → flat_map bytes_of those ≡ bytes → AllByRecursion IsStreamPart those → AreCutOff those
     → those ≡ parts bytes
-such_parts_are_parts_of_stream bytes those are all cut =
+such_parts_are_of_stream bytes those are all cut =
     sym (parts_are_read_back those all cut) ∙ ap (λ (xs : List ℕ). parts_from Between xs) are

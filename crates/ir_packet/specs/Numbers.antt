@@ -42,17 +42,17 @@ decimal_number [] = None
 decimal_number (a ∷ digits) = decimal_from 0 (a ∷ digits)
 
 -- how many bytes are before the first of these
-unfoldable pub index_of : ℕ → List ℕ → ℕ
-index_of mark [] = 0
-index_of mark (b ∷ bytes) = if b == mark then 0 else suc (index_of mark bytes)
+unfoldable pub digit_index_of : ℕ → List ℕ → ℕ
+digit_index_of mark [] = 0
+digit_index_of mark (b ∷ bytes) = if b == mark then 0 else suc (digit_index_of mark bytes)
 
 -- the bytes before the first of these; all of them if there is none
-abbrev pub before : ℕ → List ℕ → List ℕ
-before mark bytes = take (index_of mark bytes) bytes
+abbrev pub number_before : ℕ → List ℕ → List ℕ
+number_before mark bytes = take (digit_index_of mark bytes) bytes
 
 -- the bytes behind the first of these
 abbrev pub behind : ℕ → List ℕ → List ℕ
-behind mark bytes = drop (index_of mark bytes + 1) bytes
+behind mark bytes = drop (digit_index_of mark bytes + 1) bytes
 
 -- whether they are pairs of digits
 unfoldable pub are_pairs : List ℕ → Bool

@@ -16,29 +16,29 @@ bytes_of (Whole raw a b) = dollar ∷ (raw ++ hash ∷ a ∷ b ∷ [])
 bytes_of (CutOff bytes) = bytes
 
 -- what a part holds
-abbrev pub items_of : Part → List Item
-items_of (Byte b) = byte_items b
-items_of (Whole raw a b) = packet_item raw a b ∷ []
-items_of (CutOff bytes) = []
+abbrev pub items_of_part : Part → List Item
+items_of_part (Byte b) = byte_items b
+items_of_part (Whole raw a b) = packet_item raw a b ∷ []
+items_of_part (CutOff bytes) = []
 
 -- the bytes of the packet that was begun
-abbrev pub begun : Place → List ℕ
-begun Between = []
-begun (Inside raw) = dollar ∷ raw
-begun (Summing raw) = dollar ∷ (raw ++ hash ∷ [])
-begun (Digit raw a) = dollar ∷ (raw ++ hash ∷ a ∷ [])
+abbrev pub begun_packet : Place → List ℕ
+begun_packet Between = []
+begun_packet (Inside raw) = dollar ∷ raw
+begun_packet (Summing raw) = dollar ∷ (raw ++ hash ∷ [])
+begun_packet (Digit raw a) = dollar ∷ (raw ++ hash ∷ a ∷ [])
 
 -- the part that the end of the stream cuts off
 abbrev pub left_at : Place → List Part
 left_at Between = []
-left_at (Inside raw) = CutOff (begun (Inside raw)) ∷ []
-left_at (Summing raw) = CutOff (begun (Summing raw)) ∷ []
-left_at (Digit raw a) = CutOff (begun (Digit raw a)) ∷ []
+left_at (Inside raw) = CutOff (begun_packet (Inside raw)) ∷ []
+left_at (Summing raw) = CutOff (begun_packet (Summing raw)) ∷ []
+left_at (Digit raw a) = CutOff (begun_packet (Digit raw a)) ∷ []
 
 -- the part that a byte ends, or that it cuts off
 abbrev pub part_at : Place → ℕ → List Part
 part_at Between b = if b == dollar then [] else Byte b ∷ []
-part_at (Inside raw) b = if b == dollar then CutOff (begun (Inside raw)) ∷ [] else []
+part_at (Inside raw) b = if b == dollar then CutOff (begun_packet (Inside raw)) ∷ [] else []
 part_at (Summing raw) b = []
 part_at (Digit raw a) b = Whole raw a b ∷ []
 
@@ -55,10 +55,10 @@ IsPlainPlace (Summing raw) = IsPlain raw
 IsPlainPlace (Digit raw a) = IsPlain raw
 
 -- what each part is made of: a byte between packets is no `$`, a packet has no `$` or `#` among its bytes, and one that is cut off was begun
-abbrev pub IsPart : Part → Type 0
-IsPart (Byte b) = b ≡ dollar → ⊥
-IsPart (Whole raw a b) = IsPlain raw
-IsPart (CutOff bytes) = (p : Place) × (bytes ≡ begun p) × IsPlainPlace p × (p ≡ Between → ⊥)
+abbrev pub IsStreamPart : Part → Type 0
+IsStreamPart (Byte b) = b ≡ dollar → ⊥
+IsStreamPart (Whole raw a b) = IsPlain raw
+IsStreamPart (CutOff bytes) = (p : Place) × (bytes ≡ begun_packet p) × IsPlainPlace p × (p ≡ Between → ⊥)
 
 -- a part that begins with `$`
 abbrev pub BeginsPacket : Part → Type 0
@@ -69,7 +69,7 @@ BeginsPacket (CutOff bytes) = ⊤
 -- what stands behind a packet that is cut off: nothing, or the `$` that cut it off before its `#`
 abbrev pub CutsOff : List ℕ → List Part → Type 0
 CutsOff bytes [] = ⊤
-CutsOff bytes (next ∷ rest) = ((raw : List ℕ) × (bytes ≡ begun (Inside raw)) × IsPlain raw) × BeginsPacket next
+CutsOff bytes (next ∷ rest) = ((raw : List ℕ) × (bytes ≡ begun_packet (Inside raw)) × IsPlain raw) × BeginsPacket next
 
 -- each packet that is cut off is so
 unfoldable pub AreCutOff : List Part → Type 0

@@ -7,22 +7,22 @@ use Rattle.ir_packet.specs.declared.found.Found.{Found}
 use Rattle.ir_packet.specs.declared.found.Found.TheVariants as found
 
 -- how many bytes of a packet a reader keeps: one more than the most that it may have
-abbrev pub most_kept : ℕ
-most_kept = 4097
+abbrev pub most_stream_bytes : ℕ
+most_stream_bytes = 4097
 
 -- the place of a reader that keeps these bytes
-abbrev pub place_of : Standing → List ℕ → Place
-place_of standing.Between raw = Between
-place_of standing.Inside raw = Inside raw
-place_of standing.Summing raw = Summing raw
-place_of (standing.Digit a) raw = Digit raw a
+abbrev pub read_place : Standing → List ℕ → Place
+read_place standing.Between raw = Between
+read_place standing.Inside raw = Inside raw
+read_place standing.Summing raw = Summing raw
+read_place (standing.Digit a) raw = Digit raw a
 
 -- a place, by the bytes that are kept
 abbrev pub kept : Place → Place
 kept Between = Between
-kept (Inside raw) = Inside (take most_kept raw)
-kept (Summing raw) = Summing (take most_kept raw)
-kept (Digit raw a) = Digit (take most_kept raw) a
+kept (Inside raw) = Inside (take most_stream_bytes raw)
+kept (Summing raw) = Summing (take most_stream_bytes raw)
+kept (Digit raw a) = Digit (take most_stream_bytes raw) a
 
 -- a reader: its place, and the payload of the last packet that it found
 pub record Reading : Type 0 where

@@ -2,7 +2,7 @@
 use Rattle.std.specs.Prelude.{ℕ, ◌==◌, ◌-◌, nat_le, List, [], ◌∷◌, length, codes, drop, Bool, true, false, Option, Some, None, if◌then◌else◌}
 use Rattle.std.specs.Str.{bytes_eq}
 use Rattle.ir_packet.specs.Packets.{two_digits}
-use Rattle.ir_packet.specs.Numbers.{number, decimal_number, index_of, before, behind, are_pairs, bytes_of_pairs}
+use Rattle.ir_packet.specs.Numbers.{number, decimal_number, digit_index_of, number_before, behind, are_pairs, bytes_of_pairs}
 use Rattle.ir_packet.specs.declared.request.Request.{Request}
 use Rattle.ir_packet.specs.declared.request.Request.TheVariants as request
 use Rattle.ir_packet.specs.declared.request.Who.{Who}
@@ -32,12 +32,12 @@ of_numbers makes None n = request.Malformed
 of_numbers makes (Some m) None = request.Malformed
 of_numbers makes (Some m) (Some n) = makes m n
 
-unfoldable pub one : (ℕ → Request) → List ℕ → Request
-one makes rest = of_number makes (number rest)
+unfoldable pub one_argument : (ℕ → Request) → List ℕ → Request
+one_argument makes rest = of_number makes (number rest)
 
 -- two numbers with a `,` between them
 unfoldable pub two_with_comma : (ℕ → ℕ → Request) → List ℕ → Request
-two_with_comma makes rest = of_numbers makes (number (before 44 rest)) (number (behind 44 rest))
+two_with_comma makes rest = of_numbers makes (number (number_before 44 rest)) (number (behind 44 rest))
 
 -- 0 is any thread
 abbrev pub who_of_number : Option ℕ → Option Who
@@ -70,7 +70,7 @@ range_of (Some low) (Some high) = Some (motion.Range low high)
 
 -- the ends of a range, with a `,` between them
 unfoldable pub range : List ℕ → Option Motion
-range rest = range_of (number (before 44 rest)) (number (behind 44 rest))
+range rest = range_of (number (number_before 44 rest)) (number (behind 44 rest))
 
 -- the motion of an action with a signal, if its two digits are some
 abbrev pub signalled : Motion → Option ℕ → Option Motion
@@ -109,11 +109,11 @@ move_of (Some m) (Some w) (Some others) = request.Move m (mover_of w others)
 
 -- an action and its thread
 unfoldable pub first_action : List ℕ → Option Bool → Request
-first_action action others = move_of (motion_of (before 58 action)) (thread_behind (drop (index_of 58 action) action)) others
+first_action action others = move_of (motion_of (number_before 58 action)) (thread_behind (drop (digit_index_of 58 action) action)) others
 
 -- an action, and what the others do
 unfoldable pub actions : List ℕ → Request
-actions rest = first_action (before 59 rest) (others_of (drop (index_of 59 rest) rest))
+actions rest = first_action (number_before 59 rest) (others_of (drop (digit_index_of 59 rest) rest))
 
 -- a restart, by the argument behind the program's name, if there is one
 abbrev pub restart_with : List ℕ → Request
@@ -122,7 +122,7 @@ restart_with (b ∷ argument) = of_number request.RestartAt (decimal_number argu
 
 -- the name of a program, and then no argument, or `;` and a number
 unfoldable pub restart : List ℕ → Request
-restart rest = restart_with (drop (index_of 59 rest) rest)
+restart rest = restart_with (drop (digit_index_of 59 rest) rest)
 
 -- the bytes that a packet begins with, and what is made of those behind them
 pub record PacketRow : Type 0 where
@@ -182,9 +182,9 @@ letters =
     packet_row (codes "?") (without_argument request.Reason) ∷
     packet_row (codes "Hg") (thread request.General) ∷
     packet_row (codes "Hc") (thread request.Choose) ∷
-    packet_row (codes "T") (one request.Alive) ∷
+    packet_row (codes "T") (one_argument request.Alive) ∷
     packet_row (codes "g") (without_argument request.Registers) ∷
-    packet_row (codes "p") (one register_request) ∷
+    packet_row (codes "p") (one_argument register_request) ∷
     packet_row (codes "m") (two_with_comma request.Memory) ∷
     []
 
@@ -217,9 +217,9 @@ abbrev pub asked_in : List PacketRow → List ℕ → Option Request
 asked_in [] payload = None
 asked_in (r ∷ rows) payload = request_by r (after_name r.name payload) (asked_in rows payload)
 
-abbrev pub or_else : Option Request → Option Request → Option Request
-or_else None next = next
-or_else (Some r) next = Some r
+abbrev pub request_or_else : Option Request → Option Request → Option Request
+request_or_else None next = next
+request_or_else (Some r) next = Some r
 
 abbrev pub or_unknown : Option Request → Request
 or_unknown None = request.Unknown
@@ -239,7 +239,7 @@ asked_commands payload = asked_in commands payload
 
 -- packets with a name
 unfoldable pub asked_named : List ℕ → Option Request
-asked_named payload = or_else (asked_queries payload) (or_else (asked_texts payload) (or_else (asked_restarts payload) (asked_commands payload)))
+asked_named payload = request_or_else (asked_queries payload) (request_or_else (asked_texts payload) (request_or_else (asked_restarts payload) (asked_commands payload)))
 
 unfoldable pub asked_points : List ℕ → Option Request
 asked_points payload = asked_in points payload
@@ -248,11 +248,11 @@ unfoldable pub asked_ends : List ℕ → Option Request
 asked_ends payload = asked_in bare_rows payload
 
 unfoldable pub asked_letters : List ℕ → Option Request
-asked_letters payload = or_else (asked_in letters payload) (asked_ends payload)
+asked_letters payload = request_or_else (asked_in letters payload) (asked_ends payload)
 
 -- what a payload asks; each packet has one row at most
 unfoldable pub request_of : List ℕ → Request
-request_of payload = or_unknown (or_else (asked_named payload) (or_else (asked_points payload) (asked_letters payload)))
+request_of payload = or_unknown (request_or_else (asked_named payload) (request_or_else (asked_points payload) (asked_letters payload)))
 
 abbrev pub line_behind : Option (List ℕ) → List ℕ
 line_behind None = []

@@ -1,7 +1,7 @@
 //! What is behind a packet's name.
 
 ghost use Rattle.std.specs.Prelude.{◌≡◌, ℕ, List, [], drop, Bool, Some, None, MatchOption, IfSome, length, ◌≤◌};
-ghost use Rattle.ir_packet.specs.Numbers.{before, index_of};
+ghost use Rattle.ir_packet.specs.Numbers.{number_before, digit_index_of};
 ghost use Rattle.ir_packet.specs.Requests as requests;
 ghost use Rattle.ir_packet.specs.declared.request.Request.{Request};
 ghost use Rattle.ir_packet.specs.declared.request.Request.TheVariants.{Malformed};
@@ -28,8 +28,8 @@ pub fn after_name<'a>(name: &[u8], bytes: &'a [u8]) -> Option<&'a [u8]>
 
 // The bytes before the first of these and from it on.
 fn cut(mark: u8, bytes: &[u8]) -> (&[u8], &[u8])
-    ensures first { result.0.now ≡ before mark bytes.now }
-    ensures rest { result.1.now ≡ drop (index_of mark bytes.now) bytes.now }
+    ensures first { result.0.now ≡ number_before mark bytes.now }
+    ensures rest { result.1.now ≡ drop (digit_index_of mark bytes.now) bytes.now }
 {
     bytes.split_at(index_of(mark, bytes))
 }
@@ -48,8 +48,8 @@ pub fn plain(asked: Request, rest: &[u8]) -> Request
 #[tactic(auto, unfolding(crate::specs::Requests::one))]
 pub fn one(rest: &[u8]) -> Option<u32>
     ensures { MatchOption result
-        ((makes : ℕ → Request) → requests.one makes rest.now ≡ Malformed)
-        (λ n. (makes : ℕ → Request) → requests.one makes rest.now ≡ makes n) }
+        ((makes : ℕ → Request) → requests.one_argument makes rest.now ≡ Malformed)
+        (λ n. (makes : ℕ → Request) → requests.one_argument makes rest.now ≡ makes n) }
 {
     number(rest)
 }

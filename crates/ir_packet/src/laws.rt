@@ -4,7 +4,7 @@ ghost use Rattle.std.specs.Prelude.{◌≡◌, ◌≤◌, ◌++◌, ◌∷◌, �
 ghost use Rattle.std.specs.List.{AllByRecursion};
 ghost use Rattle.ir_packet.specs.Packets.{escaped, packet_of};
 ghost use Rattle.ir_packet.specs.Stream.{Place, Packet, place_after, items_from, items, most_packet_bytes};
-ghost use Rattle.ir_packet.specs.Parts.{Part, IsPart, AreCutOff, bytes_of, items_of, parts};
+ghost use Rattle.ir_packet.specs.Parts.{Part, IsStreamPart, AreCutOff, bytes_of, items_of_part, parts};
 ghost use Rattle.ir_packet.specs.Reading.{kept, items_read};
 
 /// What a stream holds is what its pieces hold, each read on from where the one before it ends.
@@ -21,14 +21,14 @@ pub fn reader_finds_what_the_stream_holds()
 /// alone; and a stream has no other such parts.
 pub fn parts_are_the_stream()
     ensures bytes { (bytes : List ℕ) → flat_map bytes_of (parts bytes) ≡ bytes }
-    ensures form { (bytes : List ℕ) → AllByRecursion IsPart (parts bytes) }
+    ensures form { (bytes : List ℕ) → AllByRecursion IsStreamPart (parts bytes) }
     ensures cut { (bytes : List ℕ) → AreCutOff (parts bytes) }
-    ensures only { (bytes : List ℕ) (those : List Part) → flat_map bytes_of those ≡ bytes → AllByRecursion IsPart those → AreCutOff those → those ≡ parts bytes }
+    ensures only { (bytes : List ℕ) (those : List Part) → flat_map bytes_of those ≡ bytes → AllByRecursion IsStreamPart those → AreCutOff those → those ≡ parts bytes }
 {}
 
 /// What a stream holds is what its parts hold.
 pub fn parts_hold_what_the_stream_holds()
-    ensures { (bytes : List ℕ) → flat_map items_of (parts bytes) ≡ items bytes }
+    ensures { (bytes : List ℕ) → flat_map items_of_part (parts bytes) ≡ items bytes }
 {}
 
 /// A payload that is written as a packet is read back.

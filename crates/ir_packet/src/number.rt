@@ -1,7 +1,7 @@
 //! Hexadecimal numbers and bytes of packets.
 
 ghost use Rattle.std.specs.Prelude.{◌≡◌, ◌≤◌, ◌<◌, ◌+◌, ◌*◌, ◌++◌, ℕ, List, length, vec_len, vec_capacity, is_some, Some, None, IfSome, OnSome};
-ghost use Rattle.ir_packet.specs.Numbers.{value_from, number, decimal_digit, decimal_more, decimal_from, decimal_number, index_of, bytes_of_pairs};
+ghost use Rattle.ir_packet.specs.Numbers.{value_from, number, decimal_digit, decimal_more, decimal_from, decimal_number, digit_index_of, bytes_of_pairs};
 ghost use Rattle.ir_packet.specs.Numbers as numbers;
 
 use crate::raw::{digit_value, two_digits};
@@ -85,7 +85,7 @@ pub fn decimal_number(digits: &[u8]) -> Option<u32>
 /// How many bytes are before the first of these.
 #[tactic(auto, unfolding(crate::specs::Numbers::index_of))]
 pub fn index_of(mark: u8, bytes: &[u8]) -> usize
-    ensures value { result ≡ index_of mark bytes.now }
+    ensures value { result ≡ digit_index_of mark bytes.now }
     ensures within { result ≤ length bytes.now }
 {
     match bytes {

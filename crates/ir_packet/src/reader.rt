@@ -3,7 +3,7 @@
 ghost use Rattle.std.specs.Prelude.{◌≡◌, ◌≤◌, ◌∷◌, [], ◌<◌, length, vec_len, vec_capacity, IfOk, Some, None};
 ghost use Rattle.ir_packet.specs.Packets.{two_digits};
 ghost use Rattle.ir_packet.specs.Stream.{Between, Inside, ended_items, step, byte_items, packet_item};
-ghost use Rattle.ir_packet.specs.Reading.{kept, items_found, item_found, place_of};
+ghost use Rattle.ir_packet.specs.Reading.{kept, items_found, item_found, read_place};
 
 use crate::found::Found;
 use crate::raw::{checksum, two_digits, unescape};
@@ -24,11 +24,11 @@ pub struct Reader {
 
 impl Model for Reader {
     ghost use Rattle.std.specs.Prelude.{◌≤◌, vec_len, vec_capacity};
-    ghost use Rattle.ir_packet.specs.Reading.{Reading, place_of};
+    ghost use Rattle.ir_packet.specs.Reading.{Reading, read_place};
 
     ghost Value = { Reading };
 
-    ghost view = { λ r. record { place = place_of r.standing r.raw.items; payload = r.payload.items } };
+    ghost view = { λ r. record { place = read_place r.standing r.raw.items; payload = r.payload.items } };
 
     ghost invariant = { λ r. (vec_len r.raw ≤ 4097) × (4097 ≤ vec_capacity r.raw) × (4096 ≤ vec_capacity r.payload) };
 }
@@ -98,7 +98,7 @@ fn alone(byte: u8) -> Option<Found>
 fn inside(raw: &mut Vec<u8>, byte: u8) -> Standing
     requires len { vec_len raw.old ≤ 4097 }
     requires room { 4097 ≤ vec_capacity raw.old }
-    ensures place { place_of result raw.new.items ≡ kept (step (Inside raw.old.items) byte) }
+    ensures place { read_place result raw.new.items ≡ kept (step (Inside raw.old.items) byte) }
     ensures len { vec_len raw.new ≤ 4097 }
     ensures capacity { vec_capacity raw.new ≡ vec_capacity raw.old }
 {

@@ -1,9 +1,9 @@
 -- The write entries that are noted, event by event.
-use Rattle.std.proofs.Common.{◌≡◌, ℕ, suc, zero, ◌+◌, ◌<◌, ◌≤◌, inl, inr, Bool, true, false, Some, None, Result, Ok, Err, OnOk, List, [], ◌∷◌, length, map, vec_len, if◌then◌else◌, ◌==◌, ◌&&◌, refl, sym, ap, ◌∙◌, subst, arith, eq-eqb}
-use Rattle.std.specs.Prelude.{slice_get}
+use Rattle.std.proofs.Common.{◌≡◌, ℕ, suc, zero, ◌+◌, ◌<◌, ◌≤◌, inl, inr, Bool, true, false, Some, None, Result, Ok, Err, OnOk, length}
+use Rattle.std.proofs.Common.{vec_len, if◌then◌else◌, ◌==◌, ◌&&◌, refl, sym, ap, ◌∙◌, subst, arith, eq-eqb}
 use Rattle.std.proofs.lemmas.Bool.{cases_eq, eqb-true, and_parts}
 use Rattle.std.proofs.lemmas.Option.{same_Some, none-some, slice_get_within}
-use Rattle.ir_runs.specs.Machine.{Label, Answer, EnteredAt, FailedTry}
+use Rattle.ir_runs.specs.Machine.{Answer, EnteredAt, FailedTry}
 use Rattle.ir_runs.specs.declared.access.Access.{Access}
 use Rattle.ir_runs.specs.declared.access.Access.TheVariants.{Reading, Writing}
 use Rattle.ir_runs.specs.Coherent.{IsCoherent}
@@ -19,54 +19,45 @@ use Rattle.ir_past.specs.Answers.{AreCoherent}
 use Rattle.ir_past.specs.Progress.{Makes}
 use Rattle.ir_past.specs.declared.place.Place.{Place}
 use Rattle.ir_past.specs.declared.makers.Makers.{Makers}
-use Rattle.ir_past.proofs.Rows.{before_next_event_cases, event_is_of_existing_thread}
+use Rattle.ir_past.proofs.Rows.{before_next_event_cases, event_thread_exists}
+use Rattle.ir_coherence.proofs.CallerLemmas.{at_of_mapped_label, event_of_label_at}
 
 -- ---- logs of events and of labels
 
-pub label_of_event_is_at_its_place : (es : List Event) (i : ℕ) (e : Event) → slice_get es i ≡ Some e → At (map label_of es) i (label_of e)
-label_of_event_is_at_its_place [] i e is = absurd (none-some e is)
-label_of_event_is_at_its_place (x ∷ xs) zero e is = ap label_of (same_Some x e is)
-label_of_event_is_at_its_place (x ∷ xs) (suc i) e is = label_of_event_is_at_its_place xs i e is
-
-pub event_of_label_is_at_its_place : (es : List Event) (i : ℕ) (m : Label) → At (map label_of es) i m → (e : Event) × (slice_get es i ≡ Some e) × (label_of e ≡ m)
-event_of_label_is_at_its_place [] i m at = absurd at
-event_of_label_is_at_its_place (x ∷ xs) zero m at = (x, refl, at)
-event_of_label_is_at_its_place (x ∷ xs) (suc i) m at = event_of_label_is_at_its_place xs i m at
-
-event_is_write_if_label_is_write : (e : Event) (o v l : ℕ) → label_of e ≡ EnteredAt o Writing v l → e ≡ variant.Write o v l
-event_is_write_if_label_is_write (variant.Answer k x) o v l is = absurd (let bad : Answer k x ≡ EnteredAt o Writing v l = is in cc)
-event_is_write_if_label_is_write (variant.Read p w) o v l is = absurd (let bad : EnteredAt p Reading w 0 ≡ EnteredAt o Writing v l = is in let same : Reading ≡ Writing = cc in cc)
-event_is_write_if_label_is_write (variant.Write p w k) o v l is =
+pub write_label_write_event : (e : Event) (o v l : ℕ) → label_of e ≡ EnteredAt o Writing v l → e ≡ variant.Write o v l
+write_label_write_event (variant.Answer k x) o v l is = absurd (let bad : Answer k x ≡ EnteredAt o Writing v l = is in cc)
+write_label_write_event (variant.Read p w) o v l is = absurd (let bad : EnteredAt p Reading w 0 ≡ EnteredAt o Writing v l = is in let same : Reading ≡ Writing = cc in cc)
+write_label_write_event (variant.Write p w k) o v l is =
     let same : EnteredAt p Writing w k ≡ EnteredAt o Writing v l = is in
     let object : p ≡ o = cc in
     let version : w ≡ v = cc in
     let readers : k ≡ l = cc in
     λ i. variant.Write (object i) (version i) (readers i)
-event_is_write_if_label_is_write (variant.Try p) o v l is = absurd (let bad : FailedTry p ≡ EnteredAt o Writing v l = is in cc)
+write_label_write_event (variant.Try p) o v l is = absurd (let bad : FailedTry p ≡ EnteredAt o Writing v l = is in cc)
 
-is_write_at_place_of_write_label_in_log : (r : Recorded) (t i o v l : ℕ) → At ((trace_of r).logs t) i (EnteredAt o Writing v l) → IsWriteAt r t i o v l
-is_write_at_place_of_write_label_in_log r t i o v l at =
-    let e = event_of_label_is_at_its_place (recorded_thread r t).events i (EnteredAt o Writing v l) at in
-    e.1 ∙ ap Some (event_is_write_if_label_is_write e.0 o v l e.2)
+write_label_is_write : (r : Recorded) (t i o v l : ℕ) → At ((trace_of r).logs t) i (EnteredAt o Writing v l) → IsWriteAt r t i o v l
+write_label_is_write r t i o v l at =
+    let e = event_of_label_at (recorded_thread r t).events i (EnteredAt o Writing v l) at in
+    e.1 ∙ ap Some (write_label_write_event e.0 o v l e.2)
 
 -- what made a version that is entered
-pub entered_version_was_made : (r : Recorded) → IsCoherent (length r.threads) (trace_of r) → (t i o v : ℕ) (a : Access) (l : ℕ)
+pub entered_was_made : (r : Recorded) → IsCoherent (length r.threads) (trace_of r) → (t i o v : ℕ) (a : Access) (l : ℕ)
     → At ((trace_of r).logs t) i (EnteredAt o a (suc v) l) → (u j k : ℕ) × IsWriteAt r u j o v k
-entered_version_was_made r coherent t i o v a l at =
+entered_was_made r coherent t i o v a l at =
     let made = coherent.made t i o v l a at in
-    (made.0, made.1, made.2, is_write_at_place_of_write_label_in_log r made.0 made.1 o v made.2 made.3)
+    (made.0, made.1, made.2, write_label_is_write r made.0 made.1 o v made.2 made.3)
 
 -- ---- the versions below a write entry's are made
 
-pub version_below_write_was_made : (r : Recorded) → IsCoherent (length r.threads) (trace_of r) → (w v t j o l : ℕ) → v < w → IsWriteAt r t j o w l
+pub below_write_was_made : (r : Recorded) → IsCoherent (length r.threads) (trace_of r) → (w v t j o l : ℕ) → v < w → IsWriteAt r t j o w l
     → (u k m : ℕ) × IsWriteAt r u k o v m
-version_below_write_was_made r coherent zero v t j o l less is = absurd (omega (arith, less))
-version_below_write_was_made r coherent (suc w) v t j o l less is =
-    let made = entered_version_was_made r coherent t j o w Writing l (label_of_event_is_at_its_place (recorded_thread r t).events j (variant.Write o (suc w) l) is) in
+below_write_was_made r coherent zero v t j o l less is = absurd (omega (arith, less))
+below_write_was_made r coherent (suc w) v t j o l less is =
+    let made = entered_was_made r coherent t j o w Writing l (at_of_mapped_label (recorded_thread r t).events j (variant.Write o (suc w) l) is) in
     let here : IsWriteAt r made.0 made.1 o w made.2 = made.3 in
     elim (cases_eq v w) [
       | inl same ↦ (made.0, made.1, made.2, subst (λ z. IsWriteAt r made.0 made.1 o z made.2) (sym same) here)
-      | inr ne ↦ version_below_write_was_made r coherent w v made.0 made.1 o made.2 (omega (arith, less, ne)) here
+      | inr ne ↦ below_write_was_made r coherent w v made.0 made.1 o made.2 (omega (arith, less, ne)) here
     ]
 
 -- ---- what is noted
@@ -144,8 +135,8 @@ makes_after_write r t n o v l a b p at thread event objects noted h = record {
     new q w object version none = none-some p (sym none ∙ (noted q w ∙ ap (λ (c : Bool). if c then Some p else maker_in a q w) (both q w object version)))
 
 -- all events of a thread
-pub makes_before_next_thread : (r : Recorded) (t n : ℕ) (m : Makers) → length (recorded_thread r t).events ≤ n → Makes r t n m → Makes r (t + 1) 0 m
-makes_before_next_thread r t n m all h = record {
+pub makes_next_thread : (r : Recorded) (t n : ℕ) (m : Makers) → length (recorded_thread r t).events ≤ n → Makes r t n m → Makes r (t + 1) 0 m
+makes_next_thread r t n m all h = record {
   objects = h.objects;
   sound = h.sound;
   noted = λ u j o v l is b none. elim (cases_eq u t) [
@@ -163,11 +154,11 @@ makes_before_next_thread r t n m all h = record {
     below u j ne (inr here) = absurd (omega (arith, here.1))
 
 -- what a stale write's read was written over by is noted
-pub overwriter_is_noted_if_read_is_stale : (r : Recorded) (m : Makers) (n t i j o v w : ℕ) → IsCoherent (length r.threads) (trace_of r) → length r.threads ≤ n
+pub stale_has_overwriter : (r : Recorded) (m : Makers) (n t i j o v w : ℕ) → IsCoherent (length r.threads) (trace_of r) → length r.threads ≤ n
     → Makes r n 0 m → IsStale r t i j o v w → maker_in m o v ≡ None → ⊥
-overwriter_is_noted_if_read_is_stale r m n t i j o v w coherent all h s none =
-    let made = version_below_write_was_made r coherent w v t j o s.readers s.over s.write in
-    h.noted made.0 made.1 o v made.2 made.3 (inl (omega (arith, event_is_of_existing_thread r made.0 made.1 _ made.3, all))) none
+stale_has_overwriter r m n t i j o v w coherent all h s none =
+    let made = below_write_was_made r coherent w v t j o s.readers s.over s.write in
+    h.noted made.0 made.1 o v made.2 made.3 (inl (omega (arith, event_thread_exists r made.0 made.1 _ made.3, all))) none
 
 -- a write entry was noted, unless memory ran out
 pub makes_on_ok_after_write : {A E : Type 0} (result : Result A E) (r : Recorded) (t n o v l : ℕ) (a b : Makers) (p : Place) → IsWriteAt r t n o v l
@@ -181,14 +172,14 @@ pub makes_of_equal_thread : (r : Recorded) (t n : ℕ) (m : Makers) → t ≡ n 
 makes_of_equal_thread r t n m same h = subst (λ z. Makes r z 0 m) same h
 
 -- at most one write entry of an object is at a version
-pub writer_of_version_is_unique : (r : Recorded) → AreCoherent r → (t i u j o v l k : ℕ) → IsWriteAt r t i o v l → IsWriteAt r u j o v k
+pub version_writer_unique : (r : Recorded) → AreCoherent r → (t i u j o v l k : ℕ) → IsWriteAt r t i o v l → IsWriteAt r u j o v k
     → (t ≡ u) × (i ≡ j)
-writer_of_version_is_unique r coherent t i u j o v l k one two = coherent.writer t i u j o v l k
-    (label_of_event_is_at_its_place (recorded_thread r t).events i (variant.Write o v l) one) (label_of_event_is_at_its_place (recorded_thread r u).events j (variant.Write o v k) two)
+version_writer_unique r coherent t i u j o v l k one two = coherent.writer t i u j o v l k
+    (at_of_mapped_label (recorded_thread r t).events i (variant.Write o v l) one) (at_of_mapped_label (recorded_thread r u).events j (variant.Write o v k) two)
 
 -- the write entry that is noted is the only one
 pub noted_writer_is_unique : (r : Recorded) (m : Makers) (n o w u j l : ℕ) (p : Place) → AreCoherent r → Makes r n 0 m → maker_in m o w ≡ Some p
     → IsWriteAt r u j o w l → (u ≡ p.thread) × (j ≡ p.event)
 noted_writer_is_unique r m n o w u j l p coherent makes noted write =
     let there = makes.sound o w p noted in
-    writer_of_version_is_unique r coherent u j p.thread p.event o w l there.0 write there.1
+    version_writer_unique r coherent u j p.thread p.event o w l there.0 write there.1

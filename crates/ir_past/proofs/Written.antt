@@ -4,7 +4,7 @@ use Rattle.std.proofs.lemmas.List.{at_drop_more, at_drop_all}
 use Rattle.std.specs.Io.KnownBytes.{Appends}
 use Rattle.std.proofs.KnownBytes.{Appends-nil, Appends-trans}
 use Rattle.ir_stream.specs.Answers.{AppendsPrefix}
-use Rattle.ir_stream.proofs.CallerLemmas.{appends_prefix_of_append_if_first_appended, appends_prefix_of_longer_text}
+use Rattle.ir_stream.proofs.CallerLemmas.{appends_prefix_append, appends_prefix_longer}
 use Rattle.ir_files.specs.Writers.{writer_of, Failed}
 use Rattle.ir_past.specs.Answers.{Stops}
 use Rattle.ir_past.specs.Lines.{row_line, row_lines}
@@ -19,20 +19,20 @@ pub record WrittenTo (old new : Option (List ℕ)) (rest text : List ℕ) : Type
   pub others : part ++ rest ≡ text
 
 -- nothing was written of a text
-pub nothing_appended_is_prefix : (a : Option (List ℕ)) (text : List ℕ) → AppendsPrefix a a text
-nothing_appended_is_prefix a text = record { part = []; more = text; splits = refl; grown = Appends-nil a }
+pub nothing_is_prefix : (a : Option (List ℕ)) (text : List ℕ) → AppendsPrefix a a text
+nothing_is_prefix a text = record { part = []; more = text; splits = refl; grown = Appends-nil a }
 
-pub written_to_at_start_with_whole_text_left : (a : Option (List ℕ)) (text : List ℕ) → WrittenTo a a text text
-written_to_at_start_with_whole_text_left a text = record { part = []; written = Appends-nil a; others = refl }
+pub written_to_at_start : (a : Option (List ℕ)) (text : List ℕ) → WrittenTo a a text text
+written_to_at_start a text = record { part = []; written = Appends-nil a; others = refl }
 
-row_lines_of_drop_are_row_line_of_get_or_then_rest : (n : ℕ) (xs : List StaleWrite) (x : StaleWrite) → n < length xs → row_lines (drop n xs) ≡ row_line (get_or xs n x) ++ row_lines (drop (n + 1) xs)
+row_lines_of_drop : (n : ℕ) (xs : List StaleWrite) (x : StaleWrite) → n < length xs → row_lines (drop n xs) ≡ row_line (get_or xs n x) ++ row_lines (drop (n + 1) xs)
 unfolding row_lines
-row_lines_of_drop_are_row_line_of_get_or_then_rest n xs x some = at_drop_more row_lines xs n x some
+row_lines_of_drop n xs x some = at_drop_more row_lines xs n x some
 
 -- the next row's line comes first in what is left
-pub row_lines_begin_with_next : (n : ℕ) (xs : List StaleWrite) (x : StaleWrite) (line : List ℕ) → n < length xs → line ≡ row_line (get_or xs n x)
+pub row_lines_next : (n : ℕ) (xs : List StaleWrite) (x : StaleWrite) (line : List ℕ) → n < length xs → line ≡ row_line (get_or xs n x)
     → row_lines (drop n xs) ≡ line ++ row_lines (drop (n + 1) xs)
-row_lines_begin_with_next n xs x line some same = row_lines_of_drop_are_row_line_of_get_or_then_rest n xs x some ∙ ap (λ (z : List ℕ). z ++ row_lines (drop (n + 1) xs)) (sym same)
+row_lines_next n xs x line some same = row_lines_of_drop n xs x some ∙ ap (λ (z : List ℕ). z ++ row_lines (drop (n + 1) xs)) (sym same)
 
 pub row_lines_past_end : (n : ℕ) (xs : List StaleWrite) → length xs ≤ n → row_lines (drop n xs) ≡ []
 unfolding row_lines
@@ -48,35 +48,35 @@ written_after_line a b c left line more text f e done = record {
 }
 
 -- nothing is left
-pub appended_if_nothing_left : (a b : Option (List ℕ)) (left text : List ℕ) → WrittenTo a b left text → left ≡ [] → Appends a b text
-appended_if_nothing_left a b left text f none =
+pub none_left_is_appended : (a b : Option (List ℕ)) (left text : List ℕ) → WrittenTo a b left text → left ≡ [] → Appends a b text
+none_left_is_appended a b left text f none =
     subst (Appends a b) (sym (append-nil f.part) ∙ ap (λ (x : List ℕ). f.part ++ x) (sym none) ∙ f.others) f.written
 
 -- what was written is a prefix
-pub prefix_appended_if_written_to : (a b : Option (List ℕ)) (left text : List ℕ) → WrittenTo a b left text → AppendsPrefix a b text
-prefix_appended_if_written_to a b left text f = record { part = f.part; more = left; splits = sym f.others; grown = f.written }
+pub written_to_is_prefix : (a b : Option (List ℕ)) (left text : List ℕ) → WrittenTo a b left text → AppendsPrefix a b text
+written_to_is_prefix a b left text f = record { part = f.part; more = left; splits = sym f.others; grown = f.written }
 
 -- a prefix of what is left was written
-pub prefix_of_text_appended_if_prefix_of_next_line_is : (a b c : Option (List ℕ)) (left line more text : List ℕ) → WrittenTo a b left text → left ≡ line ++ more
+pub next_line_prefix : (a b c : Option (List ℕ)) (left line more text : List ℕ) → WrittenTo a b left text → left ≡ line ++ more
     → AppendsPrefix b c line → AppendsPrefix a c text
-prefix_of_text_appended_if_prefix_of_next_line_is a b c left line more text f e prefix =
+next_line_prefix a b c left line more text f e prefix =
     subst (AppendsPrefix a c) (append_assoc f.part line more ∙ ap (λ (x : List ℕ). f.part ++ x) (sym e) ∙ f.others)
-    (appends_prefix_of_longer_text a c (f.part ++ line) more (appends_prefix_of_append_if_first_appended a b c f.part line f.written prefix))
+    (appends_prefix_longer a c (f.part ++ line) more (appends_prefix_append a b c f.part line f.written prefix))
 
 -- a write of the first part of a text failed
-pub writer_failed_in_text_if_prefix_of_first_part_appended : (a b : Option (List ℕ)) (failed : Bool) (bytes first rest : List ℕ) → bytes ≡ first → AppendsPrefix a b bytes
+pub writer_failed_in_text : (a b : Option (List ℕ)) (failed : Bool) (bytes first rest : List ℕ) → bytes ≡ first → AppendsPrefix a b bytes
     → failed ≡ true → Failed (writer_of a b failed) (first ++ rest)
-writer_failed_in_text_if_prefix_of_first_part_appended a b failed bytes first rest same prefix broke =
-    (appends_prefix_of_longer_text a b first rest (subst (AppendsPrefix a b) same prefix), broke)
+writer_failed_in_text a b failed bytes first rest same prefix broke =
+    (appends_prefix_longer a b first rest (subst (AppendsPrefix a b) same prefix), broke)
 
-stops_after_first_part : (e : PastErr) (a b c : Option (List ℕ)) (failed : Bool) (first rest : List ℕ) → Appends a b first
+pub stops_after_first_part : (e : PastErr) (a b c : Option (List ℕ)) (failed : Bool) (first rest : List ℕ) → Appends a b first
     → Stops e (writer_of b c failed) rest → Stops e (writer_of a c failed) (first ++ rest)
-stops_after_first_part err.NoMem a b c failed first rest done h = (appends_prefix_of_append_if_first_appended a b c first rest done h.0, h.1)
-stops_after_first_part err.Write a b c failed first rest done h = (appends_prefix_of_append_if_first_appended a b c first rest done h.0, h.1)
+stops_after_first_part err.NoMem a b c failed first rest done h = (appends_prefix_append a b c first rest done h.0, h.1)
+stops_after_first_part err.Write a b c failed first rest done h = (appends_prefix_append a b c first rest done h.0, h.1)
 
 -- the rest of a text was stopped
-pub if_err_stops_after_first_part : {A : Type 0} (result : Result A PastErr) (a b c : Option (List ℕ)) (failed : Bool) (bytes first rest : List ℕ)
+pub failed_stops_after_part : {A : Type 0} (result : Result A PastErr) (a b c : Option (List ℕ)) (failed : Bool) (bytes first rest : List ℕ)
     → bytes ≡ first → Appends a b bytes → IfErr result (λ e. Stops e (writer_of b c failed) rest)
     → IfErr result (λ e. Stops e (writer_of a c failed) (first ++ rest))
-if_err_stops_after_first_part (Ok x) a b c failed bytes first rest same done h = tt
-if_err_stops_after_first_part (Err e) a b c failed bytes first rest same done h = stops_after_first_part e a b c failed first rest (subst (Appends a b) same done) h
+failed_stops_after_part (Ok x) a b c failed bytes first rest same done h = tt
+failed_stops_after_part (Err e) a b c failed bytes first rest same done h = stops_after_first_part e a b c failed first rest (subst (Appends a b) same done) h

@@ -86,15 +86,15 @@ IsOverwriter r o v None = (t i l : ℕ) → IsWriteAt r t i o v l → ⊥
 IsOverwriter r o v (Some p) = (readers : ℕ) × IsWriteAt r p.thread p.event o v readers
 
 -- each comes before the later ones, by its thread and then by its event
-abbrev pub AreRising : List Place → Type 0
-AreRising places = (a b : ℕ) (p q : Place) → a < b → slice_get places a ≡ Some p → slice_get places b ≡ Some q
+abbrev pub AreRowsRising : List Place → Type 0
+AreRowsRising places = (a b : ℕ) (p q : Place) → a < b → slice_get places a ≡ Some p → slice_get places b ≡ Some q
     → IsBefore p.thread p.event q.thread q.event
 
 -- the read entries of object o at version v, by rising thread and event
 pub record AreReaders (r : Recorded) (o v : ℕ) (places : List Place) : Type 0 where
   pub sound : (k : ℕ) (p : Place) → slice_get places k ≡ Some p → IsReadAt r p.thread p.event o v
   pub complete : (t i : ℕ) → IsReadAt r t i o v → HasPlace places t i
-  pub rising : AreRising places
+  pub rising : AreRowsRising places
 
 -- 1 for a write entry, else 0
 abbrev pub write_one : Event → ℕ

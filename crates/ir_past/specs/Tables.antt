@@ -18,12 +18,12 @@ abbrev pub maker_in : Makers → ℕ → ℕ → Option Place
 maker_in m o v = option_map_or (λ (x : ObjectMakers). made_at x v) (slice_get m.objects.items o) None
 
 -- the read entries that are noted at a version
-abbrev pub read_at : ObjectReads → ℕ → List Place
-read_at m v = option_map_or (λ x. x.items) (slice_get m.versions.items v) []
+abbrev pub read_at_row : ObjectReads → ℕ → List Place
+read_at_row m v = option_map_or (λ x. x.items) (slice_get m.versions.items v) []
 
 -- the read entries of object o that are noted at version v
 abbrev pub read_in : Reads → ℕ → ℕ → List Place
-read_in m o v = option_map_or (λ (x : ObjectReads). read_at x v) (slice_get m.objects.items o) []
+read_in m o v = option_map_or (λ (x : ObjectReads). read_at_row x v) (slice_get m.objects.items o) []
 
 -- the read entry that is the last entry of object o, where that is noted
 abbrev pub last_read : List (Option ReadEntry) → ℕ → Option ReadEntry

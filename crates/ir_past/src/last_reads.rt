@@ -6,7 +6,7 @@ ghost use Rattle.ir_thread.specs.State.{most_events};
 ghost use Rattle.ir_past.specs.Past.{IsStaleIn};
 ghost use Rattle.ir_past.specs.Tables.{last_read};
 ghost use Rattle.ir_past.specs.declared.last_reads.ReadEntry.{ReadEntry};
-ghost use Rattle.ir_past.specs.Progress.{HoldsOpen, Fits, IsPairAt};
+ghost use Rattle.ir_past.specs.Progress.{HoldsOpen, FitsSoFar, IsPairAt};
 
 use ir_log::Event;
 
@@ -76,7 +76,7 @@ pub fn take_event(
     requires place { place < length events.now }
     requires few { length events.now ≤ most_events }
     requires holds { HoldsOpen events.now place table.old }
-    requires fits { Fits events.now (length table.old) }
+    requires fits { FitsSoFar events.now (length table.old) }
     ensures length { length table.new ≡ length table.old }
     ensures holds { HoldsOpen events.now (place + 1) table.new }
     ensures found { IfSome result (IsPairAt events.now place) }

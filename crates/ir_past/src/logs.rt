@@ -4,14 +4,14 @@ ghost use Rattle.std.specs.Prelude.{◌≡◌, ◌<◌, ◌≤◌, length, Some}
 ghost use Rattle.ir_thread.specs.State.{most_events};
 ghost use Rattle.ir_trace.specs.Recorded.{recorded_thread};
 ghost use Rattle.ir_past.specs.Past.{event_at};
-ghost use Rattle.ir_past.specs.Progress.{Fits};
+ghost use Rattle.ir_past.specs.Progress.{FitsSoFar};
 
 use crate::place::Place;
 use ir_log::Event;
 use ir_trace::Trace;
 
 /// How many threads there are.
-#[tactic(auto, using(ir_trace::proofs::CallerLemmas::recorded_threads_at_most_limit))]
+#[tactic(auto, using(ir_trace::proofs::CallerLemmas::recorded_threads_within))]
 pub fn thread_count(trace: &Trace) -> u8
     ensures { result ≡ length trace.now.threads }
 {
@@ -24,7 +24,7 @@ pub fn events_of(trace: &Trace, thread: u8) -> &[Event]
     ensures events { result.now ≡ (recorded_thread trace.now thread).events }
     ensures count { length result.now ≡ length (recorded_thread trace.now thread).events }
     ensures few { length result.now ≤ most_events }
-    ensures fits { Fits result.now trace.now.objects }
+    ensures fits { FitsSoFar result.now trace.now.objects }
 {
     let threads = trace.threads();
     threads[thread as usize].log().events()

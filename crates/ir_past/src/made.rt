@@ -33,7 +33,7 @@ fn note_event(makers: &mut Makers, trace: &Trace, here: Place) -> Result<(), All
 }
 
 // Notes the write entries of a thread.
-#[tactic(auto, using(crate::proofs::Noted::makes_before_next_thread))]
+#[tactic(auto, using(crate::proofs::Noted::makes_next_thread))]
 fn note_thread(makers: &mut Makers, trace: &Trace, thread: u8) -> Result<(), AllocError>
     requires thread { thread < length trace.now.threads }
     requires makes { Makes trace.now thread 0 makers.old }

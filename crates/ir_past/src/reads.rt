@@ -5,7 +5,7 @@ ghost use Rattle.ir_log.specs.declared.event.Event.TheVariants.{Read};
 ghost use Rattle.ir_trace.specs.Recorded.{recorded_thread};
 ghost use Rattle.ir_past.specs.Past.{AreReaders};
 ghost use Rattle.ir_past.specs.Progress.{HasReads};
-ghost use Rattle.ir_past.specs.Tables.{read_at, read_in};
+ghost use Rattle.ir_past.specs.Tables.{read_at_row, read_in};
 
 use crate::logs::{events_of, thread_count};
 use crate::place::Place;
@@ -22,7 +22,7 @@ pub struct ObjectReads {
 impl ObjectReads {
     // No read entry.
     fn new(alloc: Global) -> ObjectReads
-        ensures { (v : ℕ) → read_at result v ≡ [] }
+        ensures { (v : ℕ) → read_at_row result v ≡ [] }
     {
         ObjectReads {
             versions: Vec::new(alloc),
@@ -32,7 +32,7 @@ impl ObjectReads {
     // Makes room for this many versions.
     fn reserve(&mut self, versions: usize) -> Result<(), AllocError>
         ensures room { OnOk result (versions ≤ vec_len self.new.versions) }
-        ensures same { OnOk result ((v : ℕ) → read_at self.new v ≡ read_at self.old v) }
+        ensures same { OnOk result ((v : ℕ) → read_at_row self.new v ≡ read_at_row self.old v) }
     {
         let alloc = *self.versions.allocator();
         for _ in self.versions.len()..versions {
@@ -43,7 +43,7 @@ impl ObjectReads {
 
     // Notes a read entry at a version.
     fn note(&mut self, version: u32, place: Place) -> Result<(), AllocError>
-        ensures { OnOk result ((v : ℕ) → read_at self.new v ≡ (if v == version then read_at self.old version ++ place ∷ [] else read_at self.old v)) }
+        ensures { OnOk result ((v : ℕ) → read_at_row self.new v ≡ (if v == version then read_at_row self.old version ++ place ∷ [] else read_at_row self.old v)) }
     {
         self.reserve(version as usize + 1)?;
         self.versions[version as usize].push(place)?;
@@ -52,7 +52,7 @@ impl ObjectReads {
 
     // The read entries at a version.
     fn get(&self, version: u32) -> &[Place]
-        ensures { result.now ≡ read_at self.now version }
+        ensures { result.now ≡ read_at_row self.now version }
     {
         match self.versions.get(version as usize) {
             Some(places) => places.as_slice(),

@@ -89,7 +89,10 @@ pub fn stale_run<O: Sink, E: Sink>(
     requires writes { O.broken out.old ≡ false }
     requires reports { E.broken faults.old ≡ false }
     // The answer was written, and no fault reported.
-    ensures done { result ≢ Failed → Answered (IsAnswerOf IsStaleAnswer (recorded_at bytes.now)) result (writer_of (O.written out.old) (O.written out.new) (O.broken out.new)) × (faults.new ≡ faults.old) }
+    ensures done { result ≢ Failed
+        → Answered (IsAnswerOf IsStaleAnswer (recorded_at bytes.now)) result
+        (writer_of (O.written out.old) (O.written out.new) (O.broken out.new))
+        × (faults.new ≡ faults.old) }
     // Else what stopped it, what that leaves, and that it is reported.
     ensures stopped { result ≡ Failed → (e : PastErr)
         × NotAnswered (IsAnswerOf IsStaleAnswer (recorded_at bytes.now)) e (writer_of (O.written out.old) (O.written out.new) (O.broken out.new))

@@ -1,42 +1,29 @@
 -- The boxes of a trace, event by event.
-use Rattle.std.proofs.Common.{◌≡◌, ℕ, suc, ◌+◌, ◌-◌, ◌*◌, ◌<◌, ◌≤◌, ◌⊎◌, inl, inr, true, false, Some, List, [], ◌∷◌, ◌++◌, length, get_or, slice_set, refl, sym, ap, ◌∙◌, subst, arith, length-append}
+use Rattle.std.proofs.Common.{◌≡◌, ℕ, suc, ◌+◌, ◌-◌, ◌*◌, ◌<◌, ◌≤◌, inl, inr, true, false, Some, List, [], ◌∷◌, ◌++◌, length, get_or, slice_set, refl, sym, ap, ◌∙◌, subst, arith, length-append}
 use Rattle.std.specs.Prelude.{slice_get}
 use Rattle.std.proofs.lemmas.Bool.{cases_eq, cases_lt}
 use Rattle.std.proofs.lemmas.List.{get_or_past}
 use Rattle.std.proofs.lemmas.Option.{same_Some, none-some, slice_get_within, slice_get_read}
-use Rattle.ir_lemmas.proofs.CallerLemmas.{added_element_is_last, slice_get_after_push_cases, slice_get_after_push_earlier}
+use Rattle.ir_lemmas.proofs.CallerLemmas.{added_element_is_last, slice_get-push_cases, slice_get_push_earlier, suc_is_plus_one}
 use Rattle.ir_thread.specs.State.{most_events}
 use Rattle.ir_trace.specs.Recorded.{Recorded, RecordedThread, recorded_thread}
 use Rattle.ir_trace.specs.Absent.{absent}
 use Rattle.ir_coherence.specs.Before.{IsBefore}
 use Rattle.ir_picture.specs.Boxes.{AreFolded, IsInBox, HasBox, IsBox, AreBoxes}
-use Rattle.ir_picture.specs.Boxing.{IsFold, EndsBy, HasLast, BoxedBefore}
+use Rattle.ir_picture.specs.Boxing.{IsFold, EndsBy, HasLastBox, BoxedBefore}
 use Rattle.ir_picture.specs.declared.event_box.EventBox.{EventBox}
-use Rattle.ir_picture.proofs.Lists.{slice_get_after_set, slice_get_after_set_elsewhere, slice_get_after_set_cases, length_of_slice_set}
+use Rattle.ir_picture.proofs.Lists.{slice_get_after_set, slice_get_set_elsewhere, slice_get_set_split, length_of_slice_set}
+use Rattle.ir_past.proofs.CallerLemmas.{nothing_before_first, before_next_event_cases}
 
-suc_is_plus_one : (n : ℕ) → suc n ≡ n + 1
-suc_is_plus_one n = omega arith
+pub box_ends_by_next : (b : EventBox) (t n : ℕ) → EndsBy b t n → EndsBy b t (n + 1)
+box_ends_by_next b t n (inl less) = inl less
+box_ends_by_next b t n (inr here) = inr (here.0, omega (arith, here.1))
 
-before_next_event_cases : (u j t n : ℕ) → IsBefore u j t (n + 1) → IsBefore u j t n ⊎ ((u ≡ t) × (j ≡ n))
-before_next_event_cases u j t n (inl less) = inl (inl less)
-before_next_event_cases u j t n (inr here) = elim (cases_lt j n) [
-  | inl less ↦ inl (inr (here.0, less))
-  | inr not ↦ inr (here.0, omega (arith, here.1, not))
-]
-
-box_still_ends_by_next_event : (b : EventBox) (t n : ℕ) → EndsBy b t n → EndsBy b t (n + 1)
-box_still_ends_by_next_event b t n (inl less) = inl less
-box_still_ends_by_next_event b t n (inr here) = inr (here.0, omega (arith, here.1))
-
-nothing_before_first_event : (u j : ℕ) → IsBefore u j 0 0 → ⊥
-nothing_before_first_event u j (inl less) = omega (arith, less)
-nothing_before_first_event u j (inr here) = omega (arith, here.1)
-
-pub boxed_before_first_event : (r : Recorded) → BoxedBefore r 0 0 []
-boxed_before_first_event r = record {
+pub boxed_before_first : (r : Recorded) → BoxedBefore r 0 0 []
+boxed_before_first r = record {
   each = λ k b is. absurd (none-some b is);
   before = λ k b is. absurd (none-some b is);
-  all = λ u i within b. absurd (nothing_before_first_event u i b);
+  all = λ u i within b. absurd (nothing_before_first u i b);
   apart = λ k m a b less is other. absurd (none-some a is);
   joined = λ k u i b is. absurd (none-some b is);
   last = tt;
@@ -44,11 +31,11 @@ boxed_before_first_event r = record {
 }
 
 -- an event that is in a box of its own
-pub boxed_before_step_for_new_box : (r : Recorded) (t n : ℕ) (boxes : List EventBox) (new : EventBox) → new.thread ≡ t → new.event ≡ n → new.count ≡ 1 → t < length r.threads
+pub boxed_before_new_box : (r : Recorded) (t n : ℕ) (boxes : List EventBox) (new : EventBox) → new.thread ≡ t → new.event ≡ n → new.count ≡ 1 → t < length r.threads
     → n < length (recorded_thread r t).events → IsFold (recorded_thread r t).events n false → BoxedBefore r t n boxes
     → BoxedBefore r t (n + 1) (boxes ++ new ∷ [])
-boxed_before_step_for_new_box r t n boxes new thread event count there within fold h = record {
-  each = λ k b is. elim (slice_get_after_push_cases boxes new k b is) [
+boxed_before_new_box r t n boxes new thread event count there within fold h = record {
+  each = λ k b is. elim (slice_get-push_cases boxes new k b is) [
     | inl old ↦ h.each k b old
     | inr now ↦ subst (IsBox r) now.1 (record {
       thread = omega (arith, thread, there);
@@ -57,8 +44,8 @@ boxed_before_step_for_new_box r t n boxes new thread event count there within fo
       folds = λ i from below. absurd (omega (arith, from, below, event, count));
     })
   ];
-  before = λ k b is. elim (slice_get_after_push_cases boxes new k b is) [
-    | inl old ↦ box_still_ends_by_next_event b t n (h.before k b old)
+  before = λ k b is. elim (slice_get-push_cases boxes new k b is) [
+    | inl old ↦ box_ends_by_next b t n (h.before k b old)
     | inr now ↦ subst (λ (x : EventBox). EndsBy x t (n + 1)) now.1 (inr (thread, omega (arith, event, count)))
   ];
   all = λ u i inside b. elim (before_next_event_cases u i t n b) [
@@ -74,18 +61,18 @@ boxed_before_step_for_new_box r t n boxes new thread event count there within fo
       };
     }
   ];
-  apart = λ k m a b less first second. elim (slice_get_after_push_cases boxes new m b second) [
-    | inl old ↦ elim (slice_get_after_push_cases boxes new k a first) [
+  apart = λ k m a b less first second. elim (slice_get-push_cases boxes new m b second) [
+    | inl old ↦ elim (slice_get-push_cases boxes new k a first) [
       | inl both ↦ h.apart k m a b less both old
       | inr now ↦ absurd (omega (arith, less, now.0, slice_get_within boxes m b old))
     ]
-    | inr now ↦ elim (slice_get_after_push_cases boxes new k a first) [
+    | inr now ↦ elim (slice_get-push_cases boxes new k a first) [
       | inl old ↦ subst (λ (x : EventBox). EndsBy a x.thread x.event) now.1
           (subst (λ z. EndsBy a z new.event) (sym thread) (subst (EndsBy a t) (sym event) (h.before k a old)))
       | inr same ↦ absurd (omega (arith, less, same.0, now.0))
     ]
   ];
-  joined = λ k u i b is has folded b4. elim (slice_get_after_push_cases boxes new k b is) [
+  joined = λ k u i b is has folded b4. elim (slice_get-push_cases boxes new k b is) [
     | inl old ↦ elim (before_next_event_cases u (suc i) t n b4) [
       | inl less ↦ h.joined k u i b old has folded less
       | inr here ↦ absurd (fold i (sym here.1)
@@ -96,14 +83,14 @@ boxed_before_step_for_new_box r t n boxes new thread event count there within fo
       | inr here ↦ omega (arith, here.1, has.from, event, ap (λ (x : EventBox). x.event) now.1)
     ])
   ];
-  last = subst (HasLast (boxes ++ new ∷ []) t) (suc_is_plus_one n) last_new;
+  last = subst (HasLastBox (boxes ++ new ∷ []) t) (suc_is_plus_one n) last_new;
   few = omega (arith, h.few, length-append boxes (new ∷ []));
 }
   where
     has_more : (u i : ℕ) → HasBox boxes u i → HasBox (boxes ++ new ∷ []) u i
-    has_more u i has = record { number = has.number; box = has.box; there = slice_get_after_push_earlier boxes new has.box has.number has.there; has = has.has }
+    has_more u i has = record { number = has.number; box = has.box; there = slice_get_push_earlier boxes new has.box has.number has.there; has = has.has }
 
-    last_new : HasLast (boxes ++ new ∷ []) t (suc n)
+    last_new : HasLastBox (boxes ++ new ∷ []) t (suc n)
     last_new = (
       length boxes,
       new,
@@ -113,10 +100,10 @@ boxed_before_step_for_new_box r t n boxes new thread event count there within fo
     )
 
 -- the last box, where an event is folded with the one before
-pub last_box_ends_at_folded_event : (r : Recorded) (t n : ℕ) (boxes : List EventBox) → IsFold (recorded_thread r t).events n true → BoxedBefore r t n boxes
+pub last_box_ends_at_folded : (r : Recorded) (t n : ℕ) (boxes : List EventBox) → IsFold (recorded_thread r t).events n true → BoxedBefore r t n boxes
     → (k : ℕ) × (b : EventBox) × (length boxes ≡ suc k) × (slice_get boxes k ≡ Some b) × (b.thread ≡ t) × (b.event + b.count ≡ n) × (1 ≤ b.count)
-last_box_ends_at_folded_event r t n boxes fold h =
-    let last : HasLast boxes t (suc fold.0) = subst (HasLast boxes t) fold.1 h.last in
+last_box_ends_at_folded r t n boxes fold h =
+    let last : HasLastBox boxes t (suc fold.0) = subst (HasLastBox boxes t) fold.1 h.last in
     let has = last.4 in
     (last.0, last.1, last.2, last.3, has.thread, ends last.1 has (h.before last.0 last.1 last.3), (h.each last.0 last.1 last.3).some)
   where
@@ -125,12 +112,12 @@ last_box_ends_at_folded_event r t n boxes fold h =
     ends b has (inr by) = omega (arith, by.1, has.below, fold.1)
 
 -- an event that joins the last box
-pub boxed_before_step_for_joined_box : (r : Recorded) (t n k : ℕ) (boxes : List EventBox) (b new : EventBox) → length boxes ≡ suc k → slice_get boxes k ≡ Some b
+pub boxed_before_joined : (r : Recorded) (t n k : ℕ) (boxes : List EventBox) (b new : EventBox) → length boxes ≡ suc k → slice_get boxes k ≡ Some b
     → b.thread ≡ t → b.event + b.count ≡ n → new.thread ≡ b.thread → new.event ≡ b.event → new.count ≡ b.count + 1
     → n < length (recorded_thread r t).events → IsFold (recorded_thread r t).events n true → BoxedBefore r t n boxes
     → BoxedBefore r t (n + 1) (slice_set boxes k new)
-boxed_before_step_for_joined_box r t n k boxes b new long at thread ends thread_new event_new count_new within fold h = record {
-  each = λ m a is. elim (slice_get_after_set_cases boxes k m new a inside is) [
+boxed_before_joined r t n k boxes b new long at thread ends thread_new event_new count_new within fold h = record {
+  each = λ m a is. elim (slice_get_set_split boxes k m new a inside is) [
     | inl now ↦ subst (IsBox r) now.1 (record {
       thread = omega (arith, thread_new, box.thread);
       some = omega (arith, count_new);
@@ -154,9 +141,9 @@ boxed_before_step_for_joined_box r t n k boxes b new long at thread ends thread_
     })
     | inr old ↦ h.each m a old.1
   ];
-  before = λ m a is. elim (slice_get_after_set_cases boxes k m new a inside is) [
+  before = λ m a is. elim (slice_get_set_split boxes k m new a inside is) [
     | inl now ↦ subst (λ (x : EventBox). EndsBy x t (n + 1)) now.1 (inr (thread_new ∙ thread, omega (arith, event_new, count_new, ends)))
-    | inr old ↦ box_still_ends_by_next_event a t n (h.before m a old.1)
+    | inr old ↦ box_ends_by_next a t n (h.before m a old.1)
   ];
   all = λ u i there b4. elim (before_next_event_cases u i t n b4) [
     | inl less ↦ has_more u i (h.all u i there less)
@@ -171,19 +158,19 @@ boxed_before_step_for_joined_box r t n k boxes b new long at thread ends thread_
       };
     }
   ];
-  apart = λ m p x y less first second. elim (slice_get_after_set_cases boxes k p new y inside second) [
-    | inl now ↦ elim (slice_get_after_set_cases boxes k m new x inside first) [
+  apart = λ m p x y less first second. elim (slice_get_set_split boxes k p new y inside second) [
+    | inl now ↦ elim (slice_get_set_split boxes k m new x inside first) [
       | inl same ↦ absurd (omega (arith, less, now.0, same.0))
       | inr old ↦ subst (λ (z : EventBox). EndsBy x z.thread z.event) now.1
           (subst (λ z. EndsBy x z new.event) (sym thread_new) (subst (EndsBy x b.thread) (sym event_new)
           (h.apart m k x b (omega (arith, less, now.0)) old.1 at)))
     ]
-    | inr other ↦ elim (slice_get_after_set_cases boxes k m new x inside first) [
+    | inr other ↦ elim (slice_get_set_split boxes k m new x inside first) [
       | inl same ↦ absurd (omega (arith, less, same.0, slice_get_within boxes p y other.1, long))
       | inr old ↦ h.apart m p x y less old.1 other.1
     ]
   ];
-  joined = λ m u i a is has folded b4. elim (slice_get_after_set_cases boxes k m new a inside is) [
+  joined = λ m u i a is has folded b4. elim (slice_get_set_split boxes k m new a inside is) [
     | inl now ↦ subst (λ (x : EventBox). IsInBox x u (suc i)) now.1 (elim b4 [
       | inl less ↦ absurd (omega (arith, less, has.thread, thread_new, thread, ap (λ (x : EventBox). x.thread) now.1))
       | inr here ↦ record {
@@ -200,7 +187,7 @@ boxed_before_step_for_joined_box r t n k boxes b new long at thread ends thread_
       ])
     ]
   ];
-  last = subst (HasLast (slice_set boxes k new) t) (suc_is_plus_one n) last_new;
+  last = subst (HasLastBox (slice_set boxes k new) t) (suc_is_plus_one n) last_new;
   few = omega (arith, h.few, length_of_slice_set boxes k new);
 }
   where
@@ -224,10 +211,10 @@ boxed_before_step_for_joined_box r t n k boxes b new long at thread ends thread_
               below = omega (arith, event_new, count_new, has.has.below, ap (λ (x : EventBox). x.event) same, ap (λ (x : EventBox). x.count) same);
             };
           }
-      | inr ne ↦ record { number = has.number; box = has.box; there = slice_get_after_set_elsewhere boxes k has.number new ne ∙ has.there; has = has.has }
+      | inr ne ↦ record { number = has.number; box = has.box; there = slice_get_set_elsewhere boxes k has.number new ne ∙ has.there; has = has.has }
     ]
 
-    last_new : HasLast (slice_set boxes k new) t (suc n)
+    last_new : HasLastBox (slice_set boxes k new) t (suc n)
     last_new = (
       k,
       new,
@@ -237,9 +224,9 @@ boxed_before_step_for_joined_box r t n k boxes b new long at thread ends thread_
     )
 
 -- all events of a thread
-pub boxed_before_next_thread : (r : Recorded) (t n : ℕ) (boxes : List EventBox) → length (recorded_thread r t).events ≤ n → n ≤ most_events → BoxedBefore r t n boxes
+pub boxed_before_thread : (r : Recorded) (t n : ℕ) (boxes : List EventBox) → length (recorded_thread r t).events ≤ n → n ≤ most_events → BoxedBefore r t n boxes
     → BoxedBefore r (t + 1) 0 boxes
-boxed_before_next_thread r t n boxes all most h = record {
+boxed_before_thread r t n boxes all most h = record {
   each = h.each;
   before = λ k b is. elim (h.before k b is) [
     | inl less ↦ inl (omega (arith, less))
@@ -269,8 +256,8 @@ boxed_before_next_thread r t n boxes all most h = record {
     ]
 
 -- all threads
-pub are_boxes_if_boxed_to_end : (r : Recorded) (n : ℕ) (boxes : List EventBox) → n ≡ length r.threads → BoxedBefore r n 0 boxes → AreBoxes r boxes
-are_boxes_if_boxed_to_end r n boxes all h = record {
+pub boxed_to_end_are_boxes : (r : Recorded) (n : ℕ) (boxes : List EventBox) → n ≡ length r.threads → BoxedBefore r n 0 boxes → AreBoxes r boxes
+boxed_to_end_are_boxes r n boxes all h = record {
   each = h.each;
   all = λ t i within. h.all t i within (inl (thread_there t i within));
   one = λ k m t i a b at_k at_m in_a in_b. elim (cases_lt k m) [
@@ -299,19 +286,19 @@ are_boxes_if_boxed_to_end r n boxes all h = record {
       | inr by ↦ omega (arith, by.1, in_a.below, in_b.from)
     ]
 
-pub box_count_at_most_threads_times_most_events : (r : Recorded) (n : ℕ) (boxes : List EventBox) → n ≡ length r.threads → BoxedBefore r n 0 boxes
+pub box_count_bound : (r : Recorded) (n : ℕ) (boxes : List EventBox) → n ≡ length r.threads → BoxedBefore r n 0 boxes
     → length boxes ≤ length r.threads * most_events
-box_count_at_most_threads_times_most_events r n boxes all h = subst (λ z. length boxes ≤ z * most_events) all (omega (arith, h.few))
+box_count_bound r n boxes all h = subst (λ z. length boxes ≤ z * most_events) all (omega (arith, h.few))
 
 -- the same by the length of the list
-pub boxed_before_step_for_joined_last_box : (r : Recorded) (t n long : ℕ) (boxes : List EventBox) (own : EventBox) → long ≡ length boxes → own ≡ get_or boxes (long - 1) own
+pub boxed_before_last_join : (r : Recorded) (t n long : ℕ) (boxes : List EventBox) (own : EventBox) → long ≡ length boxes → own ≡ get_or boxes (long - 1) own
     → n < length (recorded_thread r t).events → IsFold (recorded_thread r t).events n true → BoxedBefore r t n boxes
     → BoxedBefore r t (n + 1) (slice_set boxes (long - 1) (record { thread = own.thread; event = own.event; count = own.count + 1 }))
-boxed_before_step_for_joined_last_box r t n long boxes own all is within fold h =
-    let last = last_box_ends_at_folded_event r t n boxes fold h in
+boxed_before_last_join r t n long boxes own all is within fold h =
+    let last = last_box_ends_at_folded r t n boxes fold h in
     let place : last.0 ≡ long - 1 = omega (arith, all, last.2) in
     let at : slice_get boxes (long - 1) ≡ Some own = slice_get_read boxes long (long - 1) own all (omega (arith, all, last.2)) is in
     let same : last.1 ≡ own = same_Some last.1 own (sym last.3 ∙ subst (λ k. slice_get boxes k ≡ Some own) (sym place) at) in
-    boxed_before_step_for_joined_box r t n (long - 1) boxes own (record { thread = own.thread; event = own.event; count = own.count + 1 }) (omega (arith, all, last.2)) at
+    boxed_before_joined r t n (long - 1) boxes own (record { thread = own.thread; event = own.event; count = own.count + 1 }) (omega (arith, all, last.2)) at
     (ap (λ (x : EventBox). x.thread) (sym same) ∙ last.4)
     (omega (arith, last.5, ap (λ (x : EventBox). x.event) same, ap (λ (x : EventBox). x.count) same)) refl refl refl within fold h

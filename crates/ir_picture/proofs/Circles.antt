@@ -5,45 +5,45 @@ use Rattle.std.proofs.lemmas.Bool.{cases_eq, cases_lt}
 use Rattle.std.proofs.lemmas.List.{get_or_past}
 use Rattle.std.proofs.lemmas.Nat.{mul-le}
 use Rattle.std.proofs.lemmas.Option.{same_Some, none-some, slice_get_within}
-use Rattle.ir_lemmas.proofs.CallerLemmas.{element_below_length_exists}
+use Rattle.ir_lemmas.proofs.CallerLemmas.{element_below_length}
 use Rattle.ir_log.specs.declared.event.Event.{Event}
 use Rattle.ir_thread.specs.State.{most_events}
 use Rattle.ir_trace.specs.Recorded.{Recorded, RecordedThread, recorded_thread}
 use Rattle.ir_trace.specs.Absent.{absent}
 use Rattle.ir_past.specs.Past.{event_at}
 use Rattle.ir_past.specs.Answers.{AreCoherent}
-use Rattle.ir_picture.specs.Needs.{placed, CanFollow, HasNoCircle, IsCircleAt}
+use Rattle.ir_picture.specs.Needs.{placed, CanFollowBox, HasNoCircle, IsCircleAt}
 use Rattle.ir_picture.specs.Boxes.{IsBox, AreBoxes}
 use Rattle.ir_picture.specs.Places.{EndsIn, IsThreadEnd, AreBoxesPlaced}
-use Rattle.ir_picture.specs.Placing.{EndsWhere, IsAfter, IsOf, IsCut, IsNear, AreBeingPlaced, IsNext, first_point, after_needs, unknown, left_of, events_of_all}
+use Rattle.ir_picture.specs.Placing.{EndsWhere, IsAfterBox, IsOf, IsPlacingCut, IsNearBox, AreBeingPlaced, IsNextPlace, first_point, after_needs, unknown_version, left_of, events_of_all}
 use Rattle.ir_picture.specs.declared.event_box.EventBox.{EventBox}
 use Rattle.ir_picture.specs.declared.placed_box.Point.{Point}
 use Rattle.ir_picture.specs.declared.placed_box.PlacedBox.{PlacedBox}
 use Rattle.ir_picture.specs.declared.table.Version.{Version}
 use Rattle.ir_picture.specs.declared.placing.Lane.{Lane}
-use Rattle.ir_picture.proofs.Lists.{slice_get_of_map, slice_get_of_map_inverse}
-use Rattle.ir_picture.proofs.Least.{least_above_of_equal_sets, place_after_no_events_is_first_point}
-use Rattle.ir_picture.proofs.Orders.{placed_at_most_event_count, stuck_order_is_full}
-use Rattle.ir_picture.proofs.Follows.{cannot_follow_if_no_place_known}
-use Rattle.ir_picture.proofs.Cuts.{first_event_is_in_box, cut_box_begins_with_next_event, no_events_left_without_next_box}
+use Rattle.ir_picture.proofs.Lists.{slice_get_of_map, slice_get_map_inverse}
+use Rattle.ir_picture.proofs.Least.{least_above_cong, after_no_events}
+use Rattle.ir_picture.proofs.Orders.{placed_le_event_count, stuck_order_is_full}
+use Rattle.ir_picture.proofs.Follows.{no_place_no_follow}
+use Rattle.ir_picture.proofs.Cuts.{first_event_is_in_box, cut_box_begins_at_event, no_box_no_events_left}
 use Rattle.ir_picture.proofs.Known.{knows_at_start}
-use Rattle.ir_picture.proofs.Placed.{first_event_of_box_exists}
-use Rattle.ir_picture.proofs.Room.{left_of_at_most_lanes_times_boxes, near_first_point}
+use Rattle.ir_picture.proofs.Placed.{box_has_first_event}
+use Rattle.ir_picture.proofs.Room.{left_of_le_product, near_first_point}
 
 -- ---- the start
 
-pub boxes_are_being_placed_at_start : (r : Recorded) (boxes : List PlacedBox) (lanes : List Lane) (f : ℕ → ℕ → Version) → AreBoxes r (events_of_all boxes)
+pub being_placed_at_start : (r : Recorded) (boxes : List PlacedBox) (lanes : List Lane) (f : ℕ → ℕ → Version) → AreBoxes r (events_of_all boxes)
     → length lanes ≡ length r.threads
-    → ((t : ℕ) (l : Lane) → slice_get lanes t ≡ Some l → (l.free ≡ first_point) × IsCut (events_of_all boxes) t 0 l.next)
-    → ((o v : ℕ) → f o v ≡ unknown) → length boxes ≤ length r.threads * most_events → length r.threads ≤ 16 → AreBeingPlaced r boxes lanes f
-boxes_are_being_placed_at_start r boxes lanes f are same at none few threads = record {
+    → ((t : ℕ) (l : Lane) → slice_get lanes t ≡ Some l → (l.free ≡ first_point) × IsPlacingCut (events_of_all boxes) t 0 l.next)
+    → ((o v : ℕ) → f o v ≡ unknown_version) → length boxes ≤ length r.threads * most_events → length r.threads ≤ 16 → AreBeingPlaced r boxes lanes f
+being_placed_at_start r boxes lanes f are same at none few threads = record {
   order = [];
   is = tt;
   boxes = are;
   threads = same;
   at = λ t l is. record {
     cut = (at t l is).1;
-    free = subst (IsAfter boxes (IsOf t 0)) (sym (at t l is).0) (place_after_no_events_is_first_point boxes (IsOf t 0) (λ u i own. omega (arith, own.1)));
+    free = subst (IsAfterBox boxes (IsOf t 0)) (sym (at t l is).0) (after_no_events boxes (IsOf t 0) (λ u i own. omega (arith, own.1)));
   };
   done = λ k b is less. absurd (omega (arith, less));
   knows = knows_at_start r boxes f none;
@@ -51,8 +51,8 @@ boxes_are_being_placed_at_start r boxes lanes f are same at none few threads = r
   room = record {
     small = omega (arith, left_small);
     first = omega arith;
-    lanes = λ t l is. subst (IsNear top (left_of boxes lanes)) (sym (at t l is).0) (near_first_point top (left_of boxes lanes) (omega arith));
-    left = λ o v. subst (λ (x : Version). IsNear top (left_of boxes lanes) x.left) (sym (none o v)) (near_first_point top (left_of boxes lanes) (omega arith));
+    lanes = λ t l is. subst (IsNearBox top (left_of boxes lanes)) (sym (at t l is).0) (near_first_point top (left_of boxes lanes) (omega arith));
+    left = λ o v. subst (λ (x : Version). IsNearBox top (left_of boxes lanes) x.left) (sym (none o v)) (near_first_point top (left_of boxes lanes) (omega arith));
     made = λ o v p is. absurd (none-some p (sym (ap (λ (x : Version). x.made) (none o v)) ∙ is));
   };
 }
@@ -68,26 +68,26 @@ boxes_are_being_placed_at_start r boxes lanes f are same at none few threads = r
 
     left_small : left_of boxes lanes ≤ 16 * (16 * most_events)
     left_small = few_left (length lanes) (length boxes) (left_of boxes lanes) (omega (arith, same, threads))
-        (few_boxes (length r.threads) (length boxes) threads few) (left_of_at_most_lanes_times_boxes boxes lanes)
+        (few_boxes (length r.threads) (length boxes) threads few) (left_of_le_product boxes lanes)
 
 -- ---- the next box of a thread, if there is one
 
-pub box_at_place_is_of_thread_or_not : (boxes : List PlacedBox) (k t : ℕ)
+pub box_of_thread_or_not : (boxes : List PlacedBox) (k t : ℕ)
     → ((b : PlacedBox) × (slice_get boxes k ≡ Some b) × (b.events.thread ≡ t)) ⊎ ((b : PlacedBox) → slice_get boxes k ≡ Some b → b.events.thread ≡ t → ⊥)
-box_at_place_is_of_thread_or_not [] k t = inr (λ b is thread. none-some b is)
-box_at_place_is_of_thread_or_not (x ∷ xs) zero t = elim (cases_eq x.events.thread t) [
+box_of_thread_or_not [] k t = inr (λ b is thread. none-some b is)
+box_of_thread_or_not (x ∷ xs) zero t = elim (cases_eq x.events.thread t) [
   | inl same ↦ inl (x, refl, same)
   | inr ne ↦ inr (λ b is thread. ne (ap (λ (y : PlacedBox). y.events.thread) (same_Some x b is) ∙ thread))
 ]
-box_at_place_is_of_thread_or_not (x ∷ xs) (suc k) t = box_at_place_is_of_thread_or_not xs k t
+box_of_thread_or_not (x ∷ xs) (suc k) t = box_of_thread_or_not xs k t
 
 -- a thread with no next box has all its events placed
-pub events_placed_if_no_next_box : (r : Recorded) (boxes : List PlacedBox) (lanes : List Lane) (f : ℕ → ℕ → Version) (h : AreBeingPlaced r boxes lanes f) (t : ℕ)
+pub no_next_box_all_placed : (r : Recorded) (boxes : List PlacedBox) (lanes : List Lane) (f : ℕ → ℕ → Version) (h : AreBeingPlaced r boxes lanes f) (t : ℕ)
     → ((l : Lane) (b : PlacedBox) → slice_get lanes t ≡ Some l → slice_get boxes l.next ≡ Some b → b.events.thread ≡ t → ⊥)
     → placed h.order t ≡ length (recorded_thread r t).events
-events_placed_if_no_next_box r boxes lanes f h t none = elim (cases_lt (placed h.order t) (length (recorded_thread r t).events)) [
+no_next_box_all_placed r boxes lanes f h t none = elim (cases_lt (placed h.order t) (length (recorded_thread r t).events)) [
   | inl less ↦ absurd (not_all less)
-  | inr not ↦ omega (arith, not, placed_at_most_event_count r h.order h.is t)
+  | inr not ↦ omega (arith, not, placed_le_event_count r h.order h.is t)
 ]
   where
     thread_there : (i : ℕ) → i < length (recorded_thread r t).events → t < length r.threads
@@ -98,77 +98,77 @@ events_placed_if_no_next_box r boxes lanes f h t none = elim (cases_lt (placed h
 
     not_all : placed h.order t < length (recorded_thread r t).events → ⊥
     not_all less =
-        let lane = element_below_length_exists lanes t (omega (arith, thread_there (placed h.order t) less, h.threads)) in
-        no_events_left_without_next_box r (events_of_all boxes) t (placed h.order t) lane.0.next h.boxes (h.at t lane.0 lane.1).cut
+        let lane = element_below_length lanes t (omega (arith, thread_there (placed h.order t) less, h.threads)) in
+        no_box_no_events_left r (events_of_all boxes) t (placed h.order t) lane.0.next h.boxes (h.at t lane.0 lane.1).cut
         (λ a is thread.
-        let back = slice_get_of_map_inverse (λ (x : PlacedBox). x.events) boxes lane.0.next a is in
+        let back = slice_get_map_inverse (λ (x : PlacedBox). x.events) boxes lane.0.next a is in
         none lane.0 back.0 lane.1 back.1 (ap (λ (x : EventBox). x.thread) back.2 ∙ thread)) less
 
 -- no thread can follow where each next box waits
-pub cannot_follow_if_boxes_wait : (r : Recorded) (boxes : List PlacedBox) (lanes : List Lane) (f : ℕ → ℕ → Version) → AreCoherent r → (h : AreBeingPlaced r boxes lanes f)
-    → ((t : ℕ) (lane : Lane) (b : PlacedBox) (e : Event) → IsNext r boxes lanes t lane b e → after_needs f e ≡ None) → (t : ℕ)
-    → CanFollow r (placed h.order) t → ⊥
-cannot_follow_if_boxes_wait r boxes lanes f coherent h waits t follow = elim (cases_lt t (length lanes)) [
+pub waiting_box_no_follow : (r : Recorded) (boxes : List PlacedBox) (lanes : List Lane) (f : ℕ → ℕ → Version) → AreCoherent r → (h : AreBeingPlaced r boxes lanes f)
+    → ((t : ℕ) (lane : Lane) (b : PlacedBox) (e : Event) → IsNextPlace r boxes lanes t lane b e → after_needs f e ≡ None) → (t : ℕ)
+    → CanFollowBox r (placed h.order) t → ⊥
+waiting_box_no_follow r boxes lanes f coherent h waits t follow = elim (cases_lt t (length lanes)) [
   | inl within ↦
-      let lane = element_below_length_exists lanes t within in
-      elim (box_at_place_is_of_thread_or_not boxes lane.0.next t) [
+      let lane = element_below_length lanes t within in
+      elim (box_of_thread_or_not boxes lane.0.next t) [
         | inl found ↦
             let at = slice_get_of_map (λ (x : PlacedBox). x.events) boxes lane.0.next found.0 found.1 in
-            let event = first_event_of_box_exists r found.0.events (h.boxes.each lane.0.next found.0.events at) in
-            let here = cut_box_begins_with_next_event r (events_of_all boxes) t (placed h.order t) lane.0.next found.0.events h.boxes (h.at t lane.0 lane.1).cut at found.2 in
+            let event = box_has_first_event r found.0.events (h.boxes.each lane.0.next found.0.events at) in
+            let here = cut_box_begins_at_event r (events_of_all boxes) t (placed h.order t) lane.0.next found.0.events h.boxes (h.at t lane.0 lane.1).cut at found.2 in
             let there : event_at r t found.0.events.event ≡ Some event.0 = subst (λ z. event_at r z found.0.events.event ≡ Some event.0) found.2 event.1 in
-            cannot_follow_if_no_place_known r boxes (placed h.order) f coherent h.knows t event.0 (subst (λ n. event_at r t n ≡ Some event.0) here there)
+            no_place_no_follow r boxes (placed h.order) f coherent h.knows t event.0 (subst (λ n. event_at r t n ≡ Some event.0) here there)
             (waits t lane.0 found.0 event.0 (record { at = lane.1; there = found.1; thread = found.2; first = there })) follow
         | inr none ↦
-            let over = events_placed_if_no_next_box r boxes lanes f h t (λ l b at there thread. none b
+            let over = no_next_box_all_placed r boxes lanes f h t (λ l b at there thread. none b
             (subst (λ (x : Lane). slice_get boxes x.next ≡ Some b) (same_Some l lane.0 (sym at ∙ lane.1)) there) thread) in
             omega (arith, over, follow.there)
       ]
   | inr past ↦
-      let over = events_placed_if_no_next_box r boxes lanes f h t (λ l b at there thread. omega (arith, past, slice_get_within lanes t l at)) in
+      let over = no_next_box_all_placed r boxes lanes f h t (λ l b at there thread. omega (arith, past, slice_get_within lanes t l at)) in
       omega (arith, over, follow.there)
 ]
 
 -- the lowest thread with a next box, where each next box waits
-pub circle_at_lowest_waiting_thread : (r : Recorded) (boxes : List PlacedBox) (lanes : List Lane) (f : ℕ → ℕ → Version) → AreCoherent r → (h : AreBeingPlaced r boxes lanes f)
-    → ((t : ℕ) (lane : Lane) (b : PlacedBox) (e : Event) → IsNext r boxes lanes t lane b e → after_needs f e ≡ None) → (t : ℕ) (lane : Lane) (b : PlacedBox)
+pub circle_at_lowest : (r : Recorded) (boxes : List PlacedBox) (lanes : List Lane) (f : ℕ → ℕ → Version) → AreCoherent r → (h : AreBeingPlaced r boxes lanes f)
+    → ((t : ℕ) (lane : Lane) (b : PlacedBox) (e : Event) → IsNextPlace r boxes lanes t lane b e → after_needs f e ≡ None) → (t : ℕ) (lane : Lane) (b : PlacedBox)
     → slice_get lanes t ≡ Some lane → slice_get boxes lane.next ≡ Some b → b.events.thread ≡ t
     → ((u : ℕ) → u < t → (l : Lane) (a : PlacedBox) → slice_get lanes u ≡ Some l → slice_get boxes l.next ≡ Some a → a.events.thread ≡ u → ⊥)
     → IsCircleAt r t b.events.event
-circle_at_lowest_waiting_thread r boxes lanes f coherent h waits t lane b at there thread lowest = record {
+circle_at_lowest r boxes lanes f coherent h waits t lane b at there thread lowest = record {
   order = h.order;
-  full = stuck_order_is_full r h.order h.is (cannot_follow_if_boxes_wait r boxes lanes f coherent h waits);
+  full = stuck_order_is_full r h.order h.is (waiting_box_no_follow r boxes lanes f coherent h waits);
   next = sym here;
   left = omega (arith, box.some, box.within, ap (λ z. length (recorded_thread r z).events) thread);
-  lowest = λ u less. events_placed_if_no_next_box r boxes lanes f h u (lowest u less);
+  lowest = λ u less. no_next_box_all_placed r boxes lanes f h u (lowest u less);
 }
   where
     at_events : slice_get (events_of_all boxes) lane.next ≡ Some b.events
     at_events = slice_get_of_map (λ (x : PlacedBox). x.events) boxes lane.next b there
 
     here : b.events.event ≡ placed h.order t
-    here = cut_box_begins_with_next_event r (events_of_all boxes) t (placed h.order t) lane.next b.events h.boxes (h.at t lane at).cut at_events thread
+    here = cut_box_begins_at_event r (events_of_all boxes) t (placed h.order t) lane.next b.events h.boxes (h.at t lane at).cut at_events thread
 
     box : IsBox r b.events
     box = h.boxes.each lane.next b.events at_events
 
 -- ---- where no thread has a next box
 
-pub no_circle_if_no_next_box : (r : Recorded) (boxes : List PlacedBox) (lanes : List Lane) (f : ℕ → ℕ → Version) → AreBeingPlaced r boxes lanes f
+pub no_next_box_no_circle : (r : Recorded) (boxes : List PlacedBox) (lanes : List Lane) (f : ℕ → ℕ → Version) → AreBeingPlaced r boxes lanes f
     → ((t : ℕ) (l : Lane) (b : PlacedBox) → slice_get lanes t ≡ Some l → slice_get boxes l.next ≡ Some b → b.events.thread ≡ t → ⊥) → HasNoCircle r
-no_circle_if_no_next_box r boxes lanes f h over = (h.order, h.is, λ t. events_placed_if_no_next_box r boxes lanes f h t (over t))
+no_next_box_no_circle r boxes lanes f h over = (h.order, h.is, λ t. no_next_box_all_placed r boxes lanes f h t (over t))
 
-pub are_placed_if_no_next_box : (r : Recorded) (boxes : List PlacedBox) (lanes : List Lane) (f : ℕ → ℕ → Version) → AreBeingPlaced r boxes lanes f
+pub no_next_box_boxes_placed : (r : Recorded) (boxes : List PlacedBox) (lanes : List Lane) (f : ℕ → ℕ → Version) → AreBeingPlaced r boxes lanes f
     → ((t : ℕ) (l : Lane) (b : PlacedBox) → slice_get lanes t ≡ Some l → slice_get boxes l.next ≡ Some b → b.events.thread ≡ t → ⊥)
     → AreBoxesPlaced r boxes (map (λ (l : Lane). l.free) lanes)
-are_placed_if_no_next_box r boxes lanes f h over = record {
+no_next_box_boxes_placed r boxes lanes f h over = record {
   all = h.boxes;
   placed = λ k b is.
       let box = h.boxes.each k b.events (slice_get_of_map (λ (x : PlacedBox). x.events) boxes k b is) in
-      h.done k b is (omega (arith, box.some, box.within, events_placed_if_no_next_box r boxes lanes f h b.events.thread (over b.events.thread)));
+      h.done k b is (omega (arith, box.some, box.within, no_next_box_all_placed r boxes lanes f h b.events.thread (over b.events.thread)));
   threads = length_same lanes ∙ h.threads;
   last = λ t p is.
-      let back = slice_get_of_map_inverse (λ (l : Lane). l.free) lanes t p is in
+      let back = slice_get_map_inverse (λ (l : Lane). l.free) lanes t p is in
       subst (IsThreadEnd boxes t) back.2 (thread_end t back.0 back.1);
 }
   where
@@ -188,7 +188,7 @@ are_placed_if_no_next_box r boxes lanes f h over = record {
           event = w.box.events.event;
           there = w.there;
           has = first_event_is_in_box r w.box.events box;
-          these = (w.thread, omega (arith, box.some, box.within, events_placed_if_no_next_box r boxes lanes f h t (over t), ap (λ x. length (recorded_thread r x).events) w.thread));
+          these = (w.thread, omega (arith, box.some, box.within, no_next_box_all_placed r boxes lanes f h t (over t), ap (λ x. length (recorded_thread r x).events) w.thread));
           ends = w.ends;
         }
 
@@ -196,12 +196,12 @@ are_placed_if_no_next_box r boxes lanes f h over = record {
     thread_end t l is =
         let free = (h.at t l is).free in
         record {
-          x = least_above_of_equal_sets 0 (EndsWhere boxes (λ q. q.x) (IsOf t (placed h.order t))) (EndsIn boxes (λ q. q.x) t) l.free.x
+          x = least_above_cong 0 (EndsWhere boxes (λ q. q.x) (IsOf t (placed h.order t))) (EndsIn boxes (λ q. q.x) t) l.free.x
               (to_thread (λ q. q.x) t) (of_thread (λ q. q.x) t) free.x;
-          u = least_above_of_equal_sets 1 (EndsWhere boxes (λ q. q.u) (IsOf t (placed h.order t))) (EndsIn boxes (λ q. q.u) t) l.free.u
+          u = least_above_cong 1 (EndsWhere boxes (λ q. q.u) (IsOf t (placed h.order t))) (EndsIn boxes (λ q. q.u) t) l.free.u
               (to_thread (λ q. q.u) t) (of_thread (λ q. q.u) t) free.u;
         }
 
-pub events_of_all_keeps_length : (boxes : List PlacedBox) → length (events_of_all boxes) ≡ length boxes
-events_of_all_keeps_length [] = refl
-events_of_all_keeps_length (b ∷ bs) = ap suc (events_of_all_keeps_length bs)
+pub length-events_of_all : (boxes : List PlacedBox) → length (events_of_all boxes) ≡ length boxes
+length-events_of_all [] = refl
+length-events_of_all (b ∷ bs) = ap suc (length-events_of_all bs)

@@ -5,8 +5,8 @@ use Rattle.std.proofs.lemmas.Bool.{cases_eq, cases_lt}
 use Rattle.std.proofs.lemmas.Option.{same_Some, none-some}
 use Rattle.ir_trace.specs.Recorded.{Recorded, recorded_thread}
 use Rattle.ir_picture.specs.Boxes.{IsInBox, IsBox, AreBoxes}
-use Rattle.ir_picture.specs.Boxing.{AreApart}
-use Rattle.ir_picture.specs.Placing.{IsCut}
+use Rattle.ir_picture.specs.Boxing.{AreBoxesApart}
+use Rattle.ir_picture.specs.Placing.{IsPlacingCut}
 use Rattle.ir_picture.specs.declared.event_box.EventBox.{EventBox}
 
 -- the first event of a box is in it
@@ -14,7 +14,7 @@ pub first_event_is_in_box : (r : Recorded) (b : EventBox) → IsBox r b → IsIn
 first_event_is_in_box r b is = record { thread = refl; from = omega arith; below = omega (arith, is.some) }
 
 -- of two boxes the earlier ends before the later begins
-pub boxes_are_apart : (r : Recorded) (boxes : List EventBox) → AreBoxes r boxes → AreApart boxes
+pub boxes_are_apart : (r : Recorded) (boxes : List EventBox) → AreBoxes r boxes → AreBoxesApart boxes
 boxes_are_apart r boxes are k m a b less at_k at_m = elim (are.rising k m a b less at_k at_m) [
   | inl thread ↦ inl thread
   | inr same ↦ elim (cases_lt b.event (a.event + a.count)) [
@@ -27,8 +27,8 @@ boxes_are_apart r boxes are k m a b less at_k at_m = elim (are.rising k m a b le
 ]
 
 -- the box that has the next event of a thread isn't one of those before
-next_event_box_not_before_cut : (boxes : List EventBox) (t n k m : ℕ) (b : EventBox) → IsCut boxes t n k → slice_get boxes m ≡ Some b → IsInBox b t n → k ≤ m
-next_event_box_not_before_cut boxes t n k m b cut at has = elim (cases_lt m k) [
+next_box_not_before_cut : (boxes : List EventBox) (t n k m : ℕ) (b : EventBox) → IsPlacingCut boxes t n k → slice_get boxes m ≡ Some b → IsInBox b t n → k ≤ m
+next_box_not_before_cut boxes t n k m b cut at has = elim (cases_lt m k) [
   | inl less ↦ elim (cut.before m b at less) [
     | inl thread ↦ absurd (omega (arith, thread, has.thread))
     | inr ends ↦ absurd (omega (arith, ends.1, has.below))
@@ -37,9 +37,9 @@ next_event_box_not_before_cut boxes t n k m b cut at has = elim (cases_lt m k) [
 ]
 
 -- where the box at a cut is one of the thread, it begins with the thread's next event
-pub cut_box_begins_with_next_event : (r : Recorded) (boxes : List EventBox) (t n k : ℕ) (b : EventBox) → AreBoxes r boxes → IsCut boxes t n k → slice_get boxes k ≡ Some b
+pub cut_box_begins_at_event : (r : Recorded) (boxes : List EventBox) (t n k : ℕ) (b : EventBox) → AreBoxes r boxes → IsPlacingCut boxes t n k → slice_get boxes k ≡ Some b
     → b.thread ≡ t → b.event ≡ n
-cut_box_begins_with_next_event r boxes t n k b are cut at thread = elim (cut.after k b at (omega arith)) [
+cut_box_begins_at_event r boxes t n k b are cut at thread = elim (cut.after k b at (omega arith)) [
   | inl above ↦ absurd (omega (arith, above, thread))
   | inr from ↦ elim (cases_eq b.event n) [
     | inl here ↦ here
@@ -58,7 +58,7 @@ cut_box_begins_with_next_event r boxes t n k b are cut at thread = elim (cut.aft
           ap (λ z. length (recorded_thread r z).events) thread,
         ) in
         let h = are.all t n within in
-        let after : k ≤ h.number = next_event_box_not_before_cut boxes t n k h.number h.box cut h.there h.has in
+        let after : k ≤ h.number = next_box_not_before_cut boxes t n k h.number h.box cut h.there h.has in
         elim (cases_eq k h.number) [
           | inl same ↦
               let box : b ≡ h.box = same_Some b h.box (sym at ∙ subst (λ z. slice_get boxes z ≡ Some h.box) (sym same) h.there) in
@@ -70,18 +70,18 @@ cut_box_begins_with_next_event r boxes t n k b are cut at thread = elim (cut.aft
         ]
 
 -- there is a box at each place below another
-element_exists_below_another : (xs : List EventBox) (m i : ℕ) (a : EventBox) → slice_get xs m ≡ Some a → i < m → (b : EventBox) × (slice_get xs i ≡ Some b)
-element_exists_below_another [] m i a at less = absurd (none-some a at)
-element_exists_below_another (x ∷ xs) zero i a at less = absurd (omega (arith, less))
-element_exists_below_another (x ∷ xs) (suc m) zero a at less = (x, refl)
-element_exists_below_another (x ∷ xs) (suc m) (suc i) a at less = element_exists_below_another xs m i a at (omega (arith, less))
+lower_element_exists : (xs : List EventBox) (m i : ℕ) (a : EventBox) → slice_get xs m ≡ Some a → i < m → (b : EventBox) × (slice_get xs i ≡ Some b)
+lower_element_exists [] m i a at less = absurd (none-some a at)
+lower_element_exists (x ∷ xs) zero i a at less = absurd (omega (arith, less))
+lower_element_exists (x ∷ xs) (suc m) zero a at less = (x, refl)
+lower_element_exists (x ∷ xs) (suc m) (suc i) a at less = lower_element_exists xs m i a at (omega (arith, less))
 
 -- where it isn't, or there is none, the thread has no more events
-pub no_events_left_without_next_box : (r : Recorded) (boxes : List EventBox) (t n k : ℕ) → AreBoxes r boxes → IsCut boxes t n k
+pub no_box_no_events_left : (r : Recorded) (boxes : List EventBox) (t n k : ℕ) → AreBoxes r boxes → IsPlacingCut boxes t n k
     → ((b : EventBox) → slice_get boxes k ≡ Some b → b.thread ≡ t → ⊥) → n < length (recorded_thread r t).events → ⊥
-no_events_left_without_next_box r boxes t n k are cut none within =
+no_box_no_events_left r boxes t n k are cut none within =
     let h = are.all t n within in
-    let after : k ≤ h.number = next_event_box_not_before_cut boxes t n k h.number h.box cut h.there h.has in
+    let after : k ≤ h.number = next_box_not_before_cut boxes t n k h.number h.box cut h.there h.has in
     elim (cases_eq k h.number) [
       | inl same ↦ none h.box (subst (λ z. slice_get boxes z ≡ Some h.box) (sym same) h.there) h.has.thread
       | inr other ↦ between h.number h.box (omega (arith, after, other)) h.there h.has
@@ -89,7 +89,7 @@ no_events_left_without_next_box r boxes t n k are cut none within =
   where
     between : (m : ℕ) (a : EventBox) → k < m → slice_get boxes m ≡ Some a → IsInBox a t n → ⊥
     between m a less at has =
-        let b = element_exists_below_another boxes m k a at less in
+        let b = lower_element_exists boxes m k a at less in
         elim (cut.after k b.0 b.1 (omega arith)) [
           | inl above ↦ elim (are.rising k m b.0 a less b.1 at) [
             | inl lower ↦ omega (arith, above, lower, has.thread)
@@ -99,9 +99,9 @@ no_events_left_without_next_box r boxes t n k are cut none within =
         ]
 
 -- the cut behind the box at a cut
-pub cut_after_next_box_is_its_end_and_next_index : (r : Recorded) (boxes : List EventBox) (t n k : ℕ) (b : EventBox) → AreBoxes r boxes → IsCut boxes t n k → slice_get boxes k ≡ Some b
-    → b.thread ≡ t → b.event ≡ n → IsCut boxes t (n + b.count) (k + 1)
-cut_after_next_box_is_its_end_and_next_index r boxes t n k b are cut at thread event = record {
+pub cut_after_next_box : (r : Recorded) (boxes : List EventBox) (t n k : ℕ) (b : EventBox) → AreBoxes r boxes → IsPlacingCut boxes t n k → slice_get boxes k ≡ Some b
+    → b.thread ≡ t → b.event ≡ n → IsPlacingCut boxes t (n + b.count) (k + 1)
+cut_after_next_box r boxes t n k b are cut at thread event = record {
   before = λ m a at_m less. elim (cases_lt m k) [
     | inl old ↦ elim (cut.before m a at_m old) [
       | inl lower ↦ inl lower

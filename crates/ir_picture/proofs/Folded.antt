@@ -3,7 +3,7 @@ use Rattle.std.proofs.Common.{◌≡◌, ℕ, suc, ◌+◌, ◌<◌, ◌≤◌, 
 use Rattle.std.proofs.lemmas.List.{at_drop_more, at_drop_all}
 use Rattle.ir_log.specs.declared.event.Event.{Event}
 use Rattle.ir_log.specs.declared.event.Event.TheVariants.{Answer, Read, Write, Try}
-use Rattle.ir_picture.specs.Numbers.{version_read, read_pair, read_entry, read_pairs, with_commas}
+use Rattle.ir_picture.specs.Numbers.{version_read, read_pair, read_entry_number, read_pairs, with_commas}
 use Rattle.ir_picture.proofs.Texts.{comma_after, with_commas_of_push, comma_after_push}
 
 -- the first of two, if it is there
@@ -27,14 +27,14 @@ version_read_of_drop : (o n : ℕ) (es : List Event) (e : Event) → n < length 
 version_read_of_drop o n es e some = at_drop_more (version_read o) es n e some ∙ version_read_of_cons o (get_or es n e) (drop (n + 1) es)
 
 -- the next event reads the object
-pub version_read_is_of_next_event_if_it_reads : (o n v : ℕ) (es : List Event) (e : Event) → n < length es → version_read o (get_or es n e ∷ []) ≡ Some v
+pub version_read_by_next : (o n v : ℕ) (es : List Event) (e : Event) → n < length es → version_read o (get_or es n e ∷ []) ≡ Some v
     → version_read o (drop n es) ≡ Some v
-version_read_is_of_next_event_if_it_reads o n v es e some is = version_read_of_drop o n es e some ∙ ap (λ x. or_else x (version_read o (drop (n + 1) es))) is
+version_read_by_next o n v es e some is = version_read_of_drop o n es e some ∙ ap (λ x. or_else x (version_read o (drop (n + 1) es))) is
 
 -- it doesn't
-pub version_read_skips_next_event_unless_it_reads : (o n : ℕ) (es : List Event) (e : Event) → n < length es → version_read o (get_or es n e ∷ []) ≡ None
+pub version_read_skips_next : (o n : ℕ) (es : List Event) (e : Event) → n < length es → version_read o (get_or es n e ∷ []) ≡ None
     → version_read o (drop n es) ≡ version_read o (drop (n + 1) es)
-version_read_skips_next_event_unless_it_reads o n es e some is = version_read_of_drop o n es e some ∙ ap (λ x. or_else x (version_read o (drop (n + 1) es))) is
+version_read_skips_next o n es e some is = version_read_of_drop o n es e some ∙ ap (λ x. or_else x (version_read o (drop (n + 1) es))) is
 
 pub version_read_past_end : (o n : ℕ) (es : List Event) → length es ≤ n → version_read o (drop n es) ≡ None
 unfolding version_read
@@ -47,14 +47,14 @@ pub record ArePairs (n : ℕ) (es : List Event) (comma text : List ℕ) : Type 0
   pub lines : text ≡ with_commas (read_pairs n es)
   pub after : comma ≡ comma_after (read_pairs n es)
 
-read_pairs_of_one_more_object : (o : ℕ) (es : List Event) → read_pairs (o + 1) es ≡ read_pairs o es ++ read_entry o (version_read o es)
+read_pairs_suc : (o : ℕ) (es : List Event) → read_pairs (o + 1) es ≡ read_pairs o es ++ read_entry_number o (version_read o es)
 unfolding read_pairs
-read_pairs_of_one_more_object o es = let on : o + 1 ≡ suc o = omega arith in ap (λ n. read_pairs n es) on
+read_pairs_suc o es = let on : o + 1 ≡ suc o = omega arith in ap (λ n. read_pairs n es) on
 
 -- the next object was read
-pub are_pairs_after_pair_of_read_object_is_appended : (o v : ℕ) (es : List Event) (comma text own new : List ℕ) → ArePairs o es comma text → version_read o es ≡ Some v
+pub pairs_after_read_object : (o v : ℕ) (es : List Event) (comma text own new : List ℕ) → ArePairs o es comma text → version_read o es ≡ Some v
     → own ≡ comma ++ read_pair o v → new ≡ text ++ own → ArePairs (o + 1) es (codes ",") new
-are_pairs_after_pair_of_read_object_is_appended o v es comma text own new h is said made = record {
+pairs_after_read_object o v es comma text own new h is said made = record {
   lines = made ∙ ap (λ (x : List ℕ). x ++ own) h.lines
       ∙ ap (λ (x : List ℕ). with_commas (read_pairs o es) ++ x) (said ∙ ap (λ (x : List ℕ). x ++ read_pair o v) h.after)
       ∙ sym (with_commas_of_push (read_pairs o es) (read_pair o v)) ∙ sym (ap with_commas all);
@@ -62,18 +62,18 @@ are_pairs_after_pair_of_read_object_is_appended o v es comma text own new h is s
 }
   where
     all : read_pairs (o + 1) es ≡ read_pairs o es ++ read_pair o v ∷ []
-    all = read_pairs_of_one_more_object o es ∙ ap (λ x. read_pairs o es ++ read_entry o x) is
+    all = read_pairs_suc o es ∙ ap (λ x. read_pairs o es ++ read_entry_number o x) is
 
 -- it wasn't
-pub are_pairs_unchanged_after_unread_object : (o : ℕ) (es : List Event) (comma text : List ℕ) → ArePairs o es comma text → version_read o es ≡ None
+pub pairs_past_unread_object : (o : ℕ) (es : List Event) (comma text : List ℕ) → ArePairs o es comma text → version_read o es ≡ None
     → ArePairs (o + 1) es comma text
-are_pairs_unchanged_after_unread_object o es comma text h is = record {
+pairs_past_unread_object o es comma text h is = record {
   lines = h.lines ∙ sym (ap with_commas same);
   after = h.after ∙ sym (ap comma_after same);
 }
   where
     same : read_pairs (o + 1) es ≡ read_pairs o es
-    same = read_pairs_of_one_more_object o es ∙ ap (λ x. read_pairs o es ++ read_entry o x) is ∙ append-nil (read_pairs o es)
+    same = read_pairs_suc o es ∙ ap (λ x. read_pairs o es ++ read_entry_number o x) is ∙ append-nil (read_pairs o es)
 
 pub pairs_of_no_objects : (es : List Event) (text : List ℕ) → text ≡ [] → ArePairs 0 es [] text
 unfolding read_pairs with_commas

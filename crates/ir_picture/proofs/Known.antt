@@ -12,14 +12,15 @@ use Rattle.ir_trace.specs.Recorded.{Recorded}
 use Rattle.ir_past.specs.Past.{event_at}
 use Rattle.ir_past.specs.Answers.{AreCoherent}
 use Rattle.ir_picture.specs.Boxes.{IsInBox, AreBoxes}
-use Rattle.ir_picture.specs.Placing.{Knows, IsAfter, ReadsPlaced, WritesPlaced, noted, noted_all, with_reader, with_maker, right_of, later_of, unknown, events_of_all}
+use Rattle.ir_picture.specs.Placing.{Knows, IsAfterBox, ReadsPlaced, WritesPlaced, noted, noted_all, with_reader, with_maker, right_of, later_of, unknown_version, events_of_all}
 use Rattle.ir_picture.specs.declared.placed_box.Point.{Point}
 use Rattle.ir_picture.specs.declared.placed_box.PlacedBox.{PlacedBox}
 use Rattle.ir_picture.specs.declared.table.Version.{Version}
 use Rattle.ir_picture.proofs.Lists.{slice_get_of_map}
-use Rattle.ir_picture.proofs.Least.{place_after_equal_events, place_after_no_events_is_first_point, place_after_union_of_events_is_later_place, place_after_single_box_is_its_end, place_stays_after_events_if_other_box_set}
-use Rattle.ir_picture.proofs.Counts.{reads_one_of_read_is_one, reads_one_of_other_event_is_zero, reads_one_at_most_one, placed_reads_step, placed_reads_at_start}
-use Rattle.ir_picture.proofs.Follows.{event_at_is_unique, writer_of_version_is_unique}
+use Rattle.ir_picture.proofs.Least.{after_equal_events, after_no_events, after_union_is_later, after_single_is_its_end, after_other_box_set}
+use Rattle.ir_picture.proofs.Counts.{reads_one_of_read, reads_one_of_other, reads_one_at_most_one, placed_reads_step, placed_reads_at_start}
+use Rattle.ir_picture.proofs.Follows.{event_at_is_unique}
+use Rattle.ir_past.proofs.CallerLemmas.{version_writer_unique}
 
 -- ---- what noting an event changes
 
@@ -37,8 +38,8 @@ choice_if_pair_equal : {A : Type 0} (o q v w : ℕ) (x y : A) → o ≡ q → v 
 choice_if_pair_equal {A} o q v w x y a b =
     ap {B = A} (λ (c : Bool). if c && (v == w) then x else y) (eq-eqb o q a) ∙ ap {B = A} (λ (c : Bool). if c then x else y) (eq-eqb v w b)
 
-choice_unless_pair_equal : {A : Type 0} (o q v w : ℕ) (x y : A) → (o ≡ q → v ≡ w → ⊥) → (if (o == q) && (v == w) then x else y) ≡ y
-choice_unless_pair_equal {A} o q v w x y ne = elim (cases_eq o q) [
+unequal_pair_choice : {A : Type 0} (o q v w : ℕ) (x y : A) → (o ≡ q → v ≡ w → ⊥) → (if (o == q) && (v == w) then x else y) ≡ y
+unequal_pair_choice {A} o q v w x y ne = elim (cases_eq o q) [
   | inl a ↦ ap {B = A} (λ (c : Bool). if c && (v == w) then x else y) (eq-eqb o q a)
       ∙ ap {B = A} (λ (c : Bool). if c then x else y) (ne_eqb v w (ne a))
   | inr n ↦ ap {B = A} (λ (c : Bool). if c && (v == w) then x else y) (ne_eqb o q n)
@@ -52,20 +53,20 @@ pub record VersionChange (e : Event) (p : Point) (o v : ℕ) (old new : Version)
   pub write : (w l : ℕ) → v ≡ suc w → e ≡ Write o w l → new.made ≡ Some p
   pub unwritten : ((w l : ℕ) → v ≡ suc w → e ≡ Write o w l → ⊥) → new.made ≡ old.made
 
-unchanged_version_is_version_change_for_other_event : (e : Event) (p : Point) (o v : ℕ) (old new : Version) → new ≡ old → (e ≡ Read o v → ⊥)
+other_event_same_version : (e : Event) (p : Point) (o v : ℕ) (old new : Version) → new ≡ old → (e ≡ Read o v → ⊥)
     → ((w l : ℕ) → v ≡ suc w → e ≡ Write o w l → ⊥) → VersionChange e p o v old new
-unchanged_version_is_version_change_for_other_event e p o v old new same no_reads no_writes = record {
-  readers = omega (arith, ap (λ (x : Version). x.readers) same, reads_one_of_other_event_is_zero e o v no_reads);
+other_event_same_version e p o v old new same no_reads no_writes = record {
+  readers = omega (arith, ap (λ (x : Version). x.readers) same, reads_one_of_other e o v no_reads);
   read = λ is. absurd (no_reads is);
   unread = λ not. ap (λ (x : Version). x.left) same;
   write = λ w l next is. absurd (no_writes w l next is);
   unwritten = λ not. ap (λ (x : Version). x.made) same;
 }
 
-pub noted_version_is_version_change_from_old : (e : Event) (p : Point) (f : ℕ → ℕ → Version) (o v : ℕ) → VersionChange e p o v (f o v) (noted e p f o v)
-noted_version_is_version_change_from_old (Answer kind value) p f o v = unchanged_version_is_version_change_for_other_event (Answer kind value) p o v (f o v) (f o v) refl (λ e. cc) (λ w l next e. cc)
-noted_version_is_version_change_from_old (Try q) p f o v = unchanged_version_is_version_change_for_other_event (Try q) p o v (f o v) (f o v) refl (λ e. cc) (λ w l next e. cc)
-noted_version_is_version_change_from_old (Read q w) p f o v = elim (pair_equal_or_not o q v w) [
+pub noted_is_version_change : (e : Event) (p : Point) (f : ℕ → ℕ → Version) (o v : ℕ) → VersionChange e p o v (f o v) (noted e p f o v)
+noted_is_version_change (Answer kind value) p f o v = other_event_same_version (Answer kind value) p o v (f o v) (f o v) refl (λ e. cc) (λ w l next e. cc)
+noted_is_version_change (Try q) p f o v = other_event_same_version (Try q) p o v (f o v) (f o v) refl (λ e. cc) (λ w l next e. cc)
+noted_is_version_change (Read q w) p f o v = elim (pair_equal_or_not o q v w) [
   | inl here ↦
       let is : noted (Read q w) p f o v ≡ with_reader (f q w) p = choice_if_pair_equal o q v w (with_reader (f q w) p) (f o v) here.0 here.1 in
       let old : f q w ≡ f o v = λ i. f (sym here.0 i) (sym here.1 i) in
@@ -75,7 +76,7 @@ noted_version_is_version_change_from_old (Read q w) p f o v = elim (pair_equal_o
           arith,
           ap (λ (x : Version). x.readers) is,
           ap (λ (x : Version). x.readers) old,
-          reads_one_of_read_is_one o v,
+          reads_one_of_read o v,
           ap (λ (x : Event). reads_one o v (label_of x)) event,
         );
         read = λ e. ap (λ (x : Version). x.left) is ∙ ap (λ (x : Version). later_of x.left p) old;
@@ -83,11 +84,11 @@ noted_version_is_version_change_from_old (Read q w) p f o v = elim (pair_equal_o
         write = λ u l next e. absurd (let bad : ◌≡◌ {A = Event} (Read q w) (Write o u l) = e in cc);
         unwritten = λ not. ap (λ (x : Version). x.made) is ∙ ap (λ (x : Version). x.made) old;
       }
-  | inr ne ↦ unchanged_version_is_version_change_for_other_event (Read q w) p o v (f o v) (noted (Read q w) p f o v) (choice_unless_pair_equal o q v w (with_reader (f q w) p) (f o v) ne)
+  | inr ne ↦ other_event_same_version (Read q w) p o v (f o v) (noted (Read q w) p f o v) (unequal_pair_choice o q v w (with_reader (f q w) p) (f o v) ne)
       (λ e. ne (let bad : ◌≡◌ {A = Event} (Read q w) (Read o v) = e in cc) (let bad : ◌≡◌ {A = Event} (Read q w) (Read o v) = e in cc))
       (λ u l next e. let bad : ◌≡◌ {A = Event} (Read q w) (Write o u l) = e in cc)
 ]
-noted_version_is_version_change_from_old (Write q w k) p f o v = elim (pair_equal_or_not o q v (w + 1)) [
+noted_is_version_change (Write q w k) p f o v = elim (pair_equal_or_not o q v (w + 1)) [
   | inl here ↦
       let is : noted (Write q w k) p f o v ≡ with_maker (f q (w + 1)) p = choice_if_pair_equal o q v (w + 1) (with_maker (f q (w + 1)) p) (f o v) here.0 here.1 in
       let old : f q (w + 1) ≡ f o v = λ i. f (sym here.0 i) (sym here.1 i) in
@@ -96,14 +97,14 @@ noted_version_is_version_change_from_old (Write q w k) p f o v = elim (pair_equa
           arith,
           ap (λ (x : Version). x.readers) is,
           ap (λ (x : Version). x.readers) old,
-          reads_one_of_other_event_is_zero (Write q w k) o v (λ e. let bad : ◌≡◌ {A = Event} (Write q w k) (Read o v) = e in cc),
+          reads_one_of_other (Write q w k) o v (λ e. let bad : ◌≡◌ {A = Event} (Write q w k) (Read o v) = e in cc),
         );
         read = λ e. absurd (let bad : ◌≡◌ {A = Event} (Write q w k) (Read o v) = e in cc);
         unread = λ not. ap (λ (x : Version). x.left) is ∙ ap (λ (x : Version). x.left) old;
         write = λ u l next e. ap (λ (x : Version). x.made) is;
         unwritten = λ not. absurd (not w k (omega (arith, here.1)) (λ i. Write (sym here.0 i) w k));
       }
-  | inr ne ↦ unchanged_version_is_version_change_for_other_event (Write q w k) p o v (f o v) (noted (Write q w k) p f o v) (choice_unless_pair_equal o q v (w + 1) (with_maker (f q (w + 1)) p) (f o v) ne)
+  | inr ne ↦ other_event_same_version (Write q w k) p o v (f o v) (noted (Write q w k) p f o v) (unequal_pair_choice o q v (w + 1) (with_maker (f q (w + 1)) p) (f o v) ne)
       (λ e. let bad : ◌≡◌ {A = Event} (Write q w k) (Read o v) = e in cc)
       (λ u l next e.
       let event : ◌≡◌ {A = Event} (Write q w k) (Write o u l) = e in
@@ -114,23 +115,23 @@ noted_version_is_version_change_from_old (Write q w k) p f o v = elim (pair_equa
 
 -- ---- what is known at the start, and where a box is changed
 
-pub knows_at_start : (r : Recorded) (boxes : List PlacedBox) (f : ℕ → ℕ → Version) → ((o v : ℕ) → f o v ≡ unknown) → Knows r boxes (λ u. 0) f
+pub knows_at_start : (r : Recorded) (boxes : List PlacedBox) (f : ℕ → ℕ → Version) → ((o v : ℕ) → f o v ≡ unknown_version) → Knows r boxes (λ u. 0) f
 knows_at_start r boxes f none = record {
   readers = λ o v. ap (λ (x : Version). x.readers) (none o v) ∙ sym (placed_reads_at_start r o v);
-  left = λ o v. subst (IsAfter boxes (ReadsPlaced r (λ u. 0) o v)) (ap (λ (x : Version). x.left) (sym (none o v)))
-      (place_after_no_events_is_first_point boxes (ReadsPlaced r (λ u. 0) o v) (λ u i is. omega (arith, is.0)));
+  left = λ o v. subst (IsAfterBox boxes (ReadsPlaced r (λ u. 0) o v)) (ap (λ (x : Version). x.left) (sym (none o v)))
+      (after_no_events boxes (ReadsPlaced r (λ u. 0) o v) (λ u i is. omega (arith, is.0)));
   made = λ o v p is. absurd (none-some p (sym (ap (λ (x : Version). x.made) (none o (suc v))) ∙ is));
   none = λ o v is u i these. omega (arith, these.0);
 }
 
-pub knows_after_unplaced_box_set : (r : Recorded) (boxes : List PlacedBox) (c : ℕ → ℕ) (f : ℕ → ℕ → Version) (k : ℕ) (b new : PlacedBox) → slice_get boxes k ≡ Some b
+pub knows_after_unplaced : (r : Recorded) (boxes : List PlacedBox) (c : ℕ → ℕ) (f : ℕ → ℕ → Version) (k : ℕ) (b new : PlacedBox) → slice_get boxes k ≡ Some b
     → new.events ≡ b.events → c b.events.thread ≤ b.events.event → Knows r boxes c f → Knows r (slice_set boxes k new) c f
-knows_after_unplaced_box_set r boxes c f k b new at same late h = record {
+knows_after_unplaced r boxes c f k b new at same late h = record {
   readers = h.readers;
-  left = λ o v. place_stays_after_events_if_other_box_set boxes k b new (ReadsPlaced r c o v) (f o v).left at same (λ i has these. omega (arith, these.0, has.from, late)) (h.left o v);
+  left = λ o v. after_other_box_set boxes k b new (ReadsPlaced r c o v) (f o v).left at same (λ i has these. omega (arith, these.0, has.from, late)) (h.left o v);
   made = λ o v p is. (
     (h.made o v p is).0,
-    place_stays_after_events_if_other_box_set boxes k b new (WritesPlaced r c o v) p at same (λ i has these. omega (arith, these.0, has.from, late)) (h.made o v p is).1,
+    after_other_box_set boxes k b new (WritesPlaced r c o v) p at same (λ i has these. omega (arith, these.0, has.from, late)) (h.made o v p is).1,
   );
   none = h.none;
 }
@@ -166,14 +167,14 @@ pub knows_after_noted_event : (r : Recorded) (boxes : List PlacedBox) (c d : ℕ
     → AreBoxes r (events_of_all boxes) → event_at r t (c t) ≡ Some e → d t ≡ suc (c t) → ((u : ℕ) → (u ≡ t → ⊥) → d u ≡ c u)
     → slice_get boxes k ≡ Some b → IsInBox b.events t (c t) → Knows r boxes c f → Knows r boxes d (noted e (right_of b.end) f)
 knows_after_noted_event r boxes c d f t k b e coherent are event here other at has h = record {
-  readers = λ o v. (noted_version_is_version_change_from_old e (right_of b.end) f o v).readers ∙ (ap (λ n. reads_one o v (label_of e) + n) (h.readers o v)
+  readers = λ o v. (noted_is_version_change e (right_of b.end) f o v).readers ∙ (ap (λ n. reads_one o v (label_of e) + n) (h.readers o v)
       ∙ sym (placed_reads_step r c d t o v e event here other));
   left = λ o v. left o v;
   made = λ o v p is. made o v p is;
   none = λ o v is u i these. elim (was u i these.0) [
-    | inl old ↦ h.none o v (sym ((noted_version_is_version_change_from_old e (right_of b.end) f o (suc v)).unwritten (λ w l next same.
-        none-some (right_of b.end) (sym is ∙ (noted_version_is_version_change_from_old e (right_of b.end) f o (suc v)).write w l next same))) ∙ is) u i (old, these.1)
-    | inr that ↦ none-some (right_of b.end) (sym is ∙ (noted_version_is_version_change_from_old e (right_of b.end) f o (suc v)).write v these.1.0 refl (is_that u i (Write o v these.1.0) that these.1.1))
+    | inl old ↦ h.none o v (sym ((noted_is_version_change e (right_of b.end) f o (suc v)).unwritten (λ w l next same.
+        none-some (right_of b.end) (sym is ∙ (noted_is_version_change e (right_of b.end) f o (suc v)).write w l next same))) ∙ is) u i (old, these.1)
+    | inr that ↦ none-some (right_of b.end) (sym is ∙ (noted_is_version_change e (right_of b.end) f o (suc v)).write v these.1.0 refl (is_that u i (Write o v these.1.0) that these.1.1))
   ];
 }
   where
@@ -205,23 +206,23 @@ knows_after_noted_event r boxes c d f t k b e coherent are event here other at h
     event_is : (u i : ℕ) → IsThatEvent t (c t) u i → event_at r u i ≡ Some e
     event_is u i that = subst (λ z. event_at r z i ≡ Some e) (sym that.0) (subst (λ z. event_at r t z ≡ Some e) (sym that.1) event)
 
-    after_that : IsAfter boxes (IsThatEvent t (c t)) p
-    after_that = place_after_single_box_is_its_end boxes k (c t) b (IsThatEvent t (c t)) at (record { thread = refl; from = has.from; below = has.below }) (has.thread, refl)
+    after_that : IsAfterBox boxes (IsThatEvent t (c t)) p
+    after_that = after_single_is_its_end boxes k (c t) b (IsThatEvent t (c t)) at (record { thread = refl; from = has.from; below = has.below }) (has.thread, refl)
         (λ m j a at_m in_m that. are.one k m t (c t) b.events a.events (slice_get_of_map (λ (x : PlacedBox). x.events) boxes k b at)
         (slice_get_of_map (λ (x : PlacedBox). x.events) boxes m a at_m) has
         (record { thread = that.0; from = omega (arith, in_m.from, that.1); below = omega (arith, in_m.below, that.1) }))
 
-    left : (o v : ℕ) → IsAfter boxes (ReadsPlaced r d o v) (noted e p f o v).left
+    left : (o v : ℕ) → IsAfterBox boxes (ReadsPlaced r d o v) (noted e p f o v).left
     left o v = elim (event_is_read_or_not e o v) [
-      | inl read ↦ subst (IsAfter boxes (ReadsPlaced r d o v)) (sym ((noted_version_is_version_change_from_old e p f o v).read read))
-          (place_after_union_of_events_is_later_place boxes (ReadsPlaced r c o v) (IsThatEvent t (c t)) (ReadsPlaced r d o v) (f o v).left p
+      | inl read ↦ subst (IsAfterBox boxes (ReadsPlaced r d o v)) (sym ((noted_is_version_change e p f o v).read read))
+          (after_union_is_later boxes (ReadsPlaced r c o v) (IsThatEvent t (c t)) (ReadsPlaced r d o v) (f o v).left p
           (λ u i old. (grows u i old.0, old.1)) (λ u i that. (now_is u i that, event_is u i that ∙ ap Some read))
           (λ u i new. elim (was u i new.0) [
             | inl old ↦ inl (old, new.1)
             | inr that ↦ inr that
           ]) (h.left o v) after_that)
-      | inr not ↦ subst (IsAfter boxes (ReadsPlaced r d o v)) (sym ((noted_version_is_version_change_from_old e p f o v).unread not))
-          (place_after_equal_events boxes (ReadsPlaced r c o v) (ReadsPlaced r d o v) (f o v).left (λ u i old. (grows u i old.0, old.1))
+      | inr not ↦ subst (IsAfterBox boxes (ReadsPlaced r d o v)) (sym ((noted_is_version_change e p f o v).unread not))
+          (after_equal_events boxes (ReadsPlaced r c o v) (ReadsPlaced r d o v) (f o v).left (λ u i old. (grows u i old.0, old.1))
           (λ u i new. elim (was u i new.0) [
             | inl old ↦ (old, new.1)
             | inr that ↦ absurd (not (is_that u i (Read o v) that new.1))
@@ -229,23 +230,23 @@ knows_after_noted_event r boxes c d f t k b e coherent are event here other at h
     ]
 
     made : (o v : ℕ) (q : Point) → (noted e p f o (suc v)).made ≡ Some q
-        → ((u i : ℕ) × WritesPlaced r d o v u i) × IsAfter boxes (WritesPlaced r d o v) q
+        → ((u i : ℕ) × WritesPlaced r d o v u i) × IsAfterBox boxes (WritesPlaced r d o v) q
     made o v q is = elim (event_is_write_or_not e o v) [
       | inl write ↦
-          let same : p ≡ q = same_Some p q (sym ((noted_version_is_version_change_from_old e p f o (suc v)).write v write.0 refl write.1) ∙ is) in (
+          let same : p ≡ q = same_Some p q (sym ((noted_is_version_change e p f o (suc v)).write v write.0 refl write.1) ∙ is) in (
             (t, c t, (omega (arith, here), (write.0, event ∙ ap Some write.1))),
-            subst (IsAfter boxes (WritesPlaced r d o v)) same
-                (place_after_equal_events boxes (IsThatEvent t (c t)) (WritesPlaced r d o v) p
+            subst (IsAfterBox boxes (WritesPlaced r d o v)) same
+                (after_equal_events boxes (IsThatEvent t (c t)) (WritesPlaced r d o v) p
                 (λ u i that. (now_is u i that, (write.0, event_is u i that ∙ ap Some write.1)))
                 (λ u i new.
-                let one = writer_of_version_is_unique r coherent u i t (c t) o v new.1.0 write.0 new.1.1 (event ∙ ap Some write.1) in
+                let one = version_writer_unique r coherent u i t (c t) o v new.1.0 write.0 new.1.1 (event ∙ ap Some write.1) in
                 (one.0, one.1)) after_that),
           )
       | inr not ↦
-          let old = h.made o v q (sym ((noted_version_is_version_change_from_old e p f o (suc v)).unwritten (λ w l next same.
+          let old = h.made o v q (sym ((noted_is_version_change e p f o (suc v)).unwritten (λ w l next same.
           not l (same ∙ (λ j. Write o (suc_is_injective w v next j) l)))) ∙ is) in (
             (old.0.0, old.0.1, (grows old.0.0 old.0.1 old.0.2.0, old.0.2.1)),
-            place_after_equal_events boxes (WritesPlaced r c o v) (WritesPlaced r d o v) q (λ u i these. (grows u i these.0, these.1))
+            after_equal_events boxes (WritesPlaced r c o v) (WritesPlaced r d o v) q (λ u i these. (grows u i these.0, these.1))
                 (λ u i new. elim (was u i new.0) [
                   | inl less ↦ (less, new.1)
                   | inr that ↦ absurd (not new.1.0 (is_that u i (Write o v new.1.0) that new.1.1))
@@ -256,22 +257,22 @@ knows_after_noted_event r boxes c d f t k b e coherent are event here other at h
 -- ---- events that are noted one after the other
 
 -- one more event is noted
-pub noted_all_of_rest_is_unchanged_after_next_is_noted : (es : List Event) (k : ℕ) (d : Event) (p : Point) (f g : ℕ → ℕ → Version) (all : ℕ → ℕ → Version) → k < length es
+pub noted_all_next : (es : List Event) (k : ℕ) (d : Event) (p : Point) (f g : ℕ → ℕ → Version) (all : ℕ → ℕ → Version) → k < length es
     → ((o v : ℕ) → g o v ≡ noted (get_or es k d) p f o v) → noted_all (drop k es) p f ≡ all → noted_all (drop (k + 1) es) p g ≡ all
-noted_all_of_rest_is_unchanged_after_next_is_noted es k d p f g all within is rest =
+noted_all_next es k d p f g all within is rest =
     let same : g ≡ noted (get_or es k d) p f = λ i o v. is o v i in
     ap (λ (h : ℕ → ℕ → Version). noted_all (drop (k + 1) es) p h) same
     ∙ (ap (λ (xs : List Event). noted_all xs p f) (sym (drop_more es k d within)) ∙ rest)
 
 -- and fewer are left, so that the counts stay small
-pub readers_plus_rest_stay_below_limit_after_next_is_noted : (es : List Event) (k m : ℕ) (d : Event) (p : Point) (f g : ℕ → ℕ → Version) → k < length es
+pub readers_below_limit : (es : List Event) (k m : ℕ) (d : Event) (p : Point) (f g : ℕ → ℕ → Version) → k < length es
     → ((o v : ℕ) → g o v ≡ noted (get_or es k d) p f o v) → ((o v : ℕ) → (f o v).readers + length (drop k es) < m) → (o v : ℕ)
     → (g o v).readers + length (drop (k + 1) es) < m
-readers_plus_rest_stay_below_limit_after_next_is_noted es k m d p f g within is room o v = omega (
+readers_below_limit es k m d p f g within is room o v = omega (
   arith,
   room o v,
   ap (λ (x : Version). x.readers) (is o v),
-  (noted_version_is_version_change_from_old (get_or es k d) p f o v).readers,
+  (noted_is_version_change (get_or es k d) p f o v).readers,
   reads_one_at_most_one o v (get_or es k d),
   ap (λ (xs : List Event). length xs) (drop_more es k d within),
 )

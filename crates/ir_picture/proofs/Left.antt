@@ -7,12 +7,12 @@ use Rattle.ir_picture.specs.declared.placed_box.Point.{Point}
 use Rattle.ir_picture.specs.declared.placed_box.PlacedBox.{PlacedBox}
 
 -- the end of a box that b needs is one of those before which b doesn't start
-end_of_needed_box_ends_before_needing_box : (r : Recorded) (boxes : List PlacedBox) (number : Point → ℕ) (k : ℕ) (a b : PlacedBox) → slice_get boxes k ≡ Some a
+needed_end_before_needing : (r : Recorded) (boxes : List PlacedBox) (number : Point → ℕ) (k : ℕ) (a b : PlacedBox) → slice_get boxes k ≡ Some a
     → NeedsBox r b.events a.events → EndsBefore r boxes number b (number a.end)
-end_of_needed_box_ends_before_needing_box r boxes number k a b there needs = inr (record { at = k; box = a; there = there; needs = needs; ends = refl })
+needed_end_before_needing r boxes number k a b there needs = inr (record { at = k; box = a; there = there; needs = needs; ends = refl })
 
-pub placed_boxes_have_needs_to_their_left : PlacedNeedsAreLeft
-placed_boxes_have_needs_to_their_left r boxes ends all k m a b at_k at_m needs = (
-  (all.placed m b at_m).start_x.above a.end.x (end_of_needed_box_ends_before_needing_box r boxes (λ p. p.x) k a b at_k needs),
-  (all.placed m b at_m).start_u.above a.end.u (end_of_needed_box_ends_before_needing_box r boxes (λ p. p.u) k a b at_k needs),
+pub needs_placed_to_left : PlacedNeedsAreLeft
+needs_placed_to_left r boxes ends all k m a b at_k at_m needs = (
+  (all.placed m b at_m).start_x.above a.end.x (needed_end_before_needing r boxes (λ p. p.x) k a b at_k needs),
+  (all.placed m b at_m).start_u.above a.end.u (needed_end_before_needing r boxes (λ p. p.u) k a b at_k needs),
 )

@@ -3,29 +3,29 @@ use Rattle.std.proofs.Common.{◌≡◌, ℕ, suc, zero, ◌+◌, ◌-◌, ◌<�
 use Rattle.std.specs.Prelude.{slice_get, IfSome, IfNone}
 use Rattle.std.proofs.lemmas.Bool.{cases_eq, cases_lt}
 use Rattle.std.proofs.lemmas.Option.{same_Some, none-some, slice_get_within}
-use Rattle.ir_lemmas.proofs.CallerLemmas.{added_element_is_last, get_or_after_set, get_or_after_set_elsewhere, slice_get_after_push_cases, slice_get_after_push_earlier}
+use Rattle.ir_lemmas.proofs.CallerLemmas.{added_element_is_last, get_or_after_set, get_or_set_elsewhere, slice_get-push_cases, slice_get_push_earlier}
 use Rattle.ir_log.specs.declared.event.Event.{Event}
 use Rattle.ir_log.specs.declared.event.Event.TheVariants.{Answer, Read, Write, Try}
 use Rattle.ir_trace.specs.Recorded.{Recorded, recorded_thread}
 use Rattle.ir_coherence.specs.Before.{IsBefore}
 use Rattle.ir_past.specs.Past.{event_at, entered, IsWriteAt}
-use Rattle.ir_past.specs.Progress.{Makes, Fits}
+use Rattle.ir_past.specs.Progress.{Makes, FitsSoFar}
 use Rattle.ir_past.specs.Tables.{maker_in}
 use Rattle.ir_past.specs.Answers.{AreCoherent}
 use Rattle.ir_past.specs.declared.makers.Makers.{Makers}
 use Rattle.ir_past.specs.declared.place.Place.{Place}
-use Rattle.ir_past.proofs.CallerLemmas.{event_is_of_existing_thread}
+use Rattle.ir_past.proofs.CallerLemmas.{event_thread_exists, nothing_before_first, before_next_event, version_writer_unique, before_next_event_cases}
 use Rattle.ir_picture.specs.Needs.{IsEntryOf, IsMakerOf}
 use Rattle.ir_picture.specs.Boxes.{IsInBox, IsBox, ReadsAgain, TriesAgain}
 use Rattle.ir_picture.specs.Boxing.{AreSomeBoxes}
 use Rattle.ir_picture.specs.Placing.{events_of_all}
-use Rattle.ir_picture.specs.Chrome.{SeesNew, IsSight, AreSights}
+use Rattle.ir_picture.specs.Chrome.{SeesNew, IsChromeSight, AreSights}
 use Rattle.ir_picture.specs.Seeing.{Enters, IsLastEntry, entry_noted, HoldsEntries, SeesAt, SightsBefore}
 use Rattle.ir_picture.specs.declared.event_box.EventBox.{EventBox}
 use Rattle.ir_picture.specs.declared.placed_box.PlacedBox.{PlacedBox}
 use Rattle.ir_picture.specs.declared.sights.Sight.{Sight}
 use Rattle.ir_picture.proofs.Lists.{slice_get_of_map}
-use Rattle.ir_picture.proofs.Follows.{event_at_is_unique, writer_of_version_is_unique}
+use Rattle.ir_picture.proofs.Follows.{event_at_is_unique}
 
 -- ---- entries
 
@@ -58,20 +58,20 @@ entry_at_is_unique r t i o v p w a b =
 
 -- ---- the last entries of a thread
 
-entry_noted_in_empty_table : (n o : ℕ) → entry_noted (replicate n None) o ≡ None
-entry_noted_in_empty_table zero o = refl
-entry_noted_in_empty_table (suc n) zero = refl
-entry_noted_in_empty_table (suc n) (suc o) = entry_noted_in_empty_table n o
+entry_noted_empty : (n o : ℕ) → entry_noted (replicate n None) o ≡ None
+entry_noted_empty zero o = refl
+entry_noted_empty (suc n) zero = refl
+entry_noted_empty (suc n) (suc o) = entry_noted_empty n o
 
 pub holds_entries_at_start : (r : Recorded) (t n : ℕ) → HoldsEntries r t 0 (replicate n None)
 holds_entries_at_start r t n = record {
-  found = λ o v is. absurd (none-some v (sym (entry_noted_in_empty_table n o) ∙ is));
+  found = λ o v is. absurd (none-some v (sym (entry_noted_empty n o) ∙ is));
   all = λ o i v p. absurd (omega (arith, p.before));
 }
 
-last_entry_stays_last_after_event_not_entering_object : (r : Recorded) (t n o i v : ℕ) (e : Event) → event_at r t n ≡ Some e → (entered e ≡ Some o → ⊥) → IsLastEntry r t n o i v
+last_entry_stays_last : (r : Recorded) (t n o i v : ℕ) (e : Event) → event_at r t n ≡ Some e → (entered e ≡ Some o → ⊥) → IsLastEntry r t n o i v
     → IsLastEntry r t (n + 1) o i v
-last_entry_stays_last_after_event_not_entering_object r t n o i v e at ne p = record {
+last_entry_stays_last r t n o i v e at ne p = record {
   before = omega (arith, p.before);
   entry = p.entry;
   alone = λ k f after below is enters. elim (cases_lt k n) [
@@ -83,9 +83,9 @@ last_entry_stays_last_after_event_not_entering_object r t n o i v e at ne p = re
   ];
 }
 
-last_entry_was_last_before_event_not_entering_object : (r : Recorded) (t n o i v : ℕ) (e : Event) → event_at r t n ≡ Some e → (entered e ≡ Some o → ⊥) → IsLastEntry r t (n + 1) o i v
+last_entry_was_last : (r : Recorded) (t n o i v : ℕ) (e : Event) → event_at r t n ≡ Some e → (entered e ≡ Some o → ⊥) → IsLastEntry r t (n + 1) o i v
     → IsLastEntry r t n o i v
-last_entry_was_last_before_event_not_entering_object r t n o i v e at ne p = elim (cases_lt i n) [
+last_entry_was_last r t n o i v e at ne p = elim (cases_lt i n) [
   | inl less ↦ record { before = less; entry = p.entry; alone = λ k f after below is enters. p.alone k f after (omega (arith, below)) is enters }
   | inr not ↦
       let here : i ≡ n = omega (arith, p.before, not) in
@@ -93,8 +93,8 @@ last_entry_was_last_before_event_not_entering_object r t n o i v e at ne p = eli
       absurd (ne (entered_if_enters e o v enters))
 ]
 
-last_entry_is_entering_event : (r : Recorded) (t n o i v : ℕ) (e : Event) → event_at r t n ≡ Some e → entered e ≡ Some o → IsLastEntry r t (n + 1) o i v → Enters e o v
-last_entry_is_entering_event r t n o i v e at enters p = elim (cases_lt i n) [
+last_entry_is_entering : (r : Recorded) (t n o i v : ℕ) (e : Event) → event_at r t n ≡ Some e → entered e ≡ Some o → IsLastEntry r t (n + 1) o i v → Enters e o v
+last_entry_is_entering r t n o i v e at enters p = elim (cases_lt i n) [
   | inl less ↦ absurd (p.alone n e less (omega arith) at enters)
   | inr not ↦
       let here : i ≡ n = omega (arith, p.before, not) in
@@ -102,17 +102,17 @@ last_entry_is_entering_event r t n o i v e at enters p = elim (cases_lt i n) [
 ]
 
 -- an event that is no entry
-pub holds_entries_after_other_event : (r : Recorded) (t n : ℕ) (table : List (Option ℕ)) (e : Event) → event_at r t n ≡ Some e → entered e ≡ None
+pub holds_entries_other : (r : Recorded) (t n : ℕ) (table : List (Option ℕ)) (e : Event) → event_at r t n ≡ Some e → entered e ≡ None
     → HoldsEntries r t n table → HoldsEntries r t (n + 1) table
-holds_entries_after_other_event r t n table e at none h = record {
-  found = λ o v is. let p = h.found o v is in (p.0, last_entry_stays_last_after_event_not_entering_object r t n o p.0 v e at (λ some. none-some o (sym none ∙ some)) p.1);
-  all = λ o i v p. h.all o i v (last_entry_was_last_before_event_not_entering_object r t n o i v e at (λ some. none-some o (sym none ∙ some)) p);
+holds_entries_other r t n table e at none h = record {
+  found = λ o v is. let p = h.found o v is in (p.0, last_entry_stays_last r t n o p.0 v e at (λ some. none-some o (sym none ∙ some)) p.1);
+  all = λ o i v p. h.all o i v (last_entry_was_last r t n o i v e at (λ some. none-some o (sym none ∙ some)) p);
 }
 
 -- an entry
-pub holds_entries_after_entry : (r : Recorded) (t n p v : ℕ) (table : List (Option ℕ)) (e : Event) → event_at r t n ≡ Some e → Enters e p v → p < length table
+pub holds_entries_entry : (r : Recorded) (t n p v : ℕ) (table : List (Option ℕ)) (e : Event) → event_at r t n ≡ Some e → Enters e p v → p < length table
     → HoldsEntries r t n table → HoldsEntries r t (n + 1) (slice_set table p (Some v))
-holds_entries_after_entry r t n p v table e at enters within h = record {
+holds_entries_entry r t n p v table e at enters within h = record {
   found = λ o w is. elim (cases_eq p o) [
     | inl here ↦ (
       n,
@@ -120,14 +120,14 @@ holds_entries_after_entry r t n p v table e at enters within h = record {
           (same_Some v w (sym (get_or_after_set table p (Some v) None within) ∙ subst (λ z. entry_noted (slice_set table p (Some v)) z ≡ Some w) (sym here) is)) now_last),
     )
     | inr ne ↦
-        let q = h.found o w (sym (get_or_after_set_elsewhere table p o (Some v) None ne) ∙ is) in
-        (q.0, last_entry_stays_last_after_event_not_entering_object r t n o q.0 w e at (other o ne) q.1)
+        let q = h.found o w (sym (get_or_set_elsewhere table p o (Some v) None ne) ∙ is) in
+        (q.0, last_entry_stays_last r t n o q.0 w e at (other o ne) q.1)
   ];
   all = λ o i w q. elim (cases_eq p o) [
     | inl here ↦
-        let same = enters_is_unique e p v o w enters (last_entry_is_entering_event r t n o i w e at (entered_if_enters e p v enters ∙ ap Some here) q) in
+        let same = enters_is_unique e p v o w enters (last_entry_is_entering r t n o i w e at (entered_if_enters e p v enters ∙ ap Some here) q) in
         subst (λ z. entry_noted (slice_set table p (Some v)) z ≡ Some w) here (get_or_after_set table p (Some v) None within ∙ ap Some same.1)
-    | inr ne ↦ get_or_after_set_elsewhere table p o (Some v) None ne ∙ h.all o i w (last_entry_was_last_before_event_not_entering_object r t n o i w e at (other o ne) q)
+    | inr ne ↦ get_or_set_elsewhere table p o (Some v) None ne ∙ h.all o i w (last_entry_was_last r t n o i w e at (other o ne) q)
   ];
 }
   where
@@ -196,17 +196,17 @@ sees_new_unless_noted r t n o v table e at enters h not = record {
   ];
 }
 
-pub sees_nothing_new_if_noted : (r : Recorded) (t n o v : ℕ) (table : List (Option ℕ)) (e : Event) → event_at r t n ≡ Some e → Enters e o v → HoldsEntries r t n table
+pub noted_sees_nothing_new : (r : Recorded) (t n o v : ℕ) (table : List (Option ℕ)) (e : Event) → event_at r t n ≡ Some e → Enters e o v → HoldsEntries r t n table
     → entry_noted table o ≡ Some v → (p w : ℕ) → SeesNew r t n p w → ⊥
-sees_nothing_new_if_noted r t n o v table e at enters h noted p w sees =
+noted_sees_nothing_new r t n o v table e at enters h noted p w sees =
     let same = entry_at_is_unique r t n p w o v sees.entry (entry_at_if_enters r t n o v e at enters) in
     let last = h.found o v noted in
     let k = sees.new last.0 last.1.before (subst (λ z. IsEntryOf r t last.0 z w) (sym same.0)
     (subst (λ z. IsEntryOf r t last.0 o z) (sym same.1) last.1.entry)) in
     last.1.alone k.0 k.1 k.2 k.3 k.4 (k.5 ∙ ap Some same.0)
 
-pub sees_nothing_new_without_entry : (r : Recorded) (t n : ℕ) (e : Event) → event_at r t n ≡ Some e → entered e ≡ None → (o v : ℕ) → SeesNew r t n o v → ⊥
-sees_nothing_new_without_entry r t n e at none o v sees = none-some o (sym none ∙ entered_if_enters e o v (enters_if_entry_at r t n o v e at sees.entry))
+pub no_entry_sees_nothing : (r : Recorded) (t n : ℕ) (e : Event) → event_at r t n ≡ Some e → entered e ≡ None → (o v : ℕ) → SeesNew r t n o v → ⊥
+no_entry_sees_nothing r t n e at none o v sees = none-some o (sym none ∙ entered_if_enters e o v (enters_if_entry_at r t n o v e at sees.entry))
 
 -- ---- makers
 
@@ -216,17 +216,17 @@ maker_in_table_is_maker r t i o w u j m p makes sees is =
     let made = makes.sound o w p is in
     record { object = o; version = w; readers = made.0; entry = sees.entry; made = made.1 }
 
-pub no_maker_unless_in_table : (r : Recorded) (t i o w : ℕ) (m : Makers) → Makes r (length r.threads) 0 m → SeesNew r t i o (suc w) → maker_in m o w ≡ None
+pub maker_is_in_table : (r : Recorded) (t i o w : ℕ) (m : Makers) → Makes r (length r.threads) 0 m → SeesNew r t i o (suc w) → maker_in m o w ≡ None
     → (u j : ℕ) → IsMakerOf r t i u j → ⊥
-no_maker_unless_in_table r t i o w m makes sees none u j made =
+maker_is_in_table r t i o w m makes sees none u j made =
     let same = entry_at_is_unique r t i made.object (suc made.version) o (suc w) made.entry sees.entry in
     let version : made.version ≡ w = omega (arith, same.1) in
     let write : IsWriteAt r u j o w made.readers = subst (λ z. IsWriteAt r u j z w made.readers) same.0
     (subst (λ z. IsWriteAt r u j made.object z made.readers) version made.made) in
-    makes.noted u j o w made.readers write (inl (event_is_of_existing_thread r u j (Write o w made.readers) write)) none
+    makes.noted u j o w made.readers write (inl (event_thread_exists r u j (Write o w made.readers) write)) none
 
-pub first_version_has_no_maker : (r : Recorded) (t i o : ℕ) → SeesNew r t i o 0 → (u j : ℕ) → IsMakerOf r t i u j → ⊥
-first_version_has_no_maker r t i o sees u j made =
+pub first_version_no_maker : (r : Recorded) (t i o : ℕ) → SeesNew r t i o 0 → (u j : ℕ) → IsMakerOf r t i u j → ⊥
+first_version_no_maker r t i o sees u j made =
     let same = entry_at_is_unique r t i made.object (suc made.version) o 0 made.entry sees.entry in
     omega (arith, same.1)
 
@@ -234,7 +234,7 @@ pub maker_is_unique : (r : Recorded) → AreCoherent r → (t i u j x y : ℕ) �
 maker_is_unique r coherent t i u j x y a b =
     let same = entry_at_is_unique r t i a.object (suc a.version) b.object (suc b.version) a.entry b.entry in
     let version : a.version ≡ b.version = omega (arith, same.1) in
-    writer_of_version_is_unique r coherent u j x y b.object b.version a.readers b.readers
+    version_writer_unique r coherent u j x y b.object b.version a.readers b.readers
     (subst (λ z. IsWriteAt r u j z b.version a.readers) same.0 (subst (λ z. IsWriteAt r u j a.object z a.readers) version a.made)) b.made
 
 -- ---- boxes
@@ -266,8 +266,8 @@ write_is_first_of_box r b t i o v l is has write = elim (cases_eq b.event i) [
 ]
 
 -- and so is an event that sees something new
-pub seeing_event_is_first_of_box : (r : Recorded) (b : EventBox) (t i o v : ℕ) → IsBox r b → IsInBox b t i → SeesNew r t i o v → b.event ≡ i
-seeing_event_is_first_of_box r b t i o v is has sees = elim (cases_eq b.event i) [
+pub seeing_event_is_first : (r : Recorded) (b : EventBox) (t i o v : ℕ) → IsBox r b → IsInBox b t i → SeesNew r t i o v → b.event ≡ i
+seeing_event_is_first r b t i o v is has sees = elim (cases_eq b.event i) [
   | inl same ↦ same
   | inr ne ↦ absurd (elim (later_box_event_repeats r b i is (record { thread = refl; from = has.from; below = has.below }) ne) [
     | inl again ↦
@@ -278,7 +278,7 @@ seeing_event_is_first_of_box r b t i o v is has sees = elim (cases_eq b.event i)
         again.alone k.0 k.1 k.2 k.3 k.4 (k.5 ∙ ap Some (sym same.0))
     | inr again ↦
         let here : SeesNew r b.thread i o v = subst (λ z. SeesNew r z i o v) (sym has.thread) sees in
-        sees_nothing_new_without_entry r b.thread i (Try again.object) again.«try» refl o v here
+        no_entry_sees_nothing r b.thread i (Try again.object) again.«try» refl o v here
   ])
 ]
 
@@ -319,9 +319,9 @@ box_has_its_first_event r boxes k t i b some at thread event = record {
 -- ---- sights
 
 -- one sight is of a box
-pub sight_of_event_is_unique : (r : Recorded) (boxes : List PlacedBox) (t i : ℕ) (s z : Sight) → AreCoherent r → AreSomeBoxes r (events_of_all boxes)
+pub sight_unique : (r : Recorded) (boxes : List PlacedBox) (t i : ℕ) (s z : Sight) → AreCoherent r → AreSomeBoxes r (events_of_all boxes)
     → SeesAt r boxes t i s → SeesAt r boxes t i z → s ≡ z
-sight_of_event_is_unique r boxes t i s z coherent some a b =
+sight_unique r boxes t i s z coherent some a b =
     let seer : s.seer ≡ z.seer = box_of_event_is_unique r boxes a.sight.to b.sight.to t i s.seer z.seer some a.sight.seer b.sight.seer
     (box_has_its_first_event r boxes a.sight.to t i s.seer some a.sight.seer a.thread a.event)
     (box_has_its_first_event r boxes b.sight.to t i z.seer some b.sight.seer b.thread b.event) in
@@ -363,34 +363,34 @@ sight_from_parts r boxes t i o v k m p maker seer some sees made ne at_k in_k at
 }
   where
     first_seer : seer.events.event ≡ i
-    first_seer = seeing_event_is_first_of_box r seer.events t i o v (listed_box_is_box r boxes m seer some at_m) in_m sees
+    first_seer = seeing_event_is_first r seer.events t i o v (listed_box_is_box r boxes m seer some at_m) in_m sees
 
     first_maker : maker.events.event ≡ p.event
     first_maker = write_is_first_of_box r maker.events p.thread p.event made.object made.version made.readers (listed_box_is_box r boxes k maker some at_k) in_k made.made
 
 -- what a sight at an event says of its maker
-pub maker_of_sight_is_maker_of_event : (r : Recorded) (boxes : List PlacedBox) (t i : ℕ) (s : Sight) → SeesAt r boxes t i s
+pub sight_maker_is_maker : (r : Recorded) (boxes : List PlacedBox) (t i : ℕ) (s : Sight) → SeesAt r boxes t i s
     → IsMakerOf r t i s.maker.events.thread s.maker.events.event
-maker_of_sight_is_maker_of_event r boxes t i s h = subst (λ n. IsMakerOf r n i s.maker.events.thread s.maker.events.event) h.thread
+sight_maker_is_maker r boxes t i s h = subst (λ n. IsMakerOf r n i s.maker.events.thread s.maker.events.event) h.thread
     (subst (λ n. IsMakerOf r s.seer.events.thread n s.maker.events.thread s.maker.events.event) h.event h.sight.made)
 
 -- none where the maker is of the same thread, or has no box, or the event has none
 pub no_sight_of_own_maker : (r : Recorded) (boxes : List PlacedBox) (t i : ℕ) (p : Place) (s : Sight) → AreCoherent r → IsMakerOf r t i p.thread p.event → p.thread ≡ t
     → SeesAt r boxes t i s → ⊥
 no_sight_of_own_maker r boxes t i p s coherent made own h =
-    let same = maker_is_unique r coherent t i s.maker.events.thread s.maker.events.event p.thread p.event (maker_of_sight_is_maker_of_event r boxes t i s h) made in
+    let same = maker_is_unique r coherent t i s.maker.events.thread s.maker.events.event p.thread p.event (sight_maker_is_maker r boxes t i s h) made in
     h.sight.others (same.0 ∙ (own ∙ sym h.thread))
 
-pub no_sight_without_maker_box : (r : Recorded) (boxes : List PlacedBox) (t i : ℕ) (p : Place) (s : Sight) → AreCoherent r → AreSomeBoxes r (events_of_all boxes)
+pub no_maker_box_no_sight : (r : Recorded) (boxes : List PlacedBox) (t i : ℕ) (p : Place) (s : Sight) → AreCoherent r → AreSomeBoxes r (events_of_all boxes)
     → IsMakerOf r t i p.thread p.event → ((k : ℕ) (b : PlacedBox) → slice_get boxes k ≡ Some b → IsInBox b.events p.thread p.event → ⊥)
     → SeesAt r boxes t i s → ⊥
-no_sight_without_maker_box r boxes t i p s coherent some made none h =
-    let same = maker_is_unique r coherent t i s.maker.events.thread s.maker.events.event p.thread p.event (maker_of_sight_is_maker_of_event r boxes t i s h) made in
+no_maker_box_no_sight r boxes t i p s coherent some made none h =
+    let same = maker_is_unique r coherent t i s.maker.events.thread s.maker.events.event p.thread p.event (sight_maker_is_maker r boxes t i s h) made in
     none h.sight.from s.maker h.sight.maker (box_has_its_first_event r boxes h.sight.from p.thread p.event s.maker some h.sight.maker same.0 same.1)
 
-pub no_sight_without_seer_box : (r : Recorded) (boxes : List PlacedBox) (t i : ℕ) (s : Sight) → AreSomeBoxes r (events_of_all boxes)
+pub no_seer_box_no_sight : (r : Recorded) (boxes : List PlacedBox) (t i : ℕ) (s : Sight) → AreSomeBoxes r (events_of_all boxes)
     → ((k : ℕ) (b : PlacedBox) → slice_get boxes k ≡ Some b → IsInBox b.events t i → ⊥) → SeesAt r boxes t i s → ⊥
-no_sight_without_seer_box r boxes t i s some none h =
+no_seer_box_no_sight r boxes t i s some none h =
     none h.sight.to s.seer h.sight.seer (box_has_its_first_event r boxes h.sight.to t i s.seer some h.sight.seer h.thread h.event)
 
 -- none where nothing is new
@@ -400,34 +400,19 @@ no_sight_if_nothing_new r boxes t i s none h = none s.object h.sight.version (su
 
 -- ---- all sights
 
-before_next_event_if_before_event : (u j t n : ℕ) → IsBefore u j t n → IsBefore u j t (n + 1)
-before_next_event_if_before_event u j t n (inl less) = inl less
-before_next_event_if_before_event u j t n (inr here) = inr (here.0, omega (arith, here.1))
-
-before_next_event_cases : (u j t n : ℕ) → IsBefore u j t (n + 1) → IsBefore u j t n ⊎ ((u ≡ t) × (j ≡ n))
-before_next_event_cases u j t n (inl less) = inl (inl less)
-before_next_event_cases u j t n (inr here) = elim (cases_lt j n) [
-  | inl less ↦ inl (inr (here.0, less))
-  | inr not ↦ inr (here.0, omega (arith, here.1, not))
-]
-
-nothing_before_first_event : (u j : ℕ) → IsBefore u j 0 0 → ⊥
-nothing_before_first_event u j (inl less) = omega (arith, less)
-nothing_before_first_event u j (inr here) = omega (arith, here.1)
-
-pub no_sights_before_first_event : (r : Recorded) (boxes : List PlacedBox) → SightsBefore r boxes 0 0 []
-no_sights_before_first_event r boxes = record {
+pub no_sights_before_first : (r : Recorded) (boxes : List PlacedBox) → SightsBefore r boxes 0 0 []
+no_sights_before_first r boxes = record {
   each = λ k s is. absurd (none-some s is);
   before = λ k s is. absurd (none-some s is);
-  all = λ s is b. absurd (nothing_before_first_event s.seer.events.thread s.seer.events.event b);
+  all = λ s is b. absurd (nothing_before_first s.seer.events.thread s.seer.events.event b);
   rising = λ k m s z less is other. absurd (none-some s is);
 }
 
-pub sights_before_step_without_sight : (r : Recorded) (boxes : List PlacedBox) (t n : ℕ) (sights : List Sight) → ((s : Sight) → SeesAt r boxes t n s → ⊥)
+pub sights_before_no_sight : (r : Recorded) (boxes : List PlacedBox) (t n : ℕ) (sights : List Sight) → ((s : Sight) → SeesAt r boxes t n s → ⊥)
     → SightsBefore r boxes t n sights → SightsBefore r boxes t (n + 1) sights
-sights_before_step_without_sight r boxes t n sights none h = record {
+sights_before_no_sight r boxes t n sights none h = record {
   each = h.each;
-  before = λ k s is. before_next_event_if_before_event s.seer.events.thread s.seer.events.event t n (h.before k s is);
+  before = λ k s is. before_next_event s.seer.events.thread s.seer.events.event t n (h.before k s is);
   all = λ s is b. elim (before_next_event_cases s.seer.events.thread s.seer.events.event t n b) [
     | inl less ↦ h.all s is less
     | inr here ↦ absurd (none s (record { sight = is; thread = here.0; event = here.1 }))
@@ -435,32 +420,32 @@ sights_before_step_without_sight r boxes t n sights none h = record {
   rising = h.rising;
 }
 
-pub sights_before_step_with_sight : (r : Recorded) (boxes : List PlacedBox) (t n : ℕ) (sights : List Sight) (new : Sight) → AreCoherent r
+pub sights_before_sight : (r : Recorded) (boxes : List PlacedBox) (t n : ℕ) (sights : List Sight) (new : Sight) → AreCoherent r
     → AreSomeBoxes r (events_of_all boxes) → SeesAt r boxes t n new → SightsBefore r boxes t n sights
     → SightsBefore r boxes t (n + 1) (sights ++ new ∷ [])
-sights_before_step_with_sight r boxes t n sights new coherent some sees h = record {
-  each = λ k s is. elim (slice_get_after_push_cases sights new k s is) [
+sights_before_sight r boxes t n sights new coherent some sees h = record {
+  each = λ k s is. elim (slice_get-push_cases sights new k s is) [
     | inl old ↦ h.each k s old
-    | inr now ↦ subst (IsSight r boxes) now.1 sees.sight
+    | inr now ↦ subst (IsChromeSight r boxes) now.1 sees.sight
   ];
-  before = λ k s is. elim (slice_get_after_push_cases sights new k s is) [
-    | inl old ↦ before_next_event_if_before_event s.seer.events.thread s.seer.events.event t n (h.before k s old)
+  before = λ k s is. elim (slice_get-push_cases sights new k s is) [
+    | inl old ↦ before_next_event s.seer.events.thread s.seer.events.event t n (h.before k s old)
     | inr now ↦ subst (λ (x : Sight). IsBefore x.seer.events.thread x.seer.events.event t (n + 1)) now.1 (inr (sees.thread, omega (arith, sees.event)))
   ];
   all = λ s is b. elim (before_next_event_cases s.seer.events.thread s.seer.events.event t n b) [
-    | inl less ↦ let old = h.all s is less in (old.0, slice_get_after_push_earlier sights new s old.0 old.1)
+    | inl less ↦ let old = h.all s is less in (old.0, slice_get_push_earlier sights new s old.0 old.1)
     | inr here ↦ (
       length sights,
       added_element_is_last sights new
-          ∙ ap Some (sight_of_event_is_unique r boxes t n new s coherent some sees (record { sight = is; thread = here.0; event = here.1 })),
+          ∙ ap Some (sight_unique r boxes t n new s coherent some sees (record { sight = is; thread = here.0; event = here.1 })),
     )
   ];
-  rising = λ k m s z less first second. elim (slice_get_after_push_cases sights new m z second) [
-    | inl old ↦ elim (slice_get_after_push_cases sights new k s first) [
+  rising = λ k m s z less first second. elim (slice_get-push_cases sights new m z second) [
+    | inl old ↦ elim (slice_get-push_cases sights new k s first) [
       | inl both ↦ h.rising k m s z less both old
       | inr now ↦ absurd (omega (arith, less, now.0, slice_get_within sights m z old))
     ]
-    | inr now ↦ elim (slice_get_after_push_cases sights new k s first) [
+    | inr now ↦ elim (slice_get-push_cases sights new k s first) [
       | inl old ↦ subst (λ (x : Sight). IsBefore s.seer.events.thread s.seer.events.event x.seer.events.thread x.seer.events.event) now.1
           (subst (λ u. IsBefore s.seer.events.thread s.seer.events.event u new.seer.events.event) (sym sees.thread)
           (subst (IsBefore s.seer.events.thread s.seer.events.event t) (sym sees.event) (h.before k s old)))
@@ -469,9 +454,9 @@ sights_before_step_with_sight r boxes t n sights new coherent some sees h = reco
   ];
 }
 
-pub sights_before_next_thread : (r : Recorded) (boxes : List PlacedBox) (t n : ℕ) (sights : List Sight) → length (recorded_thread r t).events ≤ n
+pub sights_before_thread : (r : Recorded) (boxes : List PlacedBox) (t n : ℕ) (sights : List Sight) → length (recorded_thread r t).events ≤ n
     → SightsBefore r boxes t n sights → SightsBefore r boxes (t + 1) 0 sights
-sights_before_next_thread r boxes t n sights all h = record {
+sights_before_thread r boxes t n sights all h = record {
   each = h.each;
   before = λ k s is. elim (h.before k s is) [
     | inl less ↦ inl (omega (arith, less))
@@ -484,7 +469,7 @@ sights_before_next_thread r boxes t n sights all h = record {
   rising = h.rising;
 }
   where
-    entry_within : (s : Sight) → IsSight r boxes s → s.seer.events.event < length (recorded_thread r s.seer.events.thread).events
+    entry_within : (s : Sight) → IsChromeSight r boxes s → s.seer.events.event < length (recorded_thread r s.seer.events.thread).events
     entry_within s is =
         let e = event_of_entry_enters r s.seer.events.thread s.seer.events.event s.object is.version is.sees.entry in
         slice_get_within (recorded_thread r s.seer.events.thread).events s.seer.events.event e.0 e.1
@@ -493,28 +478,28 @@ sights_before_next_thread r boxes t n sights all h = record {
     below u j ne (inl less) = omega (arith, less, ne)
     below u j ne (inr here) = absurd (omega (arith, here.1))
 
-pub are_sights_if_before_end : (r : Recorded) (boxes : List PlacedBox) (n : ℕ) (sights : List Sight) → length r.threads ≤ n → SightsBefore r boxes n 0 sights
+pub sights_to_end_are_all : (r : Recorded) (boxes : List PlacedBox) (n : ℕ) (sights : List Sight) → length r.threads ≤ n → SightsBefore r boxes n 0 sights
     → AreSights r boxes sights
-are_sights_if_before_end r boxes n sights all h = record {
+sights_to_end_are_all r boxes n sights all h = record {
   each = h.each;
   all = λ s is. h.all s is (inl (thread_there s is));
   rising = h.rising;
 }
   where
-    thread_there : (s : Sight) → IsSight r boxes s → s.seer.events.thread < n
+    thread_there : (s : Sight) → IsChromeSight r boxes s → s.seer.events.thread < n
     thread_there s is =
         let e = event_of_entry_enters r s.seer.events.thread s.seer.events.event s.object is.version is.sees.entry in
-        omega (arith, all, event_is_of_existing_thread r s.seer.events.thread s.seer.events.event e.0 e.1)
+        omega (arith, all, event_thread_exists r s.seer.events.thread s.seer.events.event e.0 e.1)
 
 -- ---- limits
 
-pub object_of_entry_is_below_object_count : (r : Recorded) (t n o v : ℕ) (e : Event) (objects : ℕ) → event_at r t n ≡ Some e → Enters e o v
-    → Fits (recorded_thread r t).events objects → o < objects
-object_of_entry_is_below_object_count r t n o v e objects at enters fits = fits n o e at (entered_if_enters e o v enters)
+pub entry_object_below : (r : Recorded) (t n o v : ℕ) (e : Event) (objects : ℕ) → event_at r t n ≡ Some e → Enters e o v
+    → FitsSoFar (recorded_thread r t).events objects → o < objects
+entry_object_below r t n o v e objects at enters fits = fits n o e at (entered_if_enters e o v enters)
 
 -- what is not the first version
-pub sees_new_of_suc_of_predecessor_unless_version_is_zero : (r : Recorded) (t i o v : ℕ) → (v ≡ 0 → ⊥) → SeesNew r t i o v → SeesNew r t i o (suc (v - 1))
-sees_new_of_suc_of_predecessor_unless_version_is_zero r t i o v ne sees =
+pub sees_new_version : (r : Recorded) (t i o v : ℕ) → (v ≡ 0 → ⊥) → SeesNew r t i o v → SeesNew r t i o (suc (v - 1))
+sees_new_version r t i o v ne sees =
     let same : v ≡ suc (v - 1) = omega (arith, ne) in
     subst (SeesNew r t i o) same sees
 
@@ -526,9 +511,9 @@ if_none_from_fact (Some x) P p = tt
 pub found_maker_is_maker : (r : Recorded) (t i o v : ℕ) (m : Makers) (result : Option Place) → Makes r (length r.threads) 0 m → SeesNew r t i o v → (v ≡ 0 → ⊥)
     → result ≡ maker_in m o (v - 1) → IfSome result (λ p. IsMakerOf r t i p.thread p.event)
 found_maker_is_maker r t i o v m None makes sees ne is = tt
-found_maker_is_maker r t i o v m (Some p) makes sees ne is = maker_in_table_is_maker r t i o (v - 1) p.thread p.event m p makes (sees_new_of_suc_of_predecessor_unless_version_is_zero r t i o v ne sees) (sym is)
+found_maker_is_maker r t i o v m (Some p) makes sees ne is = maker_in_table_is_maker r t i o (v - 1) p.thread p.event m p makes (sees_new_version r t i o v ne sees) (sym is)
 
 pub no_maker_if_none_found : (r : Recorded) (t i o v : ℕ) (m : Makers) (result : Option Place) → Makes r (length r.threads) 0 m → SeesNew r t i o v → (v ≡ 0 → ⊥)
     → result ≡ maker_in m o (v - 1) → IfNone result ((u j : ℕ) → IsMakerOf r t i u j → ⊥)
 no_maker_if_none_found r t i o v m (Some p) makes sees ne is = tt
-no_maker_if_none_found r t i o v m None makes sees ne is = no_maker_unless_in_table r t i o (v - 1) m makes (sees_new_of_suc_of_predecessor_unless_version_is_zero r t i o v ne sees) (sym is)
+no_maker_if_none_found r t i o v m None makes sees ne is = maker_is_in_table r t i o (v - 1) m makes (sees_new_version r t i o v ne sees) (sym is)

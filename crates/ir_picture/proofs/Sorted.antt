@@ -1,21 +1,22 @@
 -- Boxes in their order, as a binary search takes them.
-use Rattle.std.proofs.Common.{◌≡◌, ℕ, suc, zero, ◌+◌, ◌<◌, ◌≤◌, ◌⊎◌, inl, inr, Bool, true, false, ltb, ◌==◌, ◌&&◌, ◌||◌, nat_lt, nat_le, Some, List, [], ◌∷◌, ◌++◌, length, get_or, refl, sym, ap, ◌∙◌, subst, arith, eq-eqb}
+use Rattle.std.proofs.Common.{◌≡◌, ℕ, suc, zero, ◌+◌, ◌<◌, ◌≤◌, ◌⊎◌, inl, inr, Bool, true, false, ltb, ◌==◌, ◌&&◌, ◌||◌, nat_lt, nat_le}
+use Rattle.std.proofs.Common.{Some, List, [], ◌∷◌, ◌++◌, length, get_or, refl, sym, ap, ◌∙◌, subst, arith, eq-eqb}
 use Rattle.std.specs.Prelude.{slice_get}
 use Rattle.std.specs.List.Sorted.{IsNonDecreasingBy, IsPartitionPoint, IsPartitionedBy}
 use Rattle.std.proofs.lemmas.Bool.{cases_eq, cases_lt, ltb-true, ltb-false, leb-true, leb-false, eqb-true, and_parts}
 use Rattle.std.proofs.lemmas.Option.{same_Some, none-some, slice_get_within, slice_get-get_or, get_or_from_slice_get}
-use Rattle.ir_lemmas.proofs.CallerLemmas.{true_is_not_false, and_true_from_both, or_true_from_left, or_true_from_right, slice_get_after_push_cases}
+use Rattle.ir_lemmas.proofs.CallerLemmas.{true_is_not_false, and_true_from_both, or_true_from_left, or_true_from_right, slice_get-push_cases}
 use Rattle.ir_picture.specs.Boxes.{IsInBox}
-use Rattle.ir_picture.specs.Boxing.{EndsBy, AreApart}
-use Rattle.ir_picture.specs.Placing.{IsCut, first_point, events_of_all}
+use Rattle.ir_picture.specs.Boxing.{EndsBy, AreBoxesApart}
+use Rattle.ir_picture.specs.Placing.{IsPlacingCut, first_point, events_of_all}
 use Rattle.ir_picture.specs.Shown.{is_in, has_box, begins_by}
 use Rattle.ir_picture.specs.declared.event_box.EventBox.{EventBox}
 use Rattle.ir_picture.specs.declared.placed_box.PlacedBox.{PlacedBox}
 use Rattle.ir_picture.specs.declared.placing.Lane.{Lane}
 use Rattle.ir_picture.proofs.Lists.{slice_get_of_map}
 
-pub threads_of_apart_boxes_are_nondecreasing : (boxes : List EventBox) → AreApart boxes → IsNonDecreasingBy (λ (b : EventBox). b.thread) boxes
-threads_of_apart_boxes_are_nondecreasing boxes apart i j d le less = elim (cases_eq i j) [
+pub apart_threads_sorted : (boxes : List EventBox) → AreBoxesApart boxes → IsNonDecreasingBy (λ (b : EventBox). b.thread) boxes
+apart_threads_sorted boxes apart i j d le less = elim (cases_eq i j) [
   | inl same ↦ omega (arith, ap (λ k. (get_or boxes k d).thread) same)
   | inr ne ↦ elim (apart i j (get_or boxes i d) (get_or boxes j d) (omega (arith, le, ne)) (slice_get-get_or boxes i d (omega (arith, le, less)))
       (slice_get-get_or boxes j d less)) [
@@ -25,7 +26,7 @@ threads_of_apart_boxes_are_nondecreasing boxes apart i j d le less = elim (cases
 ]
 
 pub partition_point_is_cut : (boxes : List EventBox) (t i : ℕ)
-    → IsPartitionPoint (λ (b : EventBox). ltb b.thread t ≡ true) (λ b. ltb b.thread t ≡ false) boxes i → IsCut boxes t 0 i
+    → IsPartitionPoint (λ (b : EventBox). ltb b.thread t ≡ true) (λ b. ltb b.thread t ≡ false) boxes i → IsPlacingCut boxes t 0 i
 partition_point_is_cut boxes t i h = record {
   before = λ m b at less. inl (subst (λ (x : EventBox). x.thread < t) (get_or_from_slice_get boxes m b b at)
       (ltb-true (get_or boxes m b).thread t (h.0 m b (omega arith) less)));
@@ -65,15 +66,15 @@ nat_lt_true_if_less a b h = elim (bool_cases (nat_lt a b)) [
 BeginsBy : EventBox → ℕ → ℕ → Type 0
 BeginsBy b t i = (b.thread < t) ⊎ ((b.thread ≡ t) × (b.event ≤ i))
 
-begins_by_true_if_begins : (b : EventBox) (t i : ℕ) → BeginsBy b t i → begins_by t i b ≡ true
+begins_by_true : (b : EventBox) (t i : ℕ) → BeginsBy b t i → begins_by t i b ≡ true
 unfolding BeginsBy
-begins_by_true_if_begins b t i (inl less) = or_true_from_left (nat_lt b.thread t) ((b.thread == t) && nat_le b.event i) (nat_lt_true_if_less b.thread t less)
-begins_by_true_if_begins b t i (inr here) = or_true_from_right (nat_lt b.thread t) ((b.thread == t) && nat_le b.event i)
+begins_by_true b t i (inl less) = or_true_from_left (nat_lt b.thread t) ((b.thread == t) && nat_le b.event i) (nat_lt_true_if_less b.thread t less)
+begins_by_true b t i (inr here) = or_true_from_right (nat_lt b.thread t) ((b.thread == t) && nat_le b.event i)
     (and_true_from_both (b.thread == t) (nat_le b.event i) (eq-eqb b.thread t here.0) (nat_le_true_if_at_most b.event i here.1))
 
-begins_if_begins_by_true : (b : EventBox) (t i : ℕ) → begins_by t i b ≡ true → BeginsBy b t i
+begins_by_sound : (b : EventBox) (t i : ℕ) → begins_by t i b ≡ true → BeginsBy b t i
 unfolding BeginsBy
-begins_if_begins_by_true b t i e = elim (or_true_cases (nat_lt b.thread t) ((b.thread == t) && nat_le b.event i) e) [
+begins_by_sound b t i e = elim (or_true_cases (nat_lt b.thread t) ((b.thread == t) && nat_le b.event i) e) [
   | inl less ↦ inl (ltb-true b.thread t less)
   | inr here ↦
       let parts = and_parts (b.thread == t) (nat_le b.event i) here in
@@ -97,16 +98,16 @@ in_box_if_is_in_true b t i e =
     }
 
 -- of two boxes the earlier begins by an event where the later does
-pub boxes_partitioned_by_begin : (boxes : List PlacedBox) (t i : ℕ) → AreApart (events_of_all boxes) → IsPartitionedBy (λ (b : PlacedBox). begins_by t i b.events) boxes
+pub boxes_split_by_begin : (boxes : List PlacedBox) (t i : ℕ) → AreBoxesApart (events_of_all boxes) → IsPartitionedBy (λ (b : PlacedBox). begins_by t i b.events) boxes
 unfolding BeginsBy
-boxes_partitioned_by_begin boxes t i apart k m d le less is = elim (cases_eq k m) [
+boxes_split_by_begin boxes t i apart k m d le less is = elim (cases_eq k m) [
   | inl same ↦ subst (λ n. begins_by t i (get_or boxes n d).events ≡ true) (sym same) is
-  | inr ne ↦ begins_by_true_if_begins (get_or boxes k d).events t i
+  | inr ne ↦ begins_by_true (get_or boxes k d).events t i
       (earlier (get_or boxes k d).events (get_or boxes m d).events
       (apart k m (get_or boxes k d).events (get_or boxes m d).events (omega (arith, le, ne))
       (slice_get_of_map (λ (x : PlacedBox). x.events) boxes k (get_or boxes k d) (slice_get-get_or boxes k d (omega (arith, le, less))))
       (slice_get_of_map (λ (x : PlacedBox). x.events) boxes m (get_or boxes m d) (slice_get-get_or boxes m d less)))
-      (begins_if_begins_by_true (get_or boxes m d).events t i is))
+      (begins_by_sound (get_or boxes m d).events t i is))
 ]
   where
     earlier : (a b : EventBox) → EndsBy a b.thread b.event → BeginsBy b t i → BeginsBy a t i
@@ -115,30 +116,30 @@ boxes_partitioned_by_begin boxes t i apart k m d le less is = elim (cases_eq k m
     earlier a b (inr by) (inl lower) = inl (omega (arith, by.0, lower))
     earlier a b (inr by) (inr here) = inr (by.0 ∙ here.0, omega (arith, by.1, here.1))
 
-later_box_begins_after_event : (b a : EventBox) (t i : ℕ) → IsInBox b t i → EndsBy b a.thread a.event → BeginsBy a t i → ⊥
+later_begins_after : (b a : EventBox) (t i : ℕ) → IsInBox b t i → EndsBy b a.thread a.event → BeginsBy a t i → ⊥
 unfolding BeginsBy
-later_box_begins_after_event b a t i has (inl less) (inl lower) = omega (arith, less, lower, has.thread)
-later_box_begins_after_event b a t i has (inl less) (inr here) = omega (arith, less, here.0, has.thread)
-later_box_begins_after_event b a t i has (inr by) (inl lower) = omega (arith, by.0, lower, has.thread)
-later_box_begins_after_event b a t i has (inr by) (inr here) = omega (arith, by.1, here.1, has.below)
+later_begins_after b a t i has (inl less) (inl lower) = omega (arith, less, lower, has.thread)
+later_begins_after b a t i has (inl less) (inr here) = omega (arith, less, here.0, has.thread)
+later_begins_after b a t i has (inr by) (inl lower) = omega (arith, by.0, lower, has.thread)
+later_begins_after b a t i has (inr by) (inr here) = omega (arith, by.1, here.1, has.below)
 
 -- where n boxes begin by an event, it can only be in the last of these
-pub box_of_event_is_last_begun : (boxes : List PlacedBox) (t i n : ℕ) → AreApart (events_of_all boxes) → n ≤ length boxes
+pub event_box_is_last_begun : (boxes : List PlacedBox) (t i n : ℕ) → AreBoxesApart (events_of_all boxes) → n ≤ length boxes
     → IsPartitionPoint (λ (b : PlacedBox). begins_by t i b.events ≡ true) (λ b. begins_by t i b.events ≡ false) boxes n
     → (m : ℕ) (b : PlacedBox) → slice_get boxes m ≡ Some b → IsInBox b.events t i → m + 1 ≡ n
 unfolding BeginsBy
-box_of_event_is_last_begun boxes t i n apart bound point m b at has = elim (cases_lt m n) [
+event_box_is_last_begun boxes t i n apart bound point m b at has = elim (cases_lt m n) [
   | inl less ↦ elim (cases_eq (m + 1) n) [
     | inl same ↦ same
     | inr ne ↦
         let inside : m + 1 < length boxes = omega (arith, less, ne, bound) in
         let at_next = slice_get-get_or boxes (m + 1) b inside in
-        absurd (later_box_begins_after_event b.events (get_or boxes (m + 1) b).events t i has
+        absurd (later_begins_after b.events (get_or boxes (m + 1) b).events t i has
         (apart m (m + 1) b.events (get_or boxes (m + 1) b).events (omega arith) (slice_get_of_map (λ (x : PlacedBox). x.events) boxes m b at)
         (slice_get_of_map (λ (x : PlacedBox). x.events) boxes (m + 1) (get_or boxes (m + 1) b) at_next))
-        (begins_if_begins_by_true (get_or boxes (m + 1) b).events t i (point.0 (m + 1) b (omega arith) (omega (arith, less, ne)))))
+        (begins_by_sound (get_or boxes (m + 1) b).events t i (point.0 (m + 1) b (omega arith) (omega (arith, less, ne)))))
   ]
-  | inr not ↦ absurd (true_is_not_false (begins_by t i b.events) (begins_by_true_if_begins b.events t i (inr (has.thread, has.from)))
+  | inr not ↦ absurd (true_is_not_false (begins_by t i b.events) (begins_by_true b.events t i (inr (has.thread, has.from)))
       (subst (λ (x : PlacedBox). begins_by t i x.events ≡ false) (get_or_from_slice_get boxes m b b at)
       (point.1 m b (omega (arith, not)) (slice_get_within boxes m b at))))
 ]
@@ -162,11 +163,11 @@ in_box_if_has_box_true (x ∷ xs) t i e = elim (or_true_cases (is_in t i x) (has
 
 -- ---- lanes with no box placed
 
-pub lanes_at_start_after_push : (boxes : List EventBox) (lanes : List Lane) (new : Lane) (t : ℕ) → length lanes ≡ t → new.free ≡ first_point → IsCut boxes t 0 new.next
-    → ((u : ℕ) (l : Lane) → slice_get lanes u ≡ Some l → (l.free ≡ first_point) × IsCut boxes u 0 l.next)
-    → (u : ℕ) (l : Lane) → slice_get (lanes ++ new ∷ []) u ≡ Some l → (l.free ≡ first_point) × IsCut boxes u 0 l.next
-lanes_at_start_after_push boxes lanes new t long free cut all u l is = elim (slice_get_after_push_cases lanes new u l is) [
+pub lanes_at_start_push : (boxes : List EventBox) (lanes : List Lane) (new : Lane) (t : ℕ) → length lanes ≡ t → new.free ≡ first_point → IsPlacingCut boxes t 0 new.next
+    → ((u : ℕ) (l : Lane) → slice_get lanes u ≡ Some l → (l.free ≡ first_point) × IsPlacingCut boxes u 0 l.next)
+    → (u : ℕ) (l : Lane) → slice_get (lanes ++ new ∷ []) u ≡ Some l → (l.free ≡ first_point) × IsPlacingCut boxes u 0 l.next
+lanes_at_start_push boxes lanes new t long free cut all u l is = elim (slice_get-push_cases lanes new u l is) [
   | inl old ↦ all u l old
-  | inr now ↦ subst (λ (x : Lane). (x.free ≡ first_point) × IsCut boxes u 0 x.next) now.1
-      (free, subst (λ z. IsCut boxes z 0 new.next) (sym (now.0 ∙ long)) cut)
+  | inr now ↦ subst (λ (x : Lane). (x.free ≡ first_point) × IsPlacingCut boxes u 0 x.next) now.1
+      (free, subst (λ z. IsPlacingCut boxes z 0 new.next) (sym (now.0 ∙ long)) cut)
 ]

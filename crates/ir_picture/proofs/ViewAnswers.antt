@@ -7,12 +7,12 @@ use Rattle.ir_files.specs.declared.exit_status.ExitStatus.TheVariants as status
 use Rattle.ir_past.specs.Answers.{AreCoherent, Answered, NotAnswered, Stops}
 use Rattle.ir_past.specs.declared.past_err.PastErr.{PastErr}
 use Rattle.ir_past.proofs.CallerLemmas.{not_answered_if_stopped}
-use Rattle.ir_picture.specs.Answers.{IsForm, page_head, page_tail, IsThere, IsPictureAnswer, IsViewAnswer, most_boxes}
+use Rattle.ir_picture.specs.Answers.{IsForm, page_head, page_tail, IsThereIn, IsPictureAnswer, IsViewAnswer, most_boxes}
 use Rattle.ir_picture.specs.Numbers.{rows_from, named_list, box_row, stale_row, data_start, thread_list, data_text}
 use Rattle.ir_picture.specs.Progress.{data_head, stale_head, data_rows}
 use Rattle.ir_picture.specs.declared.asked.Around.{Around}
 use Rattle.ir_picture.specs.declared.asked.Form.TheVariants as form
-use Rattle.ir_picture.proofs.Texts.{four_parts_are_framed_text, data_parts_regroup_with_end, data_parts_regroup_before_last_text}
+use Rattle.ir_picture.proofs.Texts.{four_parts_framed, data_parts_with_end, data_parts_before_last}
 use Rattle.ir_picture.specs.Chrome.{AreSights, chrome_text, IsChromeAnswer}
 use Rattle.ir_picture.specs.declared.asked.Asked.{Asked}
 use Rattle.ir_picture.specs.declared.picture.Picture.{Picture}
@@ -22,32 +22,32 @@ use Rattle.ir_picture.specs.declared.placed_box.PlacedBox.{PlacedBox}
 use Rattle.ir_picture.specs.declared.sights.Sight.{Sight}
 
 -- the answer about a coherent trace is one about its bytes
-pub trace_answer_is_view_answer : (asked : Asked) (r : Recorded) (s : ExitStatus) (text : List ℕ) → AreCoherent r → IsThere r asked.around
+pub trace_answer_is_view : (asked : Asked) (r : Recorded) (s : ExitStatus) (text : List ℕ) → AreCoherent r → IsThereIn r asked.around
     → IsPictureAnswer asked r s text → IsViewAnswer asked (Ok r) s text
-trace_answer_is_view_answer asked r s text coherent there is = inl (r, refl, coherent, there, is)
+trace_answer_is_view asked r s text coherent there is = inl (r, refl, coherent, there, is)
 
 -- it was stopped
-pub view_not_answered_if_stopped : (asked : Asked) (r : Recorded) (s : ExitStatus) (text : List ℕ) (e : PastErr) (w : Writer) → AreCoherent r
-    → IsThere r asked.around → IsPictureAnswer asked r s text → Stops e w text → NotAnswered (IsViewAnswer asked (Ok r)) e w
-view_not_answered_if_stopped asked r s text e w coherent there is stops =
-    not_answered_if_stopped (IsViewAnswer asked (Ok r)) s text e w (trace_answer_is_view_answer asked r s text coherent there is) stops
+pub stopped_view_no_answer : (asked : Asked) (r : Recorded) (s : ExitStatus) (text : List ℕ) (e : PastErr) (w : Writer) → AreCoherent r
+    → IsThereIn r asked.around → IsPictureAnswer asked r s text → Stops e w text → NotAnswered (IsViewAnswer asked (Ok r)) e w
+stopped_view_no_answer asked r s text e w coherent there is stops =
+    not_answered_if_stopped (IsViewAnswer asked (Ok r)) s text e w (trace_answer_is_view asked r s text coherent there is) stops
 
 -- ---- answers that are answers of another kind
 
-pub answered_of_implied_kind : (P Q : ExitStatus → List ℕ → Type 0) (s : ExitStatus) (w : Writer) → ((text : List ℕ) → P s text → Q s text) → Answered P s w
+pub answered_implied : (P Q : ExitStatus → List ℕ → Type 0) (s : ExitStatus) (w : Writer) → ((text : List ℕ) → P s text → Q s text) → Answered P s w
     → Answered Q s w
-answered_of_implied_kind P Q s w as_other a = record { text = a.text; is = as_other a.text a.is; took = a.took; works = a.works }
+answered_implied P Q s w as_other a = record { text = a.text; is = as_other a.text a.is; took = a.took; works = a.works }
 
-pub not_answered_of_implied_kind : (P Q : ExitStatus → List ℕ → Type 0) (e : PastErr) (w : Writer)
+pub not_answered_implied : (P Q : ExitStatus → List ℕ → Type 0) (e : PastErr) (w : Writer)
     → ((s : ExitStatus) (text : List ℕ) → P s text → Q s text) → NotAnswered P e w → NotAnswered Q e w
-not_answered_of_implied_kind P Q e w as_other (inl h) = inl h
-not_answered_of_implied_kind P Q e w as_other (inr h) =
+not_answered_implied P Q e w as_other (inl h) = inl h
+not_answered_implied P Q e w as_other (inr h) =
     inr (record { answered = h.answered; text = h.text; is = as_other h.answered h.text h.is; stops = h.stops })
 
 -- the events for other viewers are the answer that they are
-pub chrome_text_is_chrome_answer : (r : Recorded) (p : Picture) (boxes : List PlacedBox) (found sights : List Sight) → boxes ≡ p.boxes.items → sights ≡ found
+pub chrome_text_is_answer : (r : Recorded) (p : Picture) (boxes : List PlacedBox) (found sights : List Sight) → boxes ≡ p.boxes.items → sights ≡ found
     → AreSights r boxes found → IsChromeAnswer r p status.Done (chrome_text r p sights)
-chrome_text_is_chrome_answer r p boxes found sights same_boxes same all = (
+chrome_text_is_answer r p boxes found sights same_boxes same all = (
   refl,
   record {
     sights = sights;
@@ -59,38 +59,38 @@ chrome_text_is_chrome_answer r p boxes found sights same_boxes same all = (
 -- ---- data in a frame
 
 -- its four parts
-pub four_parts_are_framed_rows : (r : Recorded) (near : Option Around) (p : Picture) (first a d before after : List ℕ) (ends : List Point) (boxes : List PlacedBox)
+pub four_parts_framed_rows : (r : Recorded) (near : Option Around) (p : Picture) (first a d before after : List ℕ) (ends : List Point) (boxes : List PlacedBox)
     (stale : List StaleWrite) → a ≡ first ++ data_head false r near ends → first ≡ before → ends ≡ p.ends.items → boxes ≡ p.boxes.items
     → stale ≡ p.stale.items → d ≡ after
     → ((a ++ rows_from (box_row r) 0 boxes) ++ (stale_head ++ rows_from stale_row 0 stale)) ++ d ≡ before ++ (data_rows r near p ++ after)
-four_parts_are_framed_rows r near p first a d before after ends boxes stale begins same_first same_ends same_boxes same_stale closes =
-    four_parts_are_framed_text a (rows_from (box_row r) 0 boxes) (stale_head ++ rows_from stale_row 0 stale) d before (data_head false r near p.ends.items) after
+four_parts_framed_rows r near p first a d before after ends boxes stale begins same_first same_ends same_boxes same_stale closes =
+    four_parts_framed a (rows_from (box_row r) 0 boxes) (stale_head ++ rows_from stale_row 0 stale) d before (data_head false r near p.ends.items) after
     (begins ∙ (λ i. same_first i ++ data_head false r near (same_ends i))) closes
     ∙ (λ i. before ++ ((data_head false r near p.ends.items
     ++ (rows_from (box_row r) 0 (same_boxes i) ++ (stale_head ++ rows_from stale_row 0 (same_stale i)))) ++ after))
 
 -- the data with its end, and a text after it
-pub rows_with_end_are_data_text : (r : Recorded) (near : Option Around) (p : Picture) (last : List ℕ) → data_rows r near p ++ (codes "\n]}" ++ last) ≡ data_text r near p ++ last
-rows_with_end_are_data_text r near p last =
-    data_parts_regroup_with_end (data_start false r near) (thread_list r p.ends.items) (codes ",\"boxes\":[") (rows_from (box_row r) 0 p.boxes.items) (codes "\n]")
+pub rows_and_end_are_text : (r : Recorded) (near : Option Around) (p : Picture) (last : List ℕ) → data_rows r near p ++ (codes "\n]}" ++ last) ≡ data_text r near p ++ last
+rows_and_end_are_text r near p last =
+    data_parts_with_end (data_start false r near) (thread_list r p.ends.items) (codes ",\"boxes\":[") (rows_from (box_row r) 0 p.boxes.items) (codes "\n]")
     (codes ",\"stale\":[") (rows_from stale_row 0 p.stale.items) (codes "}" ++ last)
-    ∙ data_parts_regroup_before_last_text (data_start false r near) (thread_list r p.ends.items) (named_list (codes ",\"boxes\":[") (box_row r) p.boxes.items)
+    ∙ data_parts_before_last (data_start false r near) (thread_list r p.ends.items) (named_list (codes ",\"boxes\":[") (box_row r) p.boxes.items)
     (named_list (codes ",\"stale\":[") stale_row p.stale.items) (codes "}") last
 
 -- in a frame of its own it is the data of the picture
-pub framed_rows_are_data_form : (r : Recorded) (near : Option Around) (p : Picture) (before after : List ℕ) → before ≡ [] → after ≡ codes "\n]}\n"
+pub framed_rows_are_data : (r : Recorded) (near : Option Around) (p : Picture) (before after : List ℕ) → before ≡ [] → after ≡ codes "\n]}\n"
     → IsForm form.Data r near p status.Done (before ++ (data_rows r near p ++ after))
-framed_rows_are_data_form r near p before after none ends = (
+framed_rows_are_data r near p before after none ends = (
   refl,
-  ap (λ (x : List ℕ). x ++ (data_rows r near p ++ after)) none ∙ ap (λ (x : List ℕ). data_rows r near p ++ x) ends ∙ rows_with_end_are_data_text r near p (10 ∷ []),
+  ap (λ (x : List ℕ). x ++ (data_rows r near p ++ after)) none ∙ ap (λ (x : List ℕ). data_rows r near p ++ x) ends ∙ rows_and_end_are_text r near p (10 ∷ []),
 )
 
 -- in that of a page it is the page of the picture
-pub framed_rows_are_page_form : (r : Recorded) (near : Option Around) (p : Picture) (before after : List ℕ) → length p.boxes.items ≤ most_boxes → before ≡ page_head
+pub framed_rows_are_page : (r : Recorded) (near : Option Around) (p : Picture) (before after : List ℕ) → length p.boxes.items ≤ most_boxes → before ≡ page_head
     → after ≡ codes "\n]}" ++ page_tail → IsForm form.Page r near p status.Done (before ++ (data_rows r near p ++ after))
-framed_rows_are_page_form r near p before after fits begins ends = inl (
+framed_rows_are_page r near p before after fits begins ends = inl (
   fits,
   refl,
   ap (λ (x : List ℕ). x ++ (data_rows r near p ++ after)) begins ∙ ap (λ (x : List ℕ). page_head ++ (data_rows r near p ++ x)) ends
-      ∙ ap (λ (x : List ℕ). page_head ++ x) (rows_with_end_are_data_text r near p page_tail),
+      ∙ ap (λ (x : List ℕ). page_head ++ x) (rows_and_end_are_text r near p page_tail),
 )

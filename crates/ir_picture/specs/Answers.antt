@@ -45,12 +45,12 @@ unfoldable pub page_tail : List ℕ
 page_tail = TAIL_1.now ++ (TAIL_2.now ++ (TAIL_3.now ++ TAIL_4.now))
 
 -- the page that has this data
-abbrev pub page_of : List ℕ → List ℕ
-page_of text = page_head ++ (text ++ page_tail)
+abbrev pub page_of_picture : List ℕ → List ℕ
+page_of_picture text = page_head ++ (text ++ page_tail)
 
 -- the page of a picture
 abbrev pub page_text : Recorded → Option Around → Picture → List ℕ
-page_text r near p = page_of (data_text r near p)
+page_text r near p = page_of_picture (data_text r near p)
 
 -- the line of a circle
 abbrev pub circle_line : ℕ → ℕ → List ℕ
@@ -73,9 +73,9 @@ IsForm form.Data r near p answered text = (answered ≡ status.Done) × (text �
 IsForm form.Chrome r near p answered text = IsChromeAnswer r p answered text
 
 -- the event that a part is asked for around, if it is, is there
-abbrev pub IsThere : Recorded → Option Around → Type 0
-IsThere r None = ⊤
-IsThere r (Some near) = (near.thread < length r.threads) × (near.event < length (recorded_thread r near.thread).events)
+abbrev pub IsThereIn : Recorded → Option Around → Type 0
+IsThereIn r None = ⊤
+IsThereIn r (Some near) = (near.thread < length r.threads) × (near.event < length (recorded_thread r near.thread).events)
 
 -- the answer about a coherent trace: a circle of its events, or its picture
 abbrev pub IsPictureAnswer : Asked → Recorded → ExitStatus → List ℕ → Type 0
@@ -86,7 +86,7 @@ IsPictureAnswer asked r answered text =
 -- the answer about bytes
 abbrev pub IsViewAnswer : Asked → Result Recorded TraceErr → ExitStatus → List ℕ → Type 0
 IsViewAnswer asked read answered text =
-    ((r : Recorded) × (read ≡ Ok r) × AreCoherent r × IsThere r asked.around × IsPictureAnswer asked r answered text) ⊎ IsRefusal read answered text
+    ((r : Recorded) × (read ≡ Ok r) × AreCoherent r × IsThereIn r asked.around × IsPictureAnswer asked r answered text) ⊎ IsRefusal read answered text
 
 -- the trace doesn't have the event that a part is asked for around
 abbrev pub IsAbsent : Option Around → Recorded → Absent → Type 0

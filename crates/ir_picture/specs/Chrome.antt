@@ -92,7 +92,7 @@ pub record SeesNew (r : Recorded) (t i o v : ℕ) : Type 0 where
   pub new : (h : ℕ) → h < i → IsEntryOf r t h o v → (k : ℕ) × (e : Event) × (h < k) × (k < i) × (event_at r t k ≡ Some e) × (entered e ≡ Some o)
 
 -- a box sees what the write entry of another thread's box made, and both are among these
-pub record IsSight (r : Recorded) (boxes : List PlacedBox) (s : Sight) : Type 0 where
+pub record IsChromeSight (r : Recorded) (boxes : List PlacedBox) (s : Sight) : Type 0 where
   pub version : ℕ
   pub sees : SeesNew r s.seer.events.thread s.seer.events.event s.object version
   pub made : IsMakerOf r s.seer.events.thread s.seer.events.event s.maker.events.thread s.maker.events.event
@@ -104,8 +104,8 @@ pub record IsSight (r : Recorded) (boxes : List PlacedBox) (s : Sight) : Type 0 
 
 -- all that boxes see, in the order of those that see it
 pub record AreSights (r : Recorded) (boxes : List PlacedBox) (sights : List Sight) : Type 0 where
-  pub each : (k : ℕ) (s : Sight) → slice_get sights k ≡ Some s → IsSight r boxes s
-  pub all : (s : Sight) → IsSight r boxes s → (k : ℕ) × (slice_get sights k ≡ Some s)
+  pub each : (k : ℕ) (s : Sight) → slice_get sights k ≡ Some s → IsChromeSight r boxes s
+  pub all : (s : Sight) → IsChromeSight r boxes s → (k : ℕ) × (slice_get sights k ≡ Some s)
   pub rising : (k m : ℕ) (s z : Sight) → k < m → slice_get sights k ≡ Some s → slice_get sights m ≡ Some z
       → IsBefore s.seer.events.thread s.seer.events.event z.seer.events.thread z.seer.events.event
 

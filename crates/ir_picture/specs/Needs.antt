@@ -33,14 +33,14 @@ placed [] t = 0
 placed (u ∷ us) t = cond (eqb u t) 1 0 + placed us t
 
 -- the event of thread t after its first c t can be placed: there is one, and all that it needs is placed
-pub record CanFollow (r : Recorded) (c : ℕ → ℕ) (t : ℕ) : Type 0 where
+pub record CanFollowBox (r : Recorded) (c : ℕ → ℕ) (t : ℕ) : Type 0 where
   pub there : c t < length (recorded_thread r t).events
   pub needs : (u j : ℕ) → Needs r t (c t) u j → j < c u
 
 -- these threads, the last one first, place their events so that each comes after all it needs
 abbrev pub IsOrder : Recorded → List ℕ → Type 0
 IsOrder r [] = ⊤
-IsOrder r (t ∷ ts) = IsOrder r ts × CanFollow r (placed ts) t
+IsOrder r (t ∷ ts) = IsOrder r ts × CanFollowBox r (placed ts) t
 
 -- such an order that places as many events of each thread as any
 pub record IsFullOrder (r : Recorded) (order : List ℕ) : Type 0 where

@@ -32,9 +32,9 @@ abbrev pub named_list : {A : Type 0} → List ℕ → (A → List ℕ) → List 
 named_list name row xs = name ++ (rows_from row 0 xs ++ codes "\n]")
 
 -- the number of a profile
-abbrev pub profile_number : Profile → ℕ
-profile_number One = 1
-profile_number Two = 2
+abbrev pub picture_profile_number : Profile → ℕ
+picture_profile_number One = 1
+picture_profile_number Two = 2
 
 -- an event: its tag in a trace, its object or value, its version, its readers
 abbrev pub event_numbers : Event → List ℕ
@@ -69,14 +69,14 @@ abbrev pub read_pair : ℕ → ℕ → List ℕ
 read_pair o v = codes "[" ++ (decimal o ++ (comma v ++ codes "]"))
 
 -- the same in a list, if the object was read
-abbrev pub read_entry : ℕ → Option ℕ → List (List ℕ)
-read_entry o None = []
-read_entry o (Some v) = read_pair o v ∷ []
+abbrev pub read_entry_number : ℕ → Option ℕ → List (List ℕ)
+read_entry_number o None = []
+read_entry_number o (Some v) = read_pair o v ∷ []
 
 -- of the first n objects those that these events read
 unfoldable pub read_pairs : ℕ → List Event → List (List ℕ)
 read_pairs zero es = []
-read_pairs (suc o) es = read_pairs o es ++ read_entry o (version_read o es)
+read_pairs (suc o) es = read_pairs o es ++ read_entry_number o (version_read o es)
 
 -- texts with a comma between
 unfoldable pub with_commas : List (List ℕ) → List ℕ
@@ -133,7 +133,7 @@ steps_word false = codes "false"
 abbrev pub data_start : Bool → Recorded → Option Around → List ℕ
 data_start steps r near =
     codes "{\"ir_view\":1,\"steps\":" ++ (steps_word steps ++ (codes ",\"objects\":" ++ (decimal r.objects ++ (codes ",\"profile\":"
-    ++ (decimal (profile_number r.profile) ++ around_part near)))))
+    ++ (decimal (picture_profile_number r.profile) ++ around_part near)))))
 
 -- the threads
 abbrev pub thread_list : Recorded → List Point → List ℕ

@@ -59,7 +59,7 @@ length_of (Try object) = 1
 -- the places of a box. x is the longest path over the starts and ends of boxes, by the threads' order and the needs; u is the longest one where
 -- a box ends as it starts, and each thread begins at 1; `came` is where it would start in u if it needed no other thread. All boxes have
 -- row 0, since a trace doesn't say how long an object is held
-pub record IsPlaced (r : Recorded) (boxes : List PlacedBox) (b : PlacedBox) : Type 0 where
+pub record IsPlacedBox (r : Recorded) (boxes : List PlacedBox) (b : PlacedBox) : Type 0 where
   pub start_x : IsLeastAbove 0 (EndsBefore r boxes (λ p. p.x) b) b.start.x
   pub end_x : (e : Event) → event_at r b.events.thread b.events.event ≡ Some e → b.end.x ≡ b.start.x + length_of e
   pub start_u : IsLeastAbove 1 (EndsBefore r boxes (λ p. p.u) b) b.start.u
@@ -83,7 +83,7 @@ pub record IsThreadEnd (boxes : List PlacedBox) (t : ℕ) (p : Point) : Type 0 w
 -- the boxes of a trace with their places, and the ends of its threads
 pub record AreBoxesPlaced (r : Recorded) (boxes : List PlacedBox) (ends : List Point) : Type 0 where
   pub all : AreBoxes r (map (λ b. b.events) boxes)
-  pub placed : (k : ℕ) (b : PlacedBox) → slice_get boxes k ≡ Some b → IsPlaced r boxes b
+  pub placed : (k : ℕ) (b : PlacedBox) → slice_get boxes k ≡ Some b → IsPlacedBox r boxes b
   pub threads : length ends ≡ length r.threads
   pub last : (t : ℕ) (p : Point) → slice_get ends t ≡ Some p → IsThreadEnd boxes t p
 

@@ -21,7 +21,7 @@ AreBoxesOf r boxes = (k : ℕ) (b : PlacedBox) → slice_get boxes k ≡ Some b 
 
 -- a picture is one of a trace: its boxes are boxes of it in their order, each thread has an end, and the stale writes come by rising thread and
 -- event
-pub record IsOf (r : Recorded) (p : Picture) : Type 0 where
+pub record IsOfPicture (r : Recorded) (p : Picture) : Type 0 where
   pub boxes : AreBoxesOf r p.boxes.items
   pub some : AreSomeBoxes r (events_of_all p.boxes.items)
   pub ends : length p.ends.items ≡ length r.threads

@@ -7,7 +7,7 @@ use Rattle.ir_trace.specs.Recorded.{Recorded}
 use Rattle.ir_coherence.specs.Before.{IsBefore}
 use Rattle.ir_past.specs.Past.{event_at, entered}
 use Rattle.ir_picture.specs.Needs.{IsEntryOf}
-use Rattle.ir_picture.specs.Chrome.{IsSight}
+use Rattle.ir_picture.specs.Chrome.{IsChromeSight}
 use Rattle.ir_picture.specs.declared.placed_box.PlacedBox.{PlacedBox}
 use Rattle.ir_picture.specs.declared.sights.Sight.{Sight}
 
@@ -32,14 +32,14 @@ pub record HoldsEntries (r : Recorded) (t n : ℕ) (table : List (Option ℕ)) :
 
 -- a box that begins with event i of thread t sees something
 pub record SeesAt (r : Recorded) (boxes : List PlacedBox) (t i : ℕ) (s : Sight) : Type 0 where
-  pub sight : IsSight r boxes s
+  pub sight : IsChromeSight r boxes s
   pub thread : s.seer.events.thread ≡ t
   pub event : s.seer.events.event ≡ i
 
 -- these are what boxes see that begin before event n of thread t
 pub record SightsBefore (r : Recorded) (boxes : List PlacedBox) (t n : ℕ) (sights : List Sight) : Type 0 where
-  pub each : (k : ℕ) (s : Sight) → slice_get sights k ≡ Some s → IsSight r boxes s
+  pub each : (k : ℕ) (s : Sight) → slice_get sights k ≡ Some s → IsChromeSight r boxes s
   pub before : (k : ℕ) (s : Sight) → slice_get sights k ≡ Some s → IsBefore s.seer.events.thread s.seer.events.event t n
-  pub all : (s : Sight) → IsSight r boxes s → IsBefore s.seer.events.thread s.seer.events.event t n → (k : ℕ) × (slice_get sights k ≡ Some s)
+  pub all : (s : Sight) → IsChromeSight r boxes s → IsBefore s.seer.events.thread s.seer.events.event t n → (k : ℕ) × (slice_get sights k ≡ Some s)
   pub rising : (k m : ℕ) (s z : Sight) → k < m → slice_get sights k ≡ Some s → slice_get sights m ≡ Some z
       → IsBefore s.seer.events.thread s.seer.events.event z.seer.events.thread z.seer.events.event

@@ -1,10 +1,10 @@
 //! The part of a picture that is near an event.
 
 ghost use Rattle.std.specs.Prelude.{◌≡◌, ◌^◌, ◌<◌, ℕ, Some, OnOk, IfOk, IfErr};
-ghost use Rattle.ir_picture.specs.Boxing.{AreApart};
+ghost use Rattle.ir_picture.specs.Boxing.{AreBoxesApart};
 ghost use Rattle.ir_picture.specs.Placing.{events_of_all};
 ghost use Rattle.ir_picture.specs.Shown.{StartsAt, AreShown, is_near, is_shown, shown_stale};
-ghost use Rattle.ir_picture.specs.Answers.{IsThere, IsAbsent};
+ghost use Rattle.ir_picture.specs.Answers.{IsThereIn, IsAbsent};
 ghost use Rattle.ir_picture.specs.declared.asked.Around.{Around};
 ghost use Rattle.ir_picture.specs.declared.view_err.Absent.{Absent};
 ghost use Rattle.ir_picture.specs.declared.view_err.ViewErr.TheVariants as view;
@@ -22,7 +22,7 @@ use std::alloc::{AllocError, Global};
 /// # Errors
 /// There is no such thread, or it has no such event.
 pub fn is_there(trace: &Trace, near: &Option<Around>) -> Result<(), ViewErr>
-    ensures ok { OnOk result (IsThere trace.now near.now) }
+    ensures ok { OnOk result (IsThereIn trace.now near.now) }
     ensures fails { IfErr result (λ e. (what : Absent) × (e ≡ view.Absent what) × IsAbsent near.now trace.now what) }
 {
     let Some(near) = near else {
@@ -51,7 +51,7 @@ fn near_boxes(
     near: &Around,
 ) -> Result<Vec<PlacedBox>, AllocError>
     requires small { near.now.thread < 2 ^ 8 }
-    requires apart { AreApart (events_of_all boxes.now) }
+    requires apart { AreBoxesApart (events_of_all boxes.now) }
     requires there { (x : ℕ) × StartsAt boxes.now near.now.thread near.now.event x }
     ensures { IfOk result (λ v. AreShown boxes.now (Some near.now) v.items) }
 {
@@ -80,7 +80,7 @@ pub fn shown_boxes(
     boxes: &[PlacedBox],
     near: &Option<Around>,
 ) -> Result<Vec<PlacedBox>, AllocError>
-    requires apart { AreApart (events_of_all boxes.now) }
+    requires apart { AreBoxesApart (events_of_all boxes.now) }
     requires small { (a : Around) → near.now ≡ Some a → a.thread < 2 ^ 8 }
     requires there { (a : Around) → near.now ≡ Some a → (x : ℕ) × StartsAt boxes.now a.thread a.event x }
     ensures { IfOk result (λ v. AreShown boxes.now near.now v.items) }
@@ -93,7 +93,7 @@ pub fn shown_boxes(
 
 /// Whether the write and the read of a stale write are in these boxes, which are some of a trace's. Time is logarithmic in the boxes.
 pub fn is_shown(boxes: &[PlacedBox], row: &StaleWrite) -> bool
-    requires { AreApart (events_of_all boxes.now) }
+    requires { AreBoxesApart (events_of_all boxes.now) }
     ensures { result ≡ is_shown boxes.now row.now }
 {
     let thread = row.thread;
@@ -117,7 +117,7 @@ pub fn shown_stale(
     boxes: &[PlacedBox],
     rows: &[StaleWrite],
 ) -> Result<Vec<StaleWrite>, AllocError>
-    requires { AreApart (events_of_all boxes.now) }
+    requires { AreBoxesApart (events_of_all boxes.now) }
     ensures { IfOk result (λ v. v.items ≡ shown_stale boxes.now rows.now) }
 {
     let mut shown = Vec::new(alloc);

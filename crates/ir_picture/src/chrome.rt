@@ -7,7 +7,7 @@ ghost use Rattle.ir_text.specs.Buffered.{Buffered};
 ghost use Rattle.ir_past.specs.Past.{IsRising};
 ghost use Rattle.ir_past.specs.Answers.{AreCoherent, Answered, NotAnswered, Stops};
 ghost use Rattle.ir_picture.specs.Chrome.{box_line, thread_lines, all_threads, chrome_text, IsChromeAnswer};
-ghost use Rattle.ir_picture.specs.Progress.{chrome_start, AreBoxesOf, IsOf};
+ghost use Rattle.ir_picture.specs.Progress.{chrome_start, AreBoxesOf, IsOfPicture};
 
 use crate::arrows::write_arrows;
 use crate::picture::Picture;
@@ -99,7 +99,7 @@ fn write_lines<O: Sink>(
     out: &mut O,
 ) -> Result<(), PastErr>
     requires works { O.broken out.old ≡ false }
-    requires of_trace { IsOf trace.now picture.now }
+    requires of_trace { IsOfPicture trace.now picture.now }
     ensures ok { OnOk result (Appends (O.written out.old) (O.written out.new) (chrome_text trace.now picture.now sights.now)) }
     ensures works { OnOk result (O.broken out.new ≡ false) }
     ensures fails { IfErr result (λ e. Stops e (writer_of (O.written out.old) (O.written out.new) (O.broken out.new)) (chrome_text trace.now picture.now sights.now)) }
@@ -122,7 +122,7 @@ pub fn write_chrome<O: Sink>(
 ) -> Result<ExitStatus, PastErr>
     requires works { O.broken out.old ≡ false }
     requires coherent { AreCoherent trace.now }
-    requires of_trace { IsOf trace.now picture.now }
+    requires of_trace { IsOfPicture trace.now picture.now }
     ensures ok { IfOk result (λ answered. Answered (IsChromeAnswer trace.now picture.now) answered (writer_of (O.written out.old) (O.written out.new) (O.broken out.new))) }
     ensures fails { IfErr result (λ e. NotAnswered (IsChromeAnswer trace.now picture.now) e (writer_of (O.written out.old) (O.written out.new) (O.broken out.new))) }
 {

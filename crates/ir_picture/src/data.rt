@@ -6,8 +6,8 @@ ghost use Rattle.std.specs.String.{string_bytes};
 ghost use Rattle.ir_files.specs.Writers.{writer_of};
 ghost use Rattle.ir_text.specs.Buffered.{Buffered};
 ghost use Rattle.ir_past.specs.Answers.{Stops};
-ghost use Rattle.ir_picture.specs.Numbers.{profile_number, around_part, steps_word, data_start, rows_from, thread_rows, thread_list, box_row, stale_row};
-ghost use Rattle.ir_picture.specs.Progress.{data_head, stale_head, data_rows, AreBoxesOf, IsOf};
+ghost use Rattle.ir_picture.specs.Numbers.{picture_profile_number, around_part, steps_word, data_start, rows_from, thread_rows, thread_list, box_row, stale_row};
+ghost use Rattle.ir_picture.specs.Progress.{data_head, stale_head, data_rows, AreBoxesOf, IsOfPicture};
 
 use crate::asked::Around;
 use crate::frame::Frame;
@@ -23,7 +23,7 @@ use std::alloc::{AllocError, Global};
 
 // The number of a profile.
 fn profile_number(profile: Profile) -> u8
-    ensures { result ≡ profile_number profile }
+    ensures { result ≡ picture_profile_number profile }
 {
     match profile {
         Profile::One => 1,
@@ -193,10 +193,12 @@ pub fn write_data<O: Sink>(
     out: &mut O,
 ) -> Result<(), PastErr>
     requires works { O.broken out.old ≡ false }
-    requires of_trace { IsOf trace.now picture.now }
+    requires of_trace { IsOfPicture trace.now picture.now }
     ensures ok { OnOk result (Appends (O.written out.old) (O.written out.new) ((frame.now).before.items ++ (data_rows trace.now near.now picture.now ++ (frame.now).after.items))) }
     ensures works { OnOk result (O.broken out.new ≡ false) }
-    ensures fails { IfErr result (λ e. Stops e (writer_of (O.written out.old) (O.written out.new) (O.broken out.new)) ((frame.now).before.items ++ (data_rows trace.now near.now picture.now ++ (frame.now).after.items))) }
+    ensures fails { IfErr result
+        (λ e. Stops e (writer_of (O.written out.old) (O.written out.new) (O.broken out.new))
+        ((frame.now).before.items ++ (data_rows trace.now near.now picture.now ++ (frame.now).after.items))) }
 {
     let mut text = data_head(alloc, false, trace, near, &picture.ends, &frame.before)?;
     write_box_rows(alloc, &mut text, trace, &picture.boxes, out)?;

@@ -3,7 +3,7 @@
 ghost use Rattle.std.specs.Prelude.{◌≡◌, ℕ, Some, IfSome, IfNone};
 ghost use Rattle.std.specs.List.{slice_get};
 ghost use Rattle.ir_picture.specs.Boxes.{IsInBox};
-ghost use Rattle.ir_picture.specs.Boxing.{AreApart};
+ghost use Rattle.ir_picture.specs.Boxing.{AreBoxesApart};
 ghost use Rattle.ir_picture.specs.Placing.{events_of_all};
 ghost use Rattle.ir_picture.specs.Shown.{begins_by, is_in, has_box};
 ghost use Rattle.ir_picture.specs.declared.placed_box.PlacedBox.{PlacedBox};
@@ -28,7 +28,7 @@ fn has(own: &EventBox, place: Place) -> bool
 
 /// The box that an event is in, among boxes by rising thread and event. Time is logarithmic in the boxes.
 pub fn box_of(boxes: &[PlacedBox], place: Place) -> Option<PlacedBox>
-    requires { AreApart (events_of_all boxes.now) }
+    requires { AreBoxesApart (events_of_all boxes.now) }
     ensures found { IfSome result (λ b. (k : ℕ) × (slice_get boxes.now k ≡ Some b) × IsInBox b.events place.thread place.event) }
     ensures none { IfNone result ((k : ℕ) (b : PlacedBox) → slice_get boxes.now k ≡ Some b → IsInBox b.events place.thread place.event → ⊥) }
 {
@@ -46,7 +46,7 @@ pub fn box_of(boxes: &[PlacedBox], place: Place) -> Option<PlacedBox>
 
 /// Whether an event is in one of boxes by rising thread and event. Time is logarithmic in the boxes.
 pub fn has_box(boxes: &[PlacedBox], place: Place) -> bool
-    requires { AreApart (events_of_all boxes.now) }
+    requires { AreBoxesApart (events_of_all boxes.now) }
     ensures { result ≡ has_box boxes.now place.thread place.event }
 {
     match box_of(boxes, place) {

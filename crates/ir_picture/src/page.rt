@@ -46,7 +46,7 @@ button.bad { color: var(--mark); border-color: var(--mark); font-weight: 600; }
 #tip { position: fixed; display: none; white-space: pre; padding: 3px 8px; font-size: 12px; border-radius: 6px; }
 #tip { pointer-events: none; background: var(--ink); color: var(--page); }
 #info { display: grid; grid-template-columns: minmax(0, 1fr) auto; gap: 4px 24px; padding: 8px 14px; align-content: start; }
-#info { flex: none; height: clamp(124px, 22vh, 200px); overflow: auto; }
+#info { flex: 1 0 clamp(124px, 22vh, 200px); overflow: auto; }
 #info h2 { font-size: 15px; margin: 0 0 2px; font-weight: 650; } #info p { margin: 2px 0; }
 .mark { color: var(--mark); } #info .mark { font-weight: 600; }
 #info button.ev { padding: 0 7px; margin: 0 2px; font-size: 12.5px; }
@@ -61,8 +61,8 @@ pub const HEAD_2: &str =
 dialog { color: var(--ink); background: var(--card); border: 1px solid var(--line); border-radius: 10px; max-width: 560px; }
 dialog td { padding: 2px 12px 2px 0; vertical-align: top; } dialog td:first-child { white-space: nowrap; }
 @media (max-width: 1100px) { h1 { font-size: 14px; } button, input { padding: 3px 6px; } }
-@media (max-width: 760px) { #info { grid-template-columns: minmax(0, 1fr); height: clamp(124px, 28vh, 260px); } }
-@media print { header button, header input, #legend > button, #tip { display: none; } #signs { max-height: none; } #info { height: auto; } }
+@media (max-width: 760px) { #info { grid-template-columns: minmax(0, 1fr); flex-basis: clamp(124px, 28vh, 260px); } }
+@media print { header button, header input, #legend > button, #tip { display: none; } #signs { max-height: none; } #info { flex: none; } }
 </style>
 </head>
 <body>
@@ -117,6 +117,11 @@ pub const TAIL_1: &str = "</script>
 'use strict';
 const el = id => document.getElementById(id);
 const run = JSON.parse(el('run').textContent);
+// Names of the guest, if a script has put them here (guest/ir-where --page): of threads, objects, words by \"object.word\", and where events come from
+// by \"thread.event\". They may be any text, so they are text wherever they are shown.
+const names = { threads: {}, objects: {}, words: {}, events: {}, ...(el('names') ? JSON.parse(el('names').textContent) : {}) };
+const safe = s => String(s).replace(/[&<>\"']/g, c => `&#${c.charCodeAt(0)};`);
+const called = (kind, key, before = ' ') => Object.hasOwn(names[kind], key) ? before + names[kind][key] : '';
 
 // ---- the run -------------------------------------------------------------------------------------------------------
 // A box is one event, or a fold of some that saw nothing new. x: places evenly spaced; u: by steps; came: where it would
@@ -190,7 +195,8 @@ const HEIGHTS = [[26, 15], [26, 11], [22, 9], [20, 7], [18, 5], [16, 3], [14, 2]
 let GUT = 118, RH = 26, PAD = 15, BH = 22, tall = 0, laneTop = [], all = false;   // all: whether all is shown, and stays so in other sizes
 const tallWith = ([h, pad]) => 12 + rowsOf.reduce((y, q) => y + q * h + 2 * pad, 0);
 function layout() {               // of the lanes, in what is left of the window: whether all of them are in sight
-  const below = scroll.getBoundingClientRect().top + scrollY, free = document.documentElement.clientHeight - below - el('info').offsetHeight - 2;
+  const below = scroll.getBoundingClientRect().top + scrollY, least = parseFloat(getComputedStyle(el('info')).flexBasis);
+  const free = document.documentElement.clientHeight - below - least - 2;
   const some = all ? HEIGHTS : HEIGHTS.slice(0, LOW), found = some.find(h => tallWith(h) <= Math.max(free, 118)), used = found || some[some.length - 1];
   [RH, PAD] = used; BH = RH - (RH > 12 ? 4 : 2); tall = tallWith(used);
   laneTop = rowsOf.map((r, t) => 6 + rowsOf.slice(0, t).reduce((y, q) => y + q * RH + 2 * PAD, 0));
@@ -223,15 +229,16 @@ const PAINT = [['#1f6fb4', '#fff', '#1f6fb4', '#5aa9ee'], ['#e08a00', '#1a1200',
 const paint = o => PAINT[nth.get(o) % 8], stroke = o => paint(o)[css.dark ? 3 : 2];
 const DIM = 0.15, PALE = 0.2;    // how much is left of what another object's button hides, and how strong a read is filled
 const dim = b => only >= 0 && !(isShared(b) && (b.o === only || b.again.some(a => a[0] === only)));
-function nameOf(b) {
+function nameOf(b, o = b.o) {
   if (b.n > 1) return `${b.k === TRY ? 'tried' : 'read'} again \\u00d7${b.n}`;
-  if (b.k === WRITE) return `write ${b.o} v${b.v}\\u2192${b.v + 1}`;
-  return b.k === READ ? `read ${b.o} v${b.v}` : `${KIND[b.k]} ${b.o}`;
-}
 ";
 
 /// Part 2 of what comes after the data.
-pub const TAIL_2: &str = "function text(s, x, y, colour, size = 11, align = 'left', weight = '') {
+pub const TAIL_2: &str = "  if (b.k === WRITE) return `write ${o} v${b.v}\\u2192${b.v + 1}`;
+  return b.k === READ ? `read ${o} v${b.v}` : `${KIND[b.k]} ${o}`;
+}
+const longName = b => isShared(b) ? nameOf(b, called('objects', b.o, '') || b.o) : nameOf(b);
+function text(s, x, y, colour, size = 11, align = 'left', weight = '') {
   g.font = `${weight} ${size}px ${FACE}`; g.textAlign = align; g.textBaseline = 'middle'; g.fillStyle = colour; g.fillText(s, x, y);
 }
 function widthOf(s, size) { g.font = `${size}px ${FACE}`; return g.measureText(s).width; }
@@ -257,7 +264,7 @@ function drawBox(b) {
   if (b.stale.length) outline(css.mark, 2.5);
   if (ring) { path(x - 3, y - 3, w + 6, BH + 6, 8); outline(css.ink, ring); }
   const size = RH > 18 ? 12 : 10, short = b.n > 1 ? `\\u00d7${b.n}` : b.k === TRY ? '\\u2715' : `v${b.v}`, digits = short.replace('v', '');
-  const fits = [[nameOf(b), size, 10], [short, size, 4], [digits, 10, 3], [digits, 8, 2]].find(([s, z, more]) => w > 12 && BH >= z && widthOf(s, z) + more < w);
+  const fits = [[longName(b), size, 10], [nameOf(b), size, 10], [short, size, 4], [digits, 10, 3], [digits, 8, 2]].find(([s, z, more]) => w > 12 && BH >= z && widthOf(s, z) + more < w);
   if (fits) text(fits[0], x + w / 2, midOf(b) + 0.5, write ? on : css.ink, fits[1], 'center');
   b.bare = !fits && isEntry(b);
   if (b.stale.length) badge(x + w, y); g.globalAlpha = 1;
@@ -308,12 +315,18 @@ function drawEnds() {
     text(word, x + 5, y + RH / 2, colour, size);
   });
 }
+function cut(s, w) {              // a text, or as much of it as there is room for
+  if (widthOf(s, 11) <= w) return s;
+  let n = s.length;
+  while (n > 1 && widthOf(s.slice(0, n) + '\\u2026', 11) > w) n--;
+  return s.slice(0, n) + '\\u2026';
+}
 function drawGutter() {
   const x = GUT < 100 ? 6 : 12;
   g.fillStyle = css.card; g.fillRect(0, 0, GUT, tall);
   run.threads.forEach((th, t) => {
-    const y = laneTop[t] + PAD + RH / 2, low = RH + 2 * PAD < 32, name = `thread ${t}`, events = many(th.events, 'event');
-    if (!low) { text(name, x, y - 7, css.ink, 13, 'left', '600'); text(events, x, y + 8, css.soft); return; }
+    const y = laneTop[t] + PAD + RH / 2, low = RH + 2 * PAD < 32, name = `thread ${t}`, events = called('threads', t, '') || many(th.events, 'event');
+    if (!low) { text(name, x, y - 7, css.ink, 13, 'left', '600'); text(cut(events, GUT - x - 4), x, y + 8, css.soft); return; }
     const size = Math.min(13, Math.max(7, RH + 2 * PAD - 2)), w = widthOf(name, size) * 1.1;
     text(name, x, y, css.ink, size, 'left', '600');
     if (x + w + 6 + widthOf(events, size - 2) < GUT) text(events, GUT - 5, y, css.soft, size - 2, 'right');
@@ -365,15 +378,15 @@ function drawChosen() {
   for (const s of chosen.stale) {
     drawStale(s, 2.2);
     const w = made.get(key(s.read.o, s.read.v));
-    if (w) { path(sx(X0(w)) - 3, yOf(w) - 3, wide(w) + 6, BH + 6, 4); outline(css.mark, 2, [3, 2]); }
-  }
-}
-function sharp(canvas, c, w, h) {
 ";
 
 /// Part 3 of what comes after the data.
 pub const TAIL_3: &str =
-    "  const d = window.devicePixelRatio || 1, pw = Math.round(w * d), ph = Math.round(h * d);
+    "    if (w) { path(sx(X0(w)) - 3, yOf(w) - 3, wide(w) + 6, BH + 6, 4); outline(css.mark, 2, [3, 2]); }
+  }
+}
+function sharp(canvas, c, w, h) {
+  const d = window.devicePixelRatio || 1, pw = Math.round(w * d), ph = Math.round(h * d);
   if (canvas.width !== pw || canvas.height !== ph) {
     canvas.width = pw; canvas.height = ph; canvas.style.height = h + 'px'; canvas.small = null;
   }
@@ -415,28 +428,33 @@ function drawOver() {
 const many = (n, w) => `${n} ${w}${n === 1 ? '' : 's'}`, total = run.threads.reduce((n, th) => n + th.events, 0);
 const link = b => `<button class=\"ev\" data-box=\"${b.id}\">thread ${b.t} event ${b.i}</button>`;
 const links = l => l.slice(0, 8).map(link).join('') + (l.length > 8 ? ` and ${l.length - 8} more` : '');
+function origin(b) {              // where its first events come from, as far as that is known
+  const l = Array.from({ length: Math.min(b.n, 4) }, (_, k) => called('events', `${b.t}.${b.i + k}`, '')).filter(s => s);
+  return l.length ? `, ${safe(l.join(', '))}${b.n > 4 ? ', ..' : ''}` : '';
+}
+const ofObject = o => `object ${o}${safe(called('objects', o))}`;
 function headline(b) {
   if (b.n > 1) return `events ${b.i} to ${b.i + b.n - 1}: ${b.n} ${b.k === TRY ? 'more refused tries' : 'more reads that find nothing new'}`;
-  if (b.k === WRITE) return `event ${b.i}: writes object ${b.o}, version ${b.v} to ${b.v + 1}`;
-  if (b.k === READ) return `event ${b.i}: reads object ${b.o} at version ${b.v}`;
-  return `event ${b.i}: ` + (b.k === TRY ? `tries object ${b.o}, and is refused` : `${KIND[b.k]} answers ${b.o}`);
+  if (b.k === WRITE) return `event ${b.i}: writes ${ofObject(b.o)}, version ${b.v} to ${b.v + 1}`;
+  if (b.k === READ) return `event ${b.i}: reads ${ofObject(b.o)} at version ${b.v}`;
+  return `event ${b.i}: ` + (b.k === TRY ? `tries ${ofObject(b.o)}, and is refused` : `${KIND[b.k]} answers ${b.o}`);
 }
 function staleWords(s) {
   const more = s.box.v - s.read.v - 1, over = made.get(key(s.read.o, s.read.v)), would = s.way ? 'gone another way' : 'written something else';
   return `<p class=\"mark\">${run.steps ? 'A stale write' : 'It may be a stale write'}: its thread had read version ${s.read.v} at ${link(s.read)}, and ` +
     `${over ? link(over) : 'another thread'} wrote over that${more ? `; ${many(more, 'more write')} followed` : ''}.` +
-    (s.word === undefined ? '' : ` Word ${s.word} was ${s.was} and is ${s.is}: had it read that, it would have ${would}.`) + '</p>';
+    (s.word === undefined ? '' : ` Word ${s.word}${safe(called('words', `${s.read.o}.${s.word}`))} was ${s.was} and is ${s.is}: had it read that, it would have ${would}.`) + '</p>';
 }
 function tell() {
   const b = chosen;
   if (!b) {
     const more = stales.length ? 'N goes to the stale writes.' : 'No stale write was found.';
-    const ends = bads.length ? `<p class=\"mark\">${bads.map(t => `Thread ${t} ended: ${endWords(run.threads[t])}.`).join(' ')}</p>` : '';
+    const ends = bads.length ? `<p class=\"mark\">${bads.map(t => `Thread ${t}${safe(called('threads', t))} ended: ${endWords(run.threads[t])}.`).join(' ')}</p>` : '';
     el('what').innerHTML = `<h2>Nothing is chosen</h2><p>Click a box, or press an arrow key. ${more}</p>${ends}`; el('cmds').innerHTML = '';
     return;
   }
-  let h = `<h2>thread ${b.t} ${headline(b)}</h2>` + b.stale.map(staleWords).join('');
-  if (b.n > 1 && b.k === READ) h += `<p>${b.again.slice(0, 6).map(([o, v]) => `Object ${o} was at version ${v}`).join('. ')}.</p>`;
+  let h = `<h2>thread ${b.t}${safe(called('threads', b.t))} ${headline(b)}${origin(b)}</h2>` + b.stale.map(staleWords).join('');
+  if (b.n > 1 && b.k === READ) h += `<p>${b.again.slice(0, 6).map(([o, v]) => `Object ${o}${safe(called('objects', o))} was at version ${v}`).join('. ')}.</p>`;
   if (isEntry(b)) {
     const m = maker(b), rs = needsOf(b).filter(a => a.k !== WRITE), ss = seersOf(b), next = made.get(key(b.o, b.v));
     h += `<p>It sees ${m ? `what ${link(m)} wrote` : b.v ? `version ${b.v}, made outside of this part` : 'the first words'}.` +
@@ -461,7 +479,7 @@ function legend() {
   if (boxes.some(b => b.n > 1 || b.k === TRY)) items.push([dull, 'again, or refused']);
   if (steps) items.push(['<path d=\"M1 8H25\" stroke-width=\"5\" stroke-dasharray=\"2 4\"/>', 'waits']);
   el('signs').innerHTML = used.map(o => `<button class=\"chip\" data-object=\"${o}\" aria-pressed=\"${only === o}\">` +
-    `<i style=\"background:${paint(o)[0]}\"></i>${used.length > 16 ? o : `object ${o}`}</button>`).join('') +
+    `<i style=\"background:${paint(o)[0]}\"></i>${used.length > 16 ? o : `object ${o}`}${safe(called('objects', o))}</button>`).join('') +
     items.map(([s, w]) => `<span>${pic(s)} ${w}</span>`).join('') +
     (stales.length ? `<span class=\"mark\">${pic('<path d=\"M13 1l8 13H5z\" fill=\"currentColor\"/>')} stale write</span>` : '');
 }
@@ -486,13 +504,14 @@ function choose(b, show) {
   clamp(); tell(); draw();
 }
 function zoom(f, px) { leaveAll(); const x = left + (px - GUT - 8) / scale; scale *= f; clamp(); left = x - (px - GUT - 8) / scale; clamp(); draw(); }
-const middle = () => chosen ? Math.min(Math.max(sx(X0(chosen)), GUT), W) : (W + GUT) / 2;
-const near = () => Math.max(30, widthOf(String(boxes.reduce((m, b) => Math.max(m, b.v), 0)), 10) + 6);   // boxes that have room for their versions
-const fit = () => { scale = Math.min(room() / span(), 140); left = start(); };
 ";
 
 /// Part 4 of what comes after the data.
-pub const TAIL_4: &str = "function whole() { all = true; scroll.scrollTop = 0; size(); }
+pub const TAIL_4: &str =
+    "const middle = () => chosen ? Math.min(Math.max(sx(X0(chosen)), GUT), W) : (W + GUT) / 2;
+const near = () => Math.max(30, widthOf(String(boxes.reduce((m, b) => Math.max(m, b.v), 0)), 10) + 6);   // boxes that have room for their versions
+const fit = () => { scale = Math.min(room() / span(), 140); left = start(); };
+function whole() { all = true; scroll.scrollTop = 0; size(); }
 function leaveAll() { if (all) { all = false; layout(); } }   // from here on not all has to be in sight
 function nextStale(d) {
   if (!stales.length) return;
@@ -567,7 +586,8 @@ main.addEventListener('pointermove', e => {
   const b = hit(e), tip = el('tip');
   if (b !== hover) { hover = b; draw(); }
   tip.style.display = b ? 'block' : 'none'; if (!b) return;
-  tip.textContent = `thread ${b.t} event ${b.i}: ${nameOf(b)}` + (run.steps && b.s0 >= 0 ? `\\ngoto ${b.t} ${b.s0}` : '');
+  const names = (isShared(b) ? called('objects', b.o, ', ') : '') + called('events', `${b.t}.${b.i}`, ', ');
+  tip.textContent = `thread ${b.t} event ${b.i}: ${nameOf(b)}` + names + (run.steps && b.s0 >= 0 ? `\\ngoto ${b.t} ${b.s0}` : '');
   tip.style.left = Math.min(e.clientX + 14, innerWidth - 240) + 'px'; tip.style.top = e.clientY + 16 + 'px';
 });
 main.addEventListener('pointerup', e => { const d = drag; drag = null; main.classList.remove('drag'); if (d && !d.far) choose(hit(e)); });

@@ -3,7 +3,7 @@
 ghost use Rattle.std.specs.Prelude.{IfOk, MatchResult};
 ghost use Rattle.ir_past.specs.Answers.{AreCoherent};
 ghost use Rattle.ir_picture.specs.Needs.{HasNoCircle, IsCircleAt};
-ghost use Rattle.ir_picture.specs.Answers.{IsThere, IsPicture};
+ghost use Rattle.ir_picture.specs.Answers.{IsThereIn, IsPicture};
 
 use crate::around::{shown_boxes, shown_stale};
 use crate::asked::Around;
@@ -24,7 +24,7 @@ pub fn picture_of(
     near: &Option<Around>,
 ) -> Result<Result<Picture, Circle>, AllocError>
     requires coherent { AreCoherent trace.now }
-    requires there { IsThere trace.now near.now }
+    requires there { IsThereIn trace.now near.now }
     ensures { IfOk result (λ x. MatchResult x (λ p. HasNoCircle trace.now × IsPicture trace.now near.now p) (λ c. IsCircleAt trace.now c.thread c.event)) }
 {
     let mut placing = Placing::new(alloc, trace)?;

@@ -7,9 +7,9 @@ ghost use Rattle.ir_past.specs.Past.{event_at};
 ghost use Rattle.ir_past.specs.Answers.{AreCoherent};
 ghost use Rattle.ir_picture.specs.Needs.{IsCircleAt};
 ghost use Rattle.ir_picture.specs.Boxes.{IsBox};
-ghost use Rattle.ir_picture.specs.Boxing.{AreApart};
+ghost use Rattle.ir_picture.specs.Boxing.{AreBoxesApart};
 ghost use Rattle.ir_picture.specs.Places.{length_of};
-ghost use Rattle.ir_picture.specs.Placing.{first_point, box_at, right_of, IsCut, IsPlacing, IsReady, IsWaiting, IsStuck, IsOver, boxes_left, events_of_all};
+ghost use Rattle.ir_picture.specs.Placing.{first_point, box_at, right_of, IsPlacingCut, IsPlacing, IsPlaceable, IsWaitingBox, IsStuck, IsOverBox, boxes_left, events_of_all};
 ghost use Rattle.ir_picture.specs.declared.placed_box.PlacedBox.{PlacedBox};
 ghost use Rattle.ir_picture.specs.declared.placing.Lane.{Lane};
 
@@ -118,17 +118,17 @@ pub fn right_of(end: Point) -> Point
 
 // How many boxes there are of the threads before this one.
 fn boxes_before(boxes: &[EventBox], thread: u8) -> usize
-    requires { AreApart boxes.now }
-    ensures { IsCut boxes.now thread 0 result }
+    requires { AreBoxesApart boxes.now }
+    ensures { IsPlacingCut boxes.now thread 0 result }
 {
     boxes.partition_point(|own| own.thread < thread)
 }
 
 // The lanes of a trace whose boxes these are, with no box placed.
 fn lanes_of(alloc: Global, threads: u8, boxes: &[EventBox]) -> Result<Vec<Lane>, AllocError>
-    requires { AreApart boxes.now }
+    requires { AreBoxesApart boxes.now }
     ensures lanes { IfOk result (λ v. length v.items ≡ threads) }
-    ensures at { IfOk result (λ v. (t : ℕ) (l : Lane) → slice_get v.items t ≡ Some l → (l.free ≡ first_point) × IsCut boxes.now t 0 l.next) }
+    ensures at { IfOk result (λ v. (t : ℕ) (l : Lane) → slice_get v.items t ≡ Some l → (l.free ≡ first_point) × IsPlacingCut boxes.now t 0 l.next) }
 {
     let free = Point { x: 0, u: 1 };
     let mut lanes = Vec::new(alloc);
@@ -182,7 +182,7 @@ impl Placing {
     fn place(&mut self, trace: &Trace, ready: Ready) -> Result<(), AllocError>
         requires coherent { AreCoherent trace.now }
         requires placing { IsPlacing trace.now self.old }
-        requires ready { IsReady trace.now self.old ready.thread ready.needed }
+        requires ready { IsPlaceable trace.now self.old ready.thread ready.needed }
         ensures placing { OnOk result (IsPlacing trace.now self.new) }
         ensures fewer { OnOk result (boxes_left self.new < boxes_left self.old) }
     {
@@ -202,8 +202,8 @@ impl Placing {
     fn needed(&self, trace: &Trace, thread: u8) -> Option<Point>
         requires placing { IsPlacing trace.now self.now }
         requires thread { thread < length trace.now.threads }
-        ensures ready { IfSome result (λ p. IsReady trace.now self.now thread p) }
-        ensures waits { IfNone result (IsWaiting trace.now self.now thread) }
+        ensures ready { IfSome result (λ p. IsPlaceable trace.now self.now thread p) }
+        ensures waits { IfNone result (IsWaitingBox trace.now self.now thread) }
     {
         let lane = self.lanes[thread as usize];
         match next_of(&self.boxes, lane.next, thread) {
@@ -215,8 +215,8 @@ impl Placing {
     // The first thread whose next box can be placed.
     fn first_ready(&self, trace: &Trace) -> Option<Ready>
         requires { IsPlacing trace.now self.now }
-        ensures ready { IfSome result (λ x. IsReady trace.now self.now x.thread x.needed) }
-        ensures waits { IfNone result ((t : ℕ) → IsWaiting trace.now self.now t) }
+        ensures ready { IfSome result (λ x. IsPlaceable trace.now self.now x.thread x.needed) }
+        ensures waits { IfNone result ((t : ℕ) → IsWaitingBox trace.now self.now t) }
     {
         for thread in 0..thread_count(trace) {
             if let Some(needed) = self.needed(trace, thread) {
@@ -231,7 +231,7 @@ impl Placing {
         requires coherent { AreCoherent trace.now }
         requires placing { IsPlacing trace.now self.old }
         requires thread { ready.thread < length trace.now.threads }
-        requires ready { IsReady trace.now self.old ready.thread ready.needed }
+        requires ready { IsPlaceable trace.now self.old ready.thread ready.needed }
         ensures placing { OnOk result (IsPlacing trace.now self.new) }
         ensures fewer { OnOk result (boxes_left self.new < boxes_left self.old) }
     {
@@ -262,7 +262,7 @@ impl Placing {
     pub fn circle(&self, trace: &Trace) -> Option<Circle>
         requires coherent { AreCoherent trace.now }
         requires stuck { IsStuck trace.now self.now }
-        ensures { MatchOption result ((t : ℕ) → IsOver self.now t) (λ c. IsCircleAt trace.now c.thread c.event) }
+        ensures { MatchOption result ((t : ℕ) → IsOverBox self.now t) (λ c. IsCircleAt trace.now c.thread c.event) }
     {
         for thread in 0..thread_count(trace) {
             let lane = self.lanes[thread as usize];

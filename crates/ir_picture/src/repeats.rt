@@ -2,7 +2,7 @@
 
 ghost use Rattle.std.specs.Prelude.{◌≡◌, ◌+◌, ◌<◌, Some, true, false, List, length, vec_len, slice_set, IfOk};
 ghost use Rattle.ir_log.specs.declared.event.Event.{Event};
-ghost use Rattle.ir_past.specs.Progress.{Fits};
+ghost use Rattle.ir_past.specs.Progress.{FitsSoFar};
 ghost use Rattle.ir_picture.specs.Boxing.{Notes, IsRepeat, version_noted, are_alike};
 
 use ir_log::Event;
@@ -103,7 +103,7 @@ impl Habits {
     /// Notes the next event of a log; what it repeats.
     pub fn note(&mut self, events: &[Event], place: usize) -> Repeat
         requires place { place < length events.now }
-        requires fits { Fits events.now (vec_len self.old.read) }
+        requires fits { FitsSoFar events.now (vec_len self.old.read) }
         requires notes { Notes events.now place self.old }
         ensures objects { vec_len self.new.read ≡ vec_len self.old.read }
         ensures notes { Notes events.now (place + 1) self.new }

@@ -6,8 +6,8 @@ ghost use Rattle.ir_files.specs.Writers.{writer_of, Reports, fault_text};
 ghost use Rattle.ir_files.specs.declared.exit_status.ExitStatus.TheVariants as status;
 ghost use Rattle.ir_past.specs.Answers.{AreCoherent, Answered, NotAnswered};
 ghost use Rattle.ir_picture.specs.Needs.{HasNoCircle, IsCircleAt};
-ghost use Rattle.ir_picture.specs.Progress.{IsOf};
-ghost use Rattle.ir_picture.specs.Answers.{IsPicture, IsForm, IsThere, IsViewAnswer, IsViewUnsaid, IsViewUnanswered, circle_line, many_line, view_status, view_fault_words};
+ghost use Rattle.ir_picture.specs.Progress.{IsOfPicture};
+ghost use Rattle.ir_picture.specs.Answers.{IsPicture, IsForm, IsThereIn, IsViewAnswer, IsViewUnsaid, IsViewUnanswered, circle_line, many_line, view_status, view_fault_words};
 ghost use Rattle.ir_picture.specs.declared.asked.Form.TheVariants as form;
 ghost use Rattle.ir_picture.specs.declared.view_err.ViewErr.{ViewErr};
 
@@ -59,7 +59,7 @@ fn write_page<O: Sink>(
     out: &mut O,
 ) -> Result<ExitStatus, PastErr>
     requires works { O.broken out.old ≡ false }
-    requires of_trace { IsOf trace.now picture.now }
+    requires of_trace { IsOfPicture trace.now picture.now }
     ensures ok { IfOk result (λ answered. Answered (IsForm form.Page trace.now near.now picture.now) answered (writer_of (O.written out.old) (O.written out.new) (O.broken out.new))) }
     ensures fails { IfErr result (λ e. NotAnswered (IsForm form.Page trace.now near.now picture.now) e (writer_of (O.written out.old) (O.written out.new) (O.broken out.new))) }
 {
@@ -80,7 +80,7 @@ fn write_plain<O: Sink>(
     out: &mut O,
 ) -> Result<ExitStatus, PastErr>
     requires works { O.broken out.old ≡ false }
-    requires of_trace { IsOf trace.now picture.now }
+    requires of_trace { IsOfPicture trace.now picture.now }
     ensures ok { IfOk result (λ answered. Answered (IsForm form.Data trace.now near.now picture.now) answered (writer_of (O.written out.old) (O.written out.new) (O.broken out.new))) }
     ensures fails { IfErr result (λ e. NotAnswered (IsForm form.Data trace.now near.now picture.now) e (writer_of (O.written out.old) (O.written out.new) (O.broken out.new))) }
 {
@@ -99,7 +99,7 @@ fn show_picture<O: Sink>(
 ) -> Result<ExitStatus, PastErr>
     requires works { O.broken out.old ≡ false }
     requires coherent { AreCoherent trace.now }
-    requires of_trace { IsOf trace.now picture.now }
+    requires of_trace { IsOfPicture trace.now picture.now }
     ensures ok { IfOk result (λ answered. Answered (IsForm (asked.now).form trace.now (asked.now).around picture.now) answered (writer_of (O.written out.old) (O.written out.new) (O.broken out.new))) }
     ensures fails { IfErr result (λ e. NotAnswered (IsForm (asked.now).form trace.now (asked.now).around picture.now) e (writer_of (O.written out.old) (O.written out.new) (O.broken out.new))) }
 {
@@ -114,7 +114,7 @@ fn show_picture<O: Sink>(
 fn judged(alloc: Global, trace: &Trace, asked: &Asked) -> Result<Result<Picture, Circle>, ViewErr>
     requires { AreCoherent trace.now }
     ensures ok { IfOk result (λ x. MatchResult x (λ p. HasNoCircle trace.now × IsPicture trace.now (asked.now).around p) (λ c. IsCircleAt trace.now c.thread c.event)) }
-    ensures there { OnOk result (IsThere trace.now (asked.now).around) }
+    ensures there { OnOk result (IsThereIn trace.now (asked.now).around) }
     ensures fails { IfErr result (IsViewUnsaid asked.now trace.now) }
 {
     is_there(trace, &asked.around)?;

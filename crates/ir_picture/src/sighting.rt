@@ -3,7 +3,7 @@
 ghost use Rattle.std.specs.Prelude.{◌≡◌, ◌+◌, ◌<◌, ℕ, Some, None, true, false, length, slice_set, IfSome, IfNone, OnOk, IfOk};
 ghost use Rattle.ir_trace.specs.Recorded.{recorded_thread};
 ghost use Rattle.ir_past.specs.Past.{entered};
-ghost use Rattle.ir_past.specs.Progress.{Fits, Makes};
+ghost use Rattle.ir_past.specs.Progress.{FitsSoFar, Makes};
 ghost use Rattle.ir_past.specs.Answers.{AreCoherent};
 ghost use Rattle.ir_picture.specs.Boxing.{AreSomeBoxes};
 ghost use Rattle.ir_picture.specs.Needs.{IsMakerOf};
@@ -61,7 +61,7 @@ fn turn(last: &mut [Option<u32>], found: Found) -> Option<u32>
 fn note(last: &mut [Option<u32>], trace: &Trace, here: Place) -> Option<Found>
     requires thread { here.thread < length trace.now.threads }
     requires event { here.event < length (recorded_thread trace.now here.thread).events }
-    requires fits { Fits (recorded_thread trace.now here.thread).events (length last.old) }
+    requires fits { FitsSoFar (recorded_thread trace.now here.thread).events (length last.old) }
     requires holds { HoldsEntries trace.now here.thread here.event last.old }
     ensures length { length last.new ≡ length last.old }
     ensures holds { HoldsEntries trace.now here.thread (here.event + 1) last.new }
@@ -134,7 +134,7 @@ fn add_event(
     requires makes { Makes trace.now (length trace.now.threads) 0 makers.now }
     requires thread { here.thread < length trace.now.threads }
     requires event { here.event < length (recorded_thread trace.now here.thread).events }
-    requires fits { Fits (recorded_thread trace.now here.thread).events (length last.old) }
+    requires fits { FitsSoFar (recorded_thread trace.now here.thread).events (length last.old) }
     requires holds { HoldsEntries trace.now here.thread here.event last.old }
     requires sights { SightsBefore trace.now boxes.now here.thread here.event sights.old.items }
     ensures length { length last.new ≡ length last.old }

@@ -2,8 +2,8 @@
 
 ghost use Rattle.std.specs.Prelude.{◌≡◌, ◌+◌, ◌<◌, ◌≤◌, ◌==◌, ◌&&◌, ◌^◌, ℕ, Some, None, if◌then◌else◌, length, vec_len, OnOk, IfOk};
 ghost use Rattle.ir_past.specs.Past.{entered};
-ghost use Rattle.ir_past.specs.Progress.{Fits};
-ghost use Rattle.ir_picture.specs.Placing.{later_of, unknown, version_at, version_in, made_by, after_needs, noted, noted_all};
+ghost use Rattle.ir_past.specs.Progress.{FitsSoFar};
+ghost use Rattle.ir_picture.specs.Placing.{later_of, unknown_version, version_at, version_in, made_by_box, after_needs, noted, noted_all};
 
 use crate::placed_box::Point;
 use ir_log::Event;
@@ -42,7 +42,7 @@ const UNKNOWN: Version = Version {
 impl Version {
     // After what made the version of this number, if that is placed; nothing made the first version.
     fn made_by(self, version: u32) -> Option<Point>
-        ensures { result ≡ made_by self version }
+        ensures { result ≡ made_by_box self version }
     {
         if version == 0 { Some(START) } else { self.made }
     }
@@ -57,7 +57,7 @@ pub struct Versions {
 impl Versions {
     // Nothing.
     fn new(alloc: Global) -> Versions
-        ensures { (v : ℕ) → version_at result v ≡ unknown }
+        ensures { (v : ℕ) → version_at result v ≡ unknown_version }
     {
         Versions {
             all: Vec::new(alloc),
@@ -110,7 +110,7 @@ impl Table {
     /// Out of memory.
     pub fn new(alloc: Global, objects: u8) -> Result<Table, AllocError>
         ensures objects { IfOk result (λ t. vec_len t.objects ≡ objects) }
-        ensures none { IfOk result (λ t. (o v : ℕ) → version_in t o v ≡ unknown) }
+        ensures none { IfOk result (λ t. (o v : ℕ) → version_in t o v ≡ unknown_version) }
     {
         let mut all = Vec::new(alloc);
         for _ in 0..objects {
@@ -211,7 +211,7 @@ impl Table {
     /// # Errors
     /// Out of memory.
     pub fn note_all(&mut self, events: &[Event], after: Point) -> Result<(), AllocError>
-        requires fits { Fits events.now (vec_len self.old.objects) }
+        requires fits { FitsSoFar events.now (vec_len self.old.objects) }
         requires room { (o v : ℕ) → (version_in self.old o v).readers + length events.now < 2 ^ 32 }
         ensures objects { OnOk result (vec_len self.new.objects ≡ vec_len self.old.objects) }
         ensures noted { OnOk result ((o v : ℕ) → version_in self.new o v ≡ noted_all events.now after (version_in self.old) o v) }

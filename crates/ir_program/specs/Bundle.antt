@@ -65,9 +65,9 @@ status_of TraceRefused = status.Refused
 status_of NotFit = status.NotFit
 
 -- a fault in words
-abbrev pub fault_words : ProgramErr → List ℕ
-fault_words BadLine = codes "a line of the image or the trace isn't whole bytes in at most 4194304 hexadecimal digits"
-fault_words NoMem = codes "memory ran out"
-fault_words Read = codes "standard input can't be read"
-fault_words Write = codes "standard output can't be written"
-fault_words TooLong = codes "1073741824 bytes were read, and nothing ended the session"
+abbrev pub program_fault_words : ProgramErr → List ℕ
+program_fault_words BadLine = codes "a line of the image or the trace isn't whole bytes in at most 4194304 hexadecimal digits"
+program_fault_words NoMem = codes "memory ran out"
+program_fault_words Read = codes "standard input can't be read"
+program_fault_words Write = codes "standard output can't be written"
+program_fault_words TooLong = codes "1073741824 bytes were read, and nothing ended the session"

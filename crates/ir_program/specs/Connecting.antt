@@ -7,11 +7,11 @@ use Rattle.ir_debug.specs.declared.ended.Ended.{Ended}
 use Rattle.ir_debug.specs.declared.ended.SessionErr.{SessionErr}
 use Rattle.ir_debug.specs.declared.ended.SessionErr.TheVariants as session
 use Rattle.ir_gdb.specs.Session.{Connected, Announced, RepliedWhole, RepliedInPart, IfNotRefused}
-use Rattle.ir_program.specs.Taking.{Reader}
+use Rattle.ir_program.specs.Taking.{TakenReader}
 use Rattle.ir_files.specs.Writers.{Writer}
 
 -- neither the reader nor the writer has failed, and the bytes that were read led to this result and to what was written
-pub record Led (image trace : List ℕ) (result : Result Ended SessionErr) (reader : Reader) (writer : Writer) : Type 0 where
+pub record Led (image trace : List ℕ) (result : Result Ended SessionErr) (reader : TakenReader) (writer : Writer) : Type 0 where
   pub reads : reader.failed ≡ false
   pub writes : writer.failed ≡ false
   pub known : IfSome reader.before (Connected image trace result writer.before writer.after)
@@ -24,14 +24,14 @@ TookOrFailed faults text = AppendsPrefix faults.before faults.after text
 
 -- A connection that ended so; `untouched` says that the reader and the writer are as they were, and `unreported` that no fault was reported. If
 -- nothing was opened, why is announced.
-pub record Closed (image trace : List ℕ) (ended : Ended) (reader : Reader) (writer faults : Writer) (untouched unreported : Type 0) : Type 0 where
+pub record Closed (image trace : List ℕ) (ended : Ended) (reader : TakenReader) (writer faults : Writer) (untouched unreported : Type 0) : Type 0 where
   pub led : Led image trace (Ok ended) reader writer
   pub unread : IfRefused (Ok ended) untouched
   pub announced : IfRefused (Ok ended) (Announced image trace (Ok ended) (TookOrFailed faults))
   pub quiet : IfNotRefused (Ok ended) unreported
 
 -- what a fault of a connection leaves
-abbrev pub Stopped : List ℕ → List ℕ → SessionErr → Reader → Writer → Type 0 → Type 0
+abbrev pub Stopped : List ℕ → List ℕ → SessionErr → TakenReader → Writer → Type 0 → Type 0
 Stopped image trace session.NoMem reader writer untouched = untouched
 Stopped image trace session.Read reader writer untouched = (reader.failed ≡ true) × (writer.failed ≡ false)
     × ReadsUpTo most_input reader.before reader.after (RepliedWhole image trace writer.before writer.after)

@@ -19,21 +19,21 @@ pub record TakesBytes (old new : Option (List ℕ)) (bytes : List ℕ) : Type 0 
   pub wrote : bytes_of_line line ≡ Some bytes
 
 -- bytes without a line feed
-abbrev pub IsPlain : List ℕ → Type 0
-IsPlain bytes = AllByRecursion (λ b. is_feed b ≡ false) bytes
+abbrev pub IsPlainLine : List ℕ → Type 0
+IsPlainLine bytes = AllByRecursion (λ b. is_feed b ≡ false) bytes
 
 -- a reader: the bytes that it had left before and after, and whether it has failed
-pub record Reader : Type 0 where
+pub record TakenReader : Type 0 where
   pub before : Option (List ℕ)
   pub after : Option (List ℕ)
   pub failed : Bool
 
-abbrev pub reader_of : Option (List ℕ) → Option (List ℕ) → Bool → Reader
+abbrev pub reader_of : Option (List ℕ) → Option (List ℕ) → Bool → TakenReader
 reader_of before after failed = record { before = before; after = after; failed = failed }
 
 -- no line feed was read
 abbrev pub IsInLine : Option (List ℕ) → Option (List ℕ) → Type 0
-IsInLine old new = (part : List ℕ) × IsPlain part × Consumes old new part
+IsInLine old new = (part : List ℕ) × IsPlainLine part × Consumes old new part
 
 -- neither the line of the image nor that of the trace was read whole
 abbrev pub IsInLines : Option (List ℕ) → Option (List ℕ) → Type 0
@@ -48,7 +48,7 @@ GivesNone Write line = ⊥
 GivesNone TooLong line = ⊥
 
 -- what taking a line leaves that gives no bytes
-abbrev pub LineFails : ProgramErr → Reader → Type 0
+abbrev pub LineFails : ProgramErr → TakenReader → Type 0
 LineFails BadLine reader = IfSome reader.before (λ input. bytes_of_line (line_of input) ≡ None) × (reader.failed ≡ false)
 LineFails NoMem reader = reader.failed ≡ false
 LineFails Read reader = (reader.failed ≡ true) × IsInLine reader.before reader.after

@@ -1,8 +1,8 @@
 //! A session over one stream: an image and a trace in hexadecimal, each in a line, and then commands.
 
 ghost use Rattle.std.specs.Prelude.{◌≡◌, ◌≢◌, IfOk, IfErr, OnOk, Ok, false};
-ghost use Rattle.ir_program.specs.Bundle.{status_of, fault_words};
-ghost use Rattle.ir_program.specs.Leaving.{Comes, Leaves};
+ghost use Rattle.ir_program.specs.Bundle.{status_of, program_fault_words};
+ghost use Rattle.ir_program.specs.Leaving.{ComesToEnd, LeavesAfterFault};
 ghost use Rattle.ir_files.specs.Writers.{writer_of, Reports, fault_text};
 ghost use Rattle.ir_files.specs.declared.exit_status.ExitStatus.TheVariants.{Failed};
 ghost use Rattle.ir_program.specs.declared.fault.ProgramErr.{ProgramErr};
@@ -42,11 +42,11 @@ pub fn bundled<H: Hands, R: Source, W: Sink>(
     requires reads { R.broken reader.old ≡ false }
     requires writes { W.broken writer.old ≡ false }
     // No device has failed, and the session of both lines read and wrote so.
-    ensures ok { IfOk result (λ ended. Comes (Ok ended)
+    ensures ok { IfOk result (λ ended. ComesToEnd (Ok ended)
         (reader_of (R.left reader.old) (R.left reader.new) (R.broken reader.new))
         (writer_of (W.written writer.old) (W.written writer.new) (W.broken writer.new))) }
     // What a fault leaves: what was read before it, and what had been written by then.
-    ensures fault { IfErr result (λ e. Leaves e
+    ensures fault { IfErr result (λ e. LeavesAfterFault e
         (reader_of (R.left reader.old) (R.left reader.new) (R.broken reader.new))
         (writer_of (W.written writer.old) (W.written writer.new) (W.broken writer.new)) (writer.new ≡ writer.old)) }
 {
@@ -81,14 +81,14 @@ pub fn bundle<H: Hands, R: Source, W: Sink, E: Sink>(
     requires writes { W.broken writer.old ≡ false }
     requires reports { E.broken faults.old ≡ false }
     // The status of a session that ended, whose bytes were written. No fault is reported.
-    ensures ended { result ≢ Failed → (e : Ended) × (result ≡ status_of e) × Comes (Ok e)
+    ensures ended { result ≢ Failed → (e : Ended) × (result ≡ status_of e) × ComesToEnd (Ok e)
         (reader_of (R.left reader.old) (R.left reader.new) (R.broken reader.new))
         (writer_of (W.written writer.old) (W.written writer.new) (W.broken writer.new)) × (faults.new ≡ faults.old) }
     // Else what stopped it, what that leaves, and that it is reported.
-    ensures stopped { result ≡ Failed → (e : ProgramErr) × Leaves e
+    ensures stopped { result ≡ Failed → (e : ProgramErr) × LeavesAfterFault e
         (reader_of (R.left reader.old) (R.left reader.new) (R.broken reader.new))
         (writer_of (W.written writer.old) (W.written writer.new) (W.broken writer.new)) (writer.new ≡ writer.old)
-        × Reports (writer_of (E.written faults.old) (E.written faults.new) (E.broken faults.new)) (fault_text (fault_words e)) }
+        × Reports (writer_of (E.written faults.old) (E.written faults.new) (E.broken faults.new)) (fault_text (program_fault_words e)) }
 {
     match bundled(hands, reader, writer) {
         Ok(ended) => status(ended),

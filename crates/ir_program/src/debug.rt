@@ -1,6 +1,11 @@
 //! `ir debug` and `ir gdb`: a session over an image and a trace in files.
 
-ghost use Rattle.std.specs.Prelude.{◌≡◌, false};
+ghost use Rattle.std.specs.Prelude.{◌≡◌, ◌⊎◌, OnOk, IfOk, IfErr, false};
+ghost use Rattle.std.specs.String.{string_bytes};
+ghost use Rattle.ir_commands.specs.Files.{IsFileIn, IsImageIn, IsUnreadStatus, OfImageAndTrace};
+ghost use Rattle.ir_files.specs.Writers.{writer_of};
+ghost use Rattle.ir_program.specs.Leaving.{HeldSession};
+ghost use Rattle.ir_program.specs.Taking.{reader_of};
 
 use crate::debugging::debug_run;
 use crate::gdb::gdb_run;
@@ -9,36 +14,81 @@ use ir_commands::{Surroundings, bytes_of, explain_files, image_in};
 use ir_files::{ExitStatus, Folder, MOST_FILE_BYTES};
 use ir_object::{Gate, Given};
 use ir_stream::{Sink, Source, next_byte};
+use std::alloc::Global;
 use std::thread::Threads;
 use std::time::Clock;
-
-/// What a session speaks.
-#[derive(Clone, Copy, Debug, PartialEq, Eq)]
-pub enum Speech {
-    /// Lines of commands.
-    Lines,
-    /// gdb's packets.
-    Packets,
-}
-
-/// A session that was asked for.
-#[derive(Clone, Copy)]
-pub struct Opening<'a> {
-    /// Its files.
-    pub arguments: &'a DebugArguments,
-    /// What it speaks.
-    pub speech: Speech,
-}
 
 // Whether nothing was opened.
 fn is_refusal(status: ExitStatus) -> bool {
     matches!(status, ExitStatus::Refused | ExitStatus::NotFit)
 }
 
-// A session of an image and a trace in files. If nothing is opened, it is reported why. One of gdb that opens nothing ends only once gdb has sent something.
+// The bytes of the image and of the trace that are named; if there are none, the reason is reported.
+fn read_files<D: Folder, E: Sink>(
+    alloc: Global,
+    folder: &D,
+    arguments: &DebugArguments,
+    faults: &mut E,
+) -> Result<(Vec<u8>, Vec<u8>), ExitStatus>
+    ensures kept { OnOk result (faults.new ≡ faults.old) }
+    ensures image { IfOk result (λ read. IsImageIn (D.bytes_at folder.now (string_bytes arguments.now.image)) read.0.items) }
+    ensures trace { IfOk result (λ read. IsFileIn (D.bytes_at folder.now (string_bytes arguments.now.trace)) read.1.items) }
+    ensures status { IfErr result IsUnreadStatus }
+{
+    let image = image_in(alloc, folder, faults, arguments.image.as_str())?;
+    match bytes_of(
+        alloc,
+        folder,
+        faults,
+        arguments.trace.as_str(),
+        MOST_FILE_BYTES,
+    ) {
+        Some(trace) => Ok((image, trace)),
+        None => Err(ExitStatus::Failed),
+    }
+}
+
+/// The session of lines of an image and a trace in files: what `debug_run` does with their bytes. If nothing is opened, it is reported why.
 pub fn debug_files<R, D, G, I, O, E>(
     around: &Surroundings<'_, R, D, G>,
-    opening: Opening<'_>,
+    arguments: &DebugArguments,
+    reader: &mut I,
+    out: &mut O,
+    faults: &mut E,
+) -> ExitStatus
+where
+    R: Threads + Clock + Sync + AllocGlobal,
+    D: Folder,
+    G: Gate + Sync,
+    I: Source,
+    O: Sink,
+    E: Sink,
+    requires reads { I.broken reader.old ≡ false }
+    requires writes { O.broken out.old ≡ false }
+    requires reports { E.broken faults.old ≡ false }
+    // The bytes of the files were read, and their session was held; or nothing was read of the reader, and nothing written.
+    ensures { OfImageAndTrace (D.bytes_at around.now.folder.now (string_bytes arguments.now.image)) (D.bytes_at around.now.folder.now (string_bytes arguments.now.trace))
+        (λ image trace. HeldSession image trace result (reader_of (I.left reader.old) (I.left reader.new) (I.broken reader.new))
+        (writer_of (O.written out.old) (O.written out.new) (O.broken out.new)) ((reader.new ≡ reader.old) × (out.new ≡ out.old)))
+        ⊎ (IsUnreadStatus result × (reader.new ≡ reader.old) × (out.new ≡ out.old)) }
+{
+    let alloc = around.rt.alloc();
+    let (image, trace) = match read_files(alloc, around.folder, arguments, faults) {
+        Ok(files) => files,
+        Err(status) => return status,
+    };
+    let (image, trace) = (image.as_slice(), trace.as_slice());
+    let hands = Given::new(around.rt, alloc, around.gate);
+    let status = debug_run(&hands, image, trace, reader, out, faults);
+    explain_files(alloc, image, trace, status, faults);
+    status
+}
+
+/// The connection of gdb to a recorded run, of an image and a trace in files: what `gdb_run` does with their bytes. If nothing is opened, it is
+/// reported why, and it ends only once gdb has sent something.
+pub fn gdb_files<R, D, G, I, O, E>(
+    around: &Surroundings<'_, R, D, G>,
+    arguments: &DebugArguments,
     reader: &mut I,
     out: &mut O,
     faults: &mut E,
@@ -55,29 +105,15 @@ where
     requires reports { E.broken faults.old ≡ false }
 {
     let alloc = around.rt.alloc();
-    let folder = around.folder;
-    let arguments = opening.arguments;
-    let image = match image_in(alloc, folder, faults, arguments.image.as_str()) {
-        Ok(image) => image,
+    let (image, trace) = match read_files(alloc, around.folder, arguments, faults) {
+        Ok(files) => files,
         Err(status) => return status,
-    };
-    let Some(trace) = bytes_of(
-        alloc,
-        folder,
-        faults,
-        arguments.trace.as_str(),
-        MOST_FILE_BYTES,
-    ) else {
-        return ExitStatus::Failed;
     };
     let (image, trace) = (image.as_slice(), trace.as_slice());
     let hands = Given::new(around.rt, alloc, around.gate);
-    let status = match opening.speech {
-        Speech::Lines => debug_run(&hands, image, trace, reader, out, faults),
-        Speech::Packets => gdb_run(&hands, image, trace, reader, out, faults),
-    };
+    let status = gdb_run(&hands, image, trace, reader, out, faults);
     explain_files(alloc, image, trace, status, faults);
-    if opening.speech == Speech::Packets && is_refusal(status) {
+    if is_refusal(status) {
         // gdb shows why only if its first packet can still be sent.
         let _ = next_byte(reader);
     }

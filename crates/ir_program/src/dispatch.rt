@@ -3,14 +3,14 @@
 ghost use Rattle.std.specs.Prelude.{◌≡◌, false};
 
 use crate::bundles::bundle;
-use crate::debug::{Opening, Speech, debug_files};
+use crate::debug::{debug_files, gdb_files};
 use crate::ends_once::EndsOnce;
 use crate::prompting::Prompting;
 use ir_arguments::{Asked, Make, Print, parsed};
 use ir_commands::{
     Surroundings, assemble_file, convert_file, diff_files, events_file, explain_image,
     explore_file, hunt_file, list_file, record_file, say, stale_file, trace_file, until_file,
-    view_file, who_file, why_file,
+    view_file, who_file, why_file, within_file,
 };
 use ir_files::{ExitStatus, Folder};
 use ir_object::{Gate, Given, Hands};
@@ -138,6 +138,12 @@ where
         Print::Why(arguments) => why_file(alloc, folder, arguments, out, faults),
         Print::Diff(arguments) => diff_files(alloc, folder, arguments, out, faults),
         Print::View(arguments) => view_file(alloc, folder, arguments, out, faults),
+        Print::Within(arguments) => {
+            let status = within_file(around, arguments, out, faults);
+            let image = arguments.explore.image.as_str();
+            let status = over_image(alloc, folder, image, status, faults);
+            over_image(alloc, folder, arguments.other.as_str(), status, faults)
+        }
         Print::Outcomes(arguments) => {
             let status = explore_file(around, arguments, out, faults);
             let image = arguments.image.as_str();
@@ -189,19 +195,11 @@ where
         }
         Asked::Debug(arguments) => {
             let mut input = Prompting::new(input, rt, terminals.input);
-            let opening = Opening {
-                arguments: &arguments,
-                speech: Speech::Lines,
-            };
-            debug_files(&around, opening, &mut input, out, faults)
+            debug_files(&around, &arguments, &mut input, out, faults)
         }
         Asked::Gdb(arguments) => {
             let mut input = input;
-            let opening = Opening {
-                arguments: &arguments,
-                speech: Speech::Packets,
-            };
-            debug_files(&around, opening, &mut input, out, faults)
+            gdb_files(&around, &arguments, &mut input, out, faults)
         }
         Asked::Print(mut what) => print(&around, &mut what, out, faults),
         Asked::Help(text) => help(text.as_str(), out, faults),

@@ -22,11 +22,11 @@ pub enum ProgramErr {
 }
 
 impl ProgramErr {
-    ghost use Rattle.ir_program.specs.Bundle.{fault_words};
+    ghost use Rattle.ir_program.specs.Bundle.{program_fault_words};
 
     /// The fault in words.
     pub fn words(self) -> &'static str
-        ensures { result.now ≡ fault_words self }
+        ensures { result.now ≡ program_fault_words self }
     {
         match self {
             ProgramErr::BadLine => {
@@ -41,9 +41,9 @@ impl ProgramErr {
 }
 
 impl From<SessionErr> for ProgramErr {
-    ghost use Rattle.ir_program.specs.Leaving.{fault_of};
+    ghost use Rattle.ir_program.specs.Leaving.{session_fault};
 
-    ghost from_gives = { λ e f. f ≡ fault_of e };
+    ghost from_gives = { λ e f. f ≡ session_fault e };
 
     fn from(e: SessionErr) -> ProgramErr {
         match e {

@@ -1,9 +1,9 @@
 //! gdb's protocol over an image and a trace.
 
 ghost use Rattle.std.specs.Prelude.{◌≡◌, ◌≢◌, false};
-ghost use Rattle.ir_program.specs.Bundle.{status_of, fault_words};
+ghost use Rattle.ir_program.specs.Bundle.{status_of, program_fault_words};
 ghost use Rattle.ir_program.specs.Connecting.{Closed, Stopped};
-ghost use Rattle.ir_program.specs.Leaving.{fault_of};
+ghost use Rattle.ir_program.specs.Leaving.{session_fault};
 ghost use Rattle.ir_program.specs.Taking.{reader_of};
 ghost use Rattle.ir_files.specs.Writers.{writer_of, Reports, fault_text};
 ghost use Rattle.ir_files.specs.declared.exit_status.ExitStatus.TheVariants.{Failed};
@@ -40,7 +40,7 @@ pub fn gdb_run<H: Hands, R: Source, W: Sink, E: Sink>(
     ensures stopped { result ≡ Failed → (e : SessionErr) × Stopped image.now trace.now e
         (reader_of (R.left reader.old) (R.left reader.new) (R.broken reader.new))
         (writer_of (W.written writer.old) (W.written writer.new) (W.broken writer.new)) ((reader.new ≡ reader.old) × (writer.new ≡ writer.old))
-        × Reports (writer_of (E.written faults.old) (E.written faults.new) (E.broken faults.new)) (fault_text (fault_words (fault_of e))) }
+        × Reports (writer_of (E.written faults.old) (E.written faults.new) (E.broken faults.new)) (fault_text (program_fault_words (session_fault e))) }
 {
     match connect(hands, image, trace, reader, writer, faults) {
         Ok(ended) => status(ended),

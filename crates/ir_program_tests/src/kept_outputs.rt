@@ -39,7 +39,9 @@ impl KeptOutputs {
 
     // Keeps a copy.
     fn add(&mut self, thread: usize, bytes: &[u8]) -> Result<(), AllocError>
-        ensures ok { OnOk result (map {B = Printed} (λ o. (o.thread, o.bytes.items)) self.new.each.items ≡ map {B = Printed} (λ o. (o.thread, o.bytes.items)) self.old.each.items ++ (thread, bytes.now) ∷ []) }
+        ensures ok { OnOk result
+            (map {B = Printed} (λ o. (o.thread, o.bytes.items)) self.new.each.items
+            ≡ map {B = Printed} (λ o. (o.thread, o.bytes.items)) self.old.each.items ++ (thread, bytes.now) ∷ []) }
         ensures err { OnErr result (self.new.each.items ≡ self.old.each.items) }
         ensures failed { self.new.failed ≡ self.old.failed }
     {

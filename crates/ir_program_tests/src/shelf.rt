@@ -232,7 +232,8 @@ impl<'a> Folder for &'a Shelf {
     ghost known_closed = { λ t. record { path = Some (string_bytes t.path); bytes = Some t.given.items } };
 
     // The file that is pinned is put nowhere, and nothing is put in its place.
-    ghost was_put = { λ s from to. is_none (pinned_bytes (λ p. string_bytes p.path) (λ p. p.bytes.items) s.now.pinned from) && is_none (pinned_bytes (λ p. string_bytes p.path) (λ p. p.bytes.items) s.now.pinned to) };
+    ghost was_put = { λ s from to. is_none (pinned_bytes (λ p. string_bytes p.path) (λ p. p.bytes.items) s.now.pinned from)
+        && is_none (pinned_bytes (λ p. string_bytes p.path) (λ p. p.bytes.items) s.now.pinned to) };
 
     fn open(&self, path: &str) -> io::Result<Taken<'a>> {
         let pinned = self.pinned_at(path);

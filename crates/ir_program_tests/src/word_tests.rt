@@ -2,7 +2,7 @@
 
 use crate::device_tests::{ENDLESS, Page, empty_page};
 use crate::rests_tests::{IMAGE, TRACE};
-use ir_word::{Question, word_fit_run};
+use ir_who_word::{Question, word_fit_run};
 use std::test::Fail;
 
 // Version 2 has the word of version 1.

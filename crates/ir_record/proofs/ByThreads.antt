@@ -18,17 +18,17 @@ use Rattle.ir_thread.specs.State as thread
 use Rattle.ir_thread.specs.declared.ask.Ask.TheVariants as ask
 use Rattle.ir_object.specs.Cell.{Cell}
 use Rattle.ir_object.specs.Empty.{empty}
-use Rattle.ir_object.specs.Order.{Shared, of_thread, order_labels, IsAllowed}
-use Rattle.ir_object.proofs.CallerLemmas.{legal_order_is_allowed, no_steps_of_missing_thread}
-use Rattle.ir_image.proofs.CallerLemmas.{get_or_zero_of_padded_is_unchanged}
-use Rattle.ir_crew.specs.Ends.{AreTracks, IsEnd}
+use Rattle.ir_object.specs.Order.{Shared, of_thread, order_labels, IsAllowedStep}
+use Rattle.ir_object.proofs.CallerLemmas.{legal_order_is_allowed, missing_thread_no_steps}
+use Rattle.ir_image.proofs.CallerLemmas.{get_or_zero-padded}
+use Rattle.ir_crew.specs.Ends.{AreCrewTracks, IsCrewEnd}
 use Rattle.ir_crew.specs.Plays.{M}
-use Rattle.ir_crew.specs.Rule.{View, IsTrack, start_objects}
+use Rattle.ir_crew.specs.Rule.{CrewView, IsTrackOfRule, start_objects}
 use Rattle.ir_flat.specs.Flat.{Flat, thread_of, cell_of, tables, idle, start_flat, start_threads, start_cells, MayRun, alone_after}
 use Rattle.ir_runs.specs.Run.{State, Step, events, log}
 use Rattle.ir_flat.specs.Splice.{shared_steps, splice}
 use Rattle.ir_flat.specs.Trails.{alone_trail}
-use Rattle.ir_flat.proofs.CallerLemmas.{length_of_start_cells, start_cell_has_zero_fields, start_cell_has_first_words, no_thread_inside_at_start, guest_start_is_idle, splice_is_run_with_trails}
+use Rattle.ir_flat.proofs.CallerLemmas.{length_of_start_cells, start_fields_are_zero, start_words_are_first, none_inside_at_start, guest_start_is_idle, splice_runs_with_trails, get_or-start_threads}
 use Rattle.ir_log.specs.Logged.{Logged}
 use Rattle.ir_log.specs.Logging as logging
 use Rattle.ir_trace.specs.Recorded.{Recorded}
@@ -37,92 +37,85 @@ use Rattle.ir_record.specs.Gathered.{IsThreadTrace}
 use Rattle.ir_record.specs.Progress.{no_log}
 use Rattle.ir_record.specs.Worlds.{answers_at, AnsweredCall, answers_in}
 use Rattle.ir_record.specs.Recordings.{IsRecordingOfSome}
-use Rattle.ir_record.specs.Working.{Work, IsWorking}
+use Rattle.ir_record.specs.Working.{WorkerWork, IsWorking}
 use Rattle.ir_record.proofs.Telling.{StandAtEnd, emitted_there, printed_there, answered_there}
 
 -- ---- the start
 
-start_thread_at_index_is_start_state : (g : Guest) (budget : ℕ) (profile : Profile) (from n t : ℕ) → t < n
-    → get_or (start_threads g budget profile from n) t idle ≡ thread.start_state g (from + t) budget profile
-start_thread_at_index_is_start_state g budget profile from zero t l = absurd (omega arith)
-start_thread_at_index_is_start_state g budget profile from (suc n) zero l = ap (λ z. thread.start_state g z budget profile) (let e : from ≡ from + 0 = omega arith in e)
-start_thread_at_index_is_start_state g budget profile from (suc n) (suc t) l = start_thread_at_index_is_start_state g budget profile (suc from) n t (omega (arith, l))
-    ∙ ap (λ z. thread.start_state g z budget profile) (let e : suc from + t ≡ from + suc t = omega arith in e)
-
 -- an object that the guest doesn't have has no words
-words_within_limit_times_count_if_quotient_within_count : (form : ImageForm) (words o : ℕ) → words % (limits_of form).words ≡ 0 → words / (limits_of form).words ≤ o
+words_within_objects : (form : ImageForm) (words o : ℕ) → words % (limits_of form).words ≡ 0 → words / (limits_of form).words ≤ o
     → words ≤ (limits_of form).words * o
-words_within_limit_times_count_if_quotient_within_count Small words o whole past = omega (arith, whole, past)
-words_within_limit_times_count_if_quotient_within_count Large words o whole past = omega (arith, whole, past)
+words_within_objects Small words o whole past = omega (arith, whole, past)
+words_within_objects Large words o whole past = omega (arith, whole, past)
 
-drop_past_length_is_empty : (k : ℕ) (ws : List ℕ) → length ws ≤ k → drop k ws ≡ []
-drop_past_length_is_empty zero [] l = refl
-drop_past_length_is_empty zero (w ∷ ws) l = absurd (omega (arith, l))
-drop_past_length_is_empty (suc k) [] l = refl
-drop_past_length_is_empty (suc k) (w ∷ ws) l = drop_past_length_is_empty k ws (omega (arith, l))
+drop_past_end : (k : ℕ) (ws : List ℕ) → length ws ≤ k → drop k ws ≡ []
+drop_past_end zero [] l = refl
+drop_past_end zero (w ∷ ws) l = absurd (omega (arith, l))
+drop_past_end (suc k) [] l = refl
+drop_past_end (suc k) (w ∷ ws) l = drop_past_end k ws (omega (arith, l))
 
 take_of_empty : (k : ℕ) → take {A = ℕ} k [] ≡ []
 take_of_empty zero = refl
 take_of_empty (suc k) = refl
 
-first_words_of_missing_object_are_zero : (g : Guest) (o j : ℕ) → IsGuest g → object_count g ≤ o → get_or (first_words g o) j 0 ≡ 0
-first_words_of_missing_object_are_zero g o j guest past = get_or_zero_of_padded_is_unchanged (take (object_words g) (drop (object_words g * o) g.words)) j
+missing_words_are_zero : (g : Guest) (o j : ℕ) → IsGuest g → object_count g ≤ o → get_or (first_words g o) j 0 ≡ 0
+missing_words_are_zero g o j guest past = get_or_zero-padded (take (object_words g) (drop (object_words g * o) g.words)) j
     ∙ ap (λ ws. get_or (take (object_words g) ws) j 0)
-    (drop_past_length_is_empty (object_words g * o) g.words (words_within_limit_times_count_if_quotient_within_count g.form (length g.words) o guest.whole_objects past))
+    (drop_past_end (object_words g * o) g.words (words_within_objects g.form (length g.words) o guest.whole_objects past))
     ∙ ap (λ ws. get_or ws j 0) (take_of_empty (object_words g))
 
-start_tables_have_start_objects : (g : Guest) (budget : ℕ) (profile : Profile) → IsGuest g → (tables (start_flat g budget profile)).objects ≡ start_objects g
-start_tables_have_start_objects g budget profile guest = fun_ext (λ o. λ i. record {
-  version = ap (λ f. f.version) (start_cell_has_zero_fields g 0 (object_count g) o) i;
-  left = ap (λ f. f.left) (start_cell_has_zero_fields g 0 (object_count g) o) i;
-  inside = fun_ext (λ t. no_thread_inside_at_start g budget profile o t) i;
+start_tables_objects : (g : Guest) (budget : ℕ) (profile : Profile) → IsGuest g → (tables (start_flat g budget profile)).objects ≡ start_objects g
+start_tables_objects g budget profile guest = fun_ext (λ o. λ i. record {
+  version = ap (λ f. f.version) (start_fields_are_zero g 0 (object_count g) o) i;
+  left = ap (λ f. f.left) (start_fields_are_zero g 0 (object_count g) o) i;
+  inside = fun_ext (λ t. none_inside_at_start g budget profile o t) i;
   words = fun_ext (contents o) i;
 })
   where
     contents : (o j : ℕ) → get_or (cell_of (start_flat g budget profile) o).words j 0 ≡ get_or (first_words g o) j 0
     contents o j = elim (cases_lt o (object_count g)) [
-      | inl l ↦ ap (λ ws. get_or ws j 0) (start_cell_has_first_words g 0 (object_count g) o l ∙ ap (first_words g) (let e : 0 + o ≡ o = omega arith in e))
+      | inl l ↦ ap (λ ws. get_or ws j 0) (start_words_are_first g 0 (object_count g) o l ∙ ap (first_words g) (let e : 0 + o ≡ o = omega arith in e))
       | inr past ↦ ap (λ c. get_or c.words j 0) (get_or_past (start_cells g 0 (object_count g)) o empty
           (let n = length_of_start_cells g 0 (object_count g) in omega (arith, n, past)))
-          ∙ sym (first_words_of_missing_object_are_zero g o j guest past)
+          ∙ sym (missing_words_are_zero g o j guest past)
     ]
 
 -- ---- the workers at the end
 
-abbrev pub no_work : Work
+abbrev pub no_work : WorkerWork
 no_work = record { me = ([], []); thread = idle; log = no_log; answers = [] }
 
-abbrev pub work_at : List Work → ℕ → Work
+abbrev pub work_at : List WorkerWork → ℕ → WorkerWork
 work_at ws t = get_or ws t no_work
 
 -- the tracks of all
-abbrev pub tracks_of : List Work → View
+abbrev pub tracks_of : List WorkerWork → CrewView
 tracks_of [] = []
 tracks_of (w ∷ ws) = w.me.0 ++ tracks_of ws
 
-left_part_of_joined_views_has_tracks : (g : Guest) (es : List (ℕ × Shared)) (v w : View) → AreTracks g es (v ++ w) → AreTracks g es v
-left_part_of_joined_views_has_tracks g es [] w h = tt
-left_part_of_joined_views_has_tracks g es (k ∷ v) w h = (h.0, left_part_of_joined_views_has_tracks g es v w h.1)
+left_views_have_tracks : (g : Guest) (es : List (ℕ × Shared)) (v w : CrewView) → AreCrewTracks g es (v ++ w) → AreCrewTracks g es v
+left_views_have_tracks g es [] w h = tt
+left_views_have_tracks g es (k ∷ v) w h = (h.0, left_views_have_tracks g es v w h.1)
 
-right_part_of_joined_views_has_tracks : (g : Guest) (es : List (ℕ × Shared)) (v w : View) → AreTracks g es (v ++ w) → AreTracks g es w
-right_part_of_joined_views_has_tracks g es [] w h = h
-right_part_of_joined_views_has_tracks g es (k ∷ v) w h = right_part_of_joined_views_has_tracks g es v w h.1
+right_views_have_tracks : (g : Guest) (es : List (ℕ × Shared)) (v w : CrewView) → AreCrewTracks g es (v ++ w) → AreCrewTracks g es w
+right_views_have_tracks g es [] w h = h
+right_views_have_tracks g es (k ∷ v) w h = right_views_have_tracks g es v w h.1
 
-worker_view_has_tracks_if_all_have : (g : Guest) (es : List (ℕ × Shared)) (ws : List Work) (t : ℕ) → t < length ws → AreTracks g es (tracks_of ws)
-    → AreTracks g es (work_at ws t).me.0
-worker_view_has_tracks_if_all_have g es [] t l h = absurd (omega arith)
-worker_view_has_tracks_if_all_have g es (w ∷ ws) zero l h = left_part_of_joined_views_has_tracks g es w.me.0 (tracks_of ws) h
-worker_view_has_tracks_if_all_have g es (w ∷ ws) (suc t) l h = worker_view_has_tracks_if_all_have g es ws t (omega (arith, l)) (right_part_of_joined_views_has_tracks g es w.me.0 (tracks_of ws) h)
+worker_view_tracks : (g : Guest) (es : List (ℕ × Shared)) (ws : List WorkerWork) (t : ℕ) → t < length ws → AreCrewTracks g es (tracks_of ws)
+    → AreCrewTracks g es (work_at ws t).me.0
+worker_view_tracks g es [] t l h = absurd (omega arith)
+worker_view_tracks g es (w ∷ ws) zero l h = left_views_have_tracks g es w.me.0 (tracks_of ws) h
+worker_view_tracks g es (w ∷ ws) (suc t) l h = worker_view_tracks g es ws t (omega (arith, l)) (right_views_have_tracks g es w.me.0 (tracks_of ws) h)
 
 -- what the workers of all threads have done
-pub record AllWorkDone (g : Guest) (budget : ℕ) (profile : Profile) (before : List (List AnsweredCall)) (ws : List Work) : Type 0 where
+pub record AllWorkDone (g : Guest) (budget : ℕ) (profile : Profile) (before : List (List AnsweredCall)) (ws : List WorkerWork) : Type 0 where
   pub guest : IsGuest g
   pub size : length ws ≡ length g.entries
   pub working : (t : ℕ) → t < length g.entries → IsWorking g budget profile t (answers_at before t) (work_at ws t)
   pub done : (t : ℕ) → t < length g.entries → ask_of g.code (work_at ws t).thread ≡ ask.Done
 
 -- the part of thread t in an order of all object steps
-record ThreadPart (g : Guest) (budget : ℕ) (profile : Profile) (ws : List Work) (es : List (ℕ × Shared)) (t : ℕ) : Type 0 where
+record ThreadPart (g : Guest) (budget : ℕ) (profile : Profile) (ws : List WorkerWork) (es : List (ℕ × Shared)) (t : ℕ) : Type 0 where
   replies : List ℕ
   may : MayRun (thread_machine g.code) (thread_of (start_flat g budget profile) t) replies
   steps_are : shared_steps (thread_machine g.code) (thread_of (start_flat g budget profile) t) replies ≡ of_thread t es
@@ -133,18 +126,18 @@ record ThreadPart (g : Guest) (budget : ℕ) (profile : Profile) (ws : List Work
   logged : t < length g.entries → events (alone_trail (thread_machine g.code) (thread_of (start_flat g budget profile) t) replies
       (of_thread t (order_labels (start_objects g) es))) ≡ map logging.label_of (work_at ws t).log.events
 
-module _ {g : Guest} {budget : ℕ} {profile : Profile} {before : List (List AnsweredCall)} {ws : List Work} {v : View} {objects : List Cell}
-    (over : AllWorkDone g budget profile before ws) (e : IsEnd g v objects) (view : v ≡ tracks_of ws) where
+module _ {g : Guest} {budget : ℕ} {profile : Profile} {before : List (List AnsweredCall)} {ws : List WorkerWork} {v : CrewView} {objects : List Cell}
+    (over : AllWorkDone g budget profile before ws) (e : IsCrewEnd g v objects) (view : v ≡ tracks_of ws) where
   part : (t : ℕ) → ThreadPart g budget profile ws e.steps t
   part t = elim (cases_lt t (length g.entries)) [
     | inl l ↦
         let i = over.working t l in
         let x0 : thread_of (start_flat g budget profile) t ≡ thread.start_state g t budget profile =
-        start_thread_at_index_is_start_state g budget profile 0 (length g.entries) t l
+        get_or-start_threads g budget profile 0 (length g.entries) t l
         ∙ ap (λ z. thread.start_state g z budget profile) (let z : 0 + t ≡ t = omega arith in z) in
-        let track : IsTrack (length g.entries) (start_objects g) e.steps (record { thread = t; steps = i.track }) =
-        (subst (AreTracks g e.steps) (ap (λ (z : M). z.0) i.view)
-        (worker_view_has_tracks_if_all_have g e.steps ws t (let n = over.size in omega (arith, n, l)) (subst (AreTracks g e.steps) view e.tracks))).0 in
+        let track : IsTrackOfRule (length g.entries) (start_objects g) e.steps (record { thread = t; steps = i.track }) =
+        (subst (AreCrewTracks g e.steps) (ap (λ (z : M). z.0) i.view)
+        (worker_view_tracks g e.steps ws t (let n = over.size in omega (arith, n, l)) (subst (AreCrewTracks g e.steps) view e.tracks))).0 in
         let m = thread_machine g.code in
         let w = i.worked in
         record {
@@ -161,7 +154,7 @@ module _ {g : Guest} {budget : ℕ} {profile : Profile} {before : List (List Ans
     | inr past ↦ record {
       replies = [];
       may = tt;
-      steps_are = sym (no_steps_of_missing_thread (thread_machine g.code) (length g.entries) (object_count g) (start_objects g) e.steps e.legal t past);
+      steps_are = sym (missing_thread_no_steps (thread_machine g.code) (length g.entries) (object_count g) (start_objects g) e.steps e.legal t past);
       none = λ _. refl;
       done = guest_start_is_idle g budget profile t past;
       threads_are = λ l. absurd (omega (arith, past, l));
@@ -180,10 +173,10 @@ module _ {g : Guest} {budget : ℕ} {profile : Profile} {before : List (List Ans
       let f : Flat = start_flat g budget profile in
       let s : State thread.ThreadState = tables f in
       let rs : ℕ → List ℕ = λ t. (part t).replies in
-      let same : s.objects ≡ start_objects g = start_tables_have_start_objects g budget profile over.guest in
+      let same : s.objects ≡ start_objects g = start_tables_objects g budget profile over.guest in
       let run : List Step = splice m s.now rs (length g.entries) e.steps in
-      let k = splice_is_run_with_trails m s.now s.objects rs (length g.entries) e.steps (λ t l. (part t).none l) (λ t. (part t).may)
-      (λ t. (part t).steps_are) (subst (λ z. IsAllowed m z e.steps) (sym same)
+      let k = splice_runs_with_trails m s.now s.objects rs (length g.entries) e.steps (λ t l. (part t).none l) (λ t. (part t).may)
+      (λ t. (part t).steps_are) (subst (λ z. IsAllowedStep m z e.steps) (sym same)
       (legal_order_is_allowed m (length g.entries) (object_count g) (start_objects g) e.steps e.legal)) in
       let now : ℕ → thread.ThreadState = λ t. (work_at ws t).thread in
       let logs : ℕ → Logged = λ t. (work_at ws t).log in

@@ -19,17 +19,18 @@ use Rattle.ir_trace.specs.Absent.{absent}
 use Rattle.ir_record.specs.Gathered.{IsThreadTrace}
 use Rattle.ir_record.specs.Worlds.{answers_at, AnsweredCall, answers_in, NoneFailed, AreSameWorlds}
 use Rattle.ir_record.specs.Recording.{WentOn, EachWentOn}
-use Rattle.ir_record.specs.Threads.{IsNew, AreNew, IsOver, AreTraces, HasRoom, IsSeatOf, views_of}
-use Rattle.ir_record.specs.Working.{Work, work_of, IsWorking, IsReadyWorker, RanToEnd}
+use Rattle.ir_record.specs.Threads.{IsNewThread, AreNew, IsOver, AreTraces, HasRoomForThread, IsSeatOf, views_of}
+use Rattle.ir_record.specs.Working.{WorkerWork, work_of_worker, IsWorking, IsReadyWorker, RanToEnd}
 use Rattle.ir_record.specs.declared.by_threads.buffers.Buffers.{Buffers}
 use Rattle.ir_record.specs.declared.by_threads.worker.Worker.{Worker}
 use Rattle.ir_record.proofs.ByThreads.{AllWorkDone, work_at, tracks_of}
-use Rattle.ir_record.proofs.Working.{worked_by_no_replies, logged_answers_are_alone_answers}
+use Rattle.ir_record.proofs.Working.{worked_by_no_replies, logged_answers_alone}
+use Rattle.ir_lemmas.proofs.CallerLemmas.{related_same_length}
 
 -- ---- before the first step
 
-new_worker_is_working : {W : Type 0} (answers : W → List AnsweredCall) (g : Guest) (budget : ℕ) (profile : Profile) (t : ℕ) (id : TableId) (w : Worker W) → IsNew g budget profile id t w
-    → IsWorking g budget profile t (answers w.world) (work_of answers w)
+new_worker_is_working : {W : Type 0} (answers : W → List AnsweredCall) (g : Guest) (budget : ℕ) (profile : Profile) (t : ℕ) (id : TableId) (w : Worker W) → IsNewThread g budget profile id t w
+    → IsWorking g budget profile t (answers w.world) (work_of_worker answers w)
 new_worker_is_working answers g budget profile t id w new = record {
   track = [];
   view = new.me;
@@ -78,12 +79,6 @@ pub map_map : {A B C : Type 0} (f : B → C) (h : A → B) (xs : List A) → map
 map_map f h [] = refl
 map_map f h (x ∷ xs) = ap (λ z. f (h x) ∷ z) (map_map f h xs)
 
-lists_related_in_pairs_have_equal_length : {A : Type 0} (P : A → A → Type 0) (xs ys : List A) → AllZip P xs ys → length ys ≡ length xs
-lists_related_in_pairs_have_equal_length P [] [] p = refl
-lists_related_in_pairs_have_equal_length P [] (y ∷ ys) p = absurd p
-lists_related_in_pairs_have_equal_length P (x ∷ xs) [] p = absurd p
-lists_related_in_pairs_have_equal_length P (x ∷ xs) (y ∷ ys) p = ap suc (lists_related_in_pairs_have_equal_length P xs ys p.1)
-
 -- no world has failed
 abbrev pub NoneBroken : {W : Type 0} → (W → Bool) → List (Worker W) → Type 0
 NoneBroken broken ws = (t : ℕ) → get_or (map (λ w. broken w.world) ws) t false ≡ false
@@ -94,18 +89,18 @@ module _ {W O : Type 0} (answers : W → List AnsweredCall) (broken : W → Bool
 
   at_end : (t : ℕ) (vs ws : List (Worker W)) → AreNew g budget profile id t vs → AllZip R vs ws → (k : ℕ) → k < length vs
       → get_or (map (λ w. broken w.world) ws) k false ≡ false
-      → IsWorking g budget profile (t + k) (answers_at (map answers (map (λ w. w.world) vs)) k) (work_at (map (work_of answers) ws) k)
-      × (ask_of g.code (work_at (map (work_of answers) ws) k).thread ≡ ask.Done)
+      → IsWorking g budget profile (t + k) (answers_at (map answers (map (λ w. w.world) vs)) k) (work_at (map (work_of_worker answers) ws) k)
+      × (ask_of g.code (work_at (map (work_of_worker answers) ws) k).thread ≡ ask.Done)
   at_end t [] ws new p k l works = absurd (omega arith)
   at_end t (v ∷ vs) [] new p k l works = absurd p
   at_end t (v ∷ vs) (w ∷ ws) new p zero l works = (
-    subst (λ z. IsWorking g budget profile z (answers v.world) (work_of answers w)) (let e : t ≡ t + 0 = omega arith in e)
+    subst (λ z. IsWorking g budget profile z (answers v.world) (work_of_worker answers w)) (let e : t ≡ t + 0 = omega arith in e)
         ((p.0.stays works).still budget profile t (answers v.world) (new_worker_is_working answers g budget profile t id v new.0)),
     p.0.done works,
   )
   at_end t (v ∷ vs) (w ∷ ws) new p (suc k) l works =
       let r = at_end (suc t) vs ws new.1 p.1 k (omega (arith, l)) works in (
-        subst (λ z. IsWorking g budget profile z (answers_at (map answers (map (λ w. w.world) vs)) k) (work_at (map (work_of answers) ws) k))
+        subst (λ z. IsWorking g budget profile z (answers_at (map answers (map (λ w. w.world) vs)) k) (work_at (map (work_of_worker answers) ws) k))
             (let e : suc t + k ≡ t + suc k = omega arith in e) r.0,
         r.1,
       )
@@ -140,7 +135,7 @@ module _ {W O : Type 0} (answers : W → List AnsweredCall) (broken : W → Bool
   -- the work of a worker until its world failed
   at_stop : (t : ℕ) (vs ws : List (Worker W)) → AreNew g budget profile id t vs → AllZip R vs ws → (k : ℕ) → k < length vs
       → get_or (map (λ w. broken w.world) ws) k false ≡ true
-      → (last : Work) × IsWorking g budget profile (t + k) (answers_at (map answers (map (λ w. w.world) vs)) k) last
+      → (last : WorkerWork) × IsWorking g budget profile (t + k) (answers_at (map answers (map (λ w. w.world) vs)) k) last
       × ((kind : EnvKind) × (ask_of g.code last.thread ≡ ask.Env kind))
       × (answers_at (map answers (map (λ w. w.world) ws)) k ≡ last.answers)
   at_stop t [] ws new p k l failed = absurd (omega arith)
@@ -168,11 +163,11 @@ module _ {W O : Type 0} (answers : W → List AnsweredCall) (broken : W → Bool
   origins_end (v ∷ vs) [] p = absurd p
   origins_end (v ∷ vs) (w ∷ ws) p = λ i. p.0.same_origin i ∷ origins_end vs ws p.1 i
 
-answers_at_are_answers_of_work : {W : Type 0} (answers : W → List AnsweredCall) (ws : List (Worker W)) (t : ℕ)
-    → answers_at (map answers (map (λ w. w.world) ws)) t ≡ (work_at (map (work_of answers) ws) t).answers
-answers_at_are_answers_of_work answers [] t = refl
-answers_at_are_answers_of_work answers (w ∷ ws) zero = refl
-answers_at_are_answers_of_work answers (w ∷ ws) (suc t) = answers_at_are_answers_of_work answers ws t
+answers_at_work : {W : Type 0} (answers : W → List AnsweredCall) (ws : List (Worker W)) (t : ℕ)
+    → answers_at (map answers (map (λ w. w.world) ws)) t ≡ (work_at (map (work_of_worker answers) ws) t).answers
+answers_at_work answers [] t = refl
+answers_at_work answers (w ∷ ws) zero = refl
+answers_at_work answers (w ∷ ws) (suc t) = answers_at_work answers ws t
 
 -- the workers of a guest with these worlds, before their first step and after their last
 pub record HaveRun {W O : Type 0} (answers : W → List AnsweredCall) (broken : W → Bool) (origin : W → O) (g : Guest) (budget : ℕ)
@@ -186,13 +181,13 @@ module _ {W O : Type 0} {answers : W → List AnsweredCall} {broken : W → Bool
     {profile : Profile} {id : TableId} {worlds : List W} {vs ws : List (Worker W)}
     (ran : HaveRun answers broken origin g budget profile id worlds vs ws) where
   same_count : length ws ≡ length vs
-  same_count = lists_related_in_pairs_have_equal_length (RanToEnd answers broken origin g) vs ws ran.pairs
+  same_count = related_same_length (RanToEnd answers broken origin g) vs ws ran.pairs
 
   pub threads_there : length ws ≡ length g.entries
   threads_there = same_count ∙ sym (length-map vs (λ w. w.world)) ∙ ap (λ z. length z) ran.same ∙ ran.each
 
-  pub room_there : {room : Buffers W} {n m : ℕ} → HasRoom n room → n ≡ length vs → m ≡ length ws → HasRoom m room
-  room_there {room} {n} {m} h was now = subst (λ z. HasRoom z room) (was ∙ sym same_count ∙ sym now) h
+  pub room_there : {room : Buffers W} {n m : ℕ} → HasRoomForThread n room → n ≡ length vs → m ≡ length ws → HasRoomForThread m room
+  room_there {room} {n} {m} h was now = subst (λ z. HasRoomForThread z room) (was ∙ sym same_count ∙ sym now) h
 
   pub worlds_there : AreSameWorlds origin worlds (map (λ w. w.world) ws)
   worlds_there = origins_end answers broken origin g budget profile id vs ws ran.pairs ∙ ap (map origin) ran.same
@@ -205,28 +200,28 @@ module _ {W O : Type 0} {answers : W → List AnsweredCall} {broken : W → Bool
 
   -- a thread whose world has not failed is done
   end_of : (t : ℕ) → t < length g.entries → get_or (map (λ w. broken w.world) ws) t false ≡ false
-      → IsWorking g budget profile t (answers_at (map answers worlds) t) (work_at (map (work_of answers) ws) t)
-      × (ask_of g.code (work_at (map (work_of answers) ws) t).thread ≡ ask.Done)
+      → IsWorking g budget profile t (answers_at (map answers worlds) t) (work_at (map (work_of_worker answers) ws) t)
+      × (ask_of g.code (work_at (map (work_of_worker answers) ws) t).thread ≡ ask.Done)
   end_of t l works =
       let r = at_end answers broken origin g budget profile id 0 vs ws ran.new ran.pairs t
       (let n = threads_there in let m = same_count in omega (arith, l, n, m)) works in (
-        subst (λ z. IsWorking g budget profile t (answers_at (map answers z) t) (work_at (map (work_of answers) ws) t)) ran.same
+        subst (λ z. IsWorking g budget profile t (answers_at (map answers z) t) (work_at (map (work_of_worker answers) ws) t)) ran.same
             (subst (λ k. IsWorking g budget profile k (answers_at (map answers (map (λ w. w.world) vs)) t)
-            (work_at (map (work_of answers) ws) t)) (let z : 0 + t ≡ t = omega arith in z) r.0),
+            (work_at (map (work_of_worker answers) ws) t)) (let z : 0 + t ≡ t = omega arith in z) r.0),
         r.1,
       )
 
-  pub all_over : IsGuest g → NoneBroken broken ws → AllWorkDone g budget profile (map answers worlds) (map (work_of answers) ws)
+  pub all_over : IsGuest g → NoneBroken broken ws → AllWorkDone g budget profile (map answers worlds) (map (work_of_worker answers) ws)
   all_over guest works = record {
     guest = guest;
-    size = length-map ws (work_of answers) ∙ threads_there;
+    size = length-map ws (work_of_worker answers) ∙ threads_there;
     working = λ t l. (end_of t l (works t)).0;
     done = λ t l. (end_of t l (works t)).1;
   }
 
   -- a thread whose world has failed asked it last
   stop_of : (t : ℕ) → t < length g.entries → get_or (map (λ w. broken w.world) ws) t false ≡ true
-      → (last : Work) × IsWorking g budget profile t (answers_at (map answers worlds) t) last
+      → (last : WorkerWork) × IsWorking g budget profile t (answers_at (map answers worlds) t) last
       × ((kind : EnvKind) × (ask_of g.code last.thread ≡ ask.Env kind))
       × (answers_at (map answers (map (λ w. w.world) ws)) t ≡ last.answers)
   stop_of t l failed =
@@ -241,7 +236,7 @@ module _ {W O : Type 0} {answers : W → List AnsweredCall} {broken : W → Bool
       )
 
   -- what a worker's thread did alone
-  went_on : (t : ℕ) (last : Work) (failed : Bool) (after : List AnsweredCall)
+  went_on : (t : ℕ) (last : WorkerWork) (failed : Bool) (after : List AnsweredCall)
       → IsWorking g budget profile t (answers_at (map answers worlds) t) last → (failed ≡ false → ask_of g.code last.thread ≡ ask.Done)
       → (failed ≡ true → (kind : EnvKind) × (ask_of g.code last.thread ≡ ask.Env kind)) → after ≡ last.answers
       → WentOn g budget profile t failed (answers_at (map answers worlds) t) after
@@ -254,7 +249,7 @@ module _ {W O : Type 0} {answers : W → List AnsweredCall} {broken : W → Bool
         asks = λ f. ((asks f).0, ap (ask_of g.code) w.now ∙ (asks f).1);
         answered = e ∙ i.answered ∙ ap (λ z. answers_at (map answers worlds) t ++ z)
             (ap answers_in (sym w.logged)
-            ∙ logged_answers_are_alone_answers (thread_machine g.code) (thread.start_state g t budget profile) w.replies i.track);
+            ∙ logged_answers_alone (thread_machine g.code) (thread.start_state g t budget profile) w.replies i.track);
       }
 
   pub each_there : EachWentOn answers broken g budget profile worlds (map (λ w. w.world) ws)
@@ -265,20 +260,20 @@ module _ {W O : Type 0} {answers : W → List AnsweredCall} {broken : W → Bool
           (answers_at (map answers (map (λ w. w.world) ws)) t)
       by false e =
           let r = end_of t l (ap (λ z. get_or z t false) (sym (map_map broken (λ w. w.world) ws)) ∙ e) in
-          went_on t (work_at (map (work_of answers) ws) t) _ _ r.0 (λ f. r.1) (λ f. absurd (cc (e, f))) (answers_at_are_answers_of_work answers ws t)
+          went_on t (work_at (map (work_of_worker answers) ws) t) _ _ r.0 (λ f. r.1) (λ f. absurd (cc (e, f))) (answers_at_work answers ws t)
       by true e =
           let r = stop_of t l (ap (λ z. get_or z t false) (sym (map_map broken (λ w. w.world) ws)) ∙ e) in
           went_on t r.0 _ _ r.1 (λ f. absurd (cc (e, f))) (λ f. r.2) r.3
 
-pub views_of_seats_are_tracks_of_works : {W : Type 0} (answers : W → List AnsweredCall) (ws : List (Worker W))
-    → views_of (map (λ w. w.seat) ws) ≡ tracks_of (map (work_of answers) ws)
-views_of_seats_are_tracks_of_works answers [] = refl
-views_of_seats_are_tracks_of_works answers (w ∷ ws) = ap (λ z. w.seat.me.0 ++ z) (views_of_seats_are_tracks_of_works answers ws)
+pub seat_views_are_tracks : {W : Type 0} (answers : W → List AnsweredCall) (ws : List (Worker W))
+    → views_of (map (λ w. w.seat) ws) ≡ tracks_of (map (work_of_worker answers) ws)
+seat_views_are_tracks answers [] = refl
+seat_views_are_tracks answers (w ∷ ws) = ap (λ z. w.seat.me.0 ++ z) (seat_views_are_tracks answers ws)
 
-pub trace_at_place_is_of_its_worker : {W : Type 0} (answers : W → List AnsweredCall) (ws : List (Worker W)) (rs : List RecordedThread) → AreTraces ws rs → (t : ℕ)
-    → t < length ws → IsThreadTrace (work_at (map (work_of answers) ws) t).thread (work_at (map (work_of answers) ws) t).log
+pub trace_of_its_worker : {W : Type 0} (answers : W → List AnsweredCall) (ws : List (Worker W)) (rs : List RecordedThread) → AreTraces ws rs → (t : ℕ)
+    → t < length ws → IsThreadTrace (work_at (map (work_of_worker answers) ws) t).thread (work_at (map (work_of_worker answers) ws) t).log
     (get_or rs t absent)
-trace_at_place_is_of_its_worker answers [] rs h t l = absurd (omega arith)
-trace_at_place_is_of_its_worker answers (w ∷ ws) [] h t l = absurd h
-trace_at_place_is_of_its_worker answers (w ∷ ws) (r ∷ rs) h zero l = h.0
-trace_at_place_is_of_its_worker answers (w ∷ ws) (r ∷ rs) h (suc t) l = trace_at_place_is_of_its_worker answers ws rs h.1 t (omega (arith, l))
+trace_of_its_worker answers [] rs h t l = absurd (omega arith)
+trace_of_its_worker answers (w ∷ ws) [] h t l = absurd h
+trace_of_its_worker answers (w ∷ ws) (r ∷ rs) h zero l = h.0
+trace_of_its_worker answers (w ∷ ws) (r ∷ rs) h (suc t) l = trace_of_its_worker answers ws rs h.1 t (omega (arith, l))

@@ -15,18 +15,18 @@ use Rattle.ir_thread.proofs.CallerLemmas.{ask_of_permitted}
 use Rattle.ir_runs.specs.Machine.{Admits, target}
 use Rattle.ir_flat.specs.Flat.{Flat, thread_of, tables, machine, idle, start_flat, start_threads}
 use Rattle.ir_runs.specs.Run.{State, Step, asked, Can, IsRun, end, log, IsDone, rounds, HasNone}
-use Rattle.ir_flat.proofs.CallerLemmas.{start_thread_is_fresh, length_of_start_threads, length_of_start_cells, guest_run_can_step_unless_done, guest_start_is_idle, ask_is_done_if_shared_ask_is_done}
+use Rattle.ir_flat.proofs.CallerLemmas.{start_thread_is_fresh, length_of_start_threads, length_of_start_cells, guest_run_not_stuck, guest_start_is_idle, shared_done_is_done}
 use Rattle.ir_runs.proofs.CallerLemmas.{idle_after_run}
 use Rattle.ir_log.specs.Logged.{Logged}
 use Rattle.ir_log.specs.Logging.{label_of}
 use Rattle.ir_trace.specs.Recorded.{Recorded}
 use Rattle.ir_trace.specs.Bounds.{IsEvent}
 use Rattle.ir_record.specs.Gathered.{AreThreadTraces}
-use Rattle.ir_record.specs.Progress.{Progress, TookTurns, IsReady, log_at, no_log}
+use Rattle.ir_record.specs.Progress.{Progress, TookTurns, IsReadyToRecord, log_at, no_log}
 use Rattle.ir_record.specs.Refusing.{Turn, plain_turns}
 use Rattle.ir_record.specs.Worlds.{answers_at, AnsweredCall, NoneFailed}
 use Rattle.ir_record.specs.Recordings.{IsRecordingByTurns}
-use Rattle.ir_record.proofs.Profiles.{profile_is_unchanged_by_run, profile_of_start_thread}
+use Rattle.ir_record.proofs.Profiles.{profile_after_run, profile_of_start_thread}
 use Rattle.ir_record.proofs.Refusing.{is_run_if_in_turns}
 use Rattle.ir_record.proofs.Telling.{StandAtEnd, emitted_there, printed_there, answered_there}
 
@@ -40,9 +40,9 @@ new_log = record { events = []; room = most_events }
 abbrev pub start : Guest → ℕ → Profile → List (List AnsweredCall) → Progress
 start guest budget profile answers = record { flat = start_flat guest budget profile; logs = replicate (length guest.entries) new_log; answers = answers }
 
-pub recording_start_is_ready : (guest : Guest) (budget : ℕ) (profile : Profile) (answers : List (List AnsweredCall)) (failed : List Bool) → length answers ≡ length guest.entries
-    → NoneFailed failed → IsReady (start guest budget profile answers) failed
-recording_start_is_ready guest budget profile answers failed size works =
+pub start_is_ready : (guest : Guest) (budget : ℕ) (profile : Profile) (answers : List (List AnsweredCall)) (failed : List Bool) → length answers ≡ length guest.entries
+    → NoneFailed failed → IsReadyToRecord (start guest budget profile answers) failed
+start_is_ready guest budget profile answers failed size works =
     let n : length (start_threads guest budget profile 0 (length guest.entries)) ≡ length guest.entries =
     length_of_start_threads guest budget profile 0 (length guest.entries) in
     let own : (t : ℕ) → t < length (start_threads guest budget profile 0 (length guest.entries))
@@ -62,7 +62,7 @@ recording_start_is_ready guest budget profile answers failed size works =
 
 -- ---- the end
 
-ask_is_done_or_not : (q : machine.Ask) → (q ≡ machine.Done) ⊎ (q ≢ machine.Done)
+pub ask_is_done_or_not : (q : machine.Ask) → (q ≡ machine.Done) ⊎ (q ≢ machine.Done)
 ask_is_done_or_not machine.Private = inr (λ e. cc e)
 ask_is_done_or_not (machine.Env k) = inr (λ e. cc e)
 ask_is_done_or_not (machine.Enter o a) = inr (λ e. cc e)
@@ -73,15 +73,15 @@ ask_is_done_or_not (machine.Put o i w) = inr (λ e. cc e)
 ask_is_done_or_not machine.Done = inl refl
 
 -- where none of the guest's threads has a step, all threads are done
-end_of_run_is_done_if_no_thread_has_step : (guest : Guest) (budget : ℕ) (profile : Profile) (run : List Step) → IsRun (thread_machine guest.code) (tables (start_flat guest budget profile)) run
+no_steps_run_is_done : (guest : Guest) (budget : ℕ) (profile : Profile) (run : List Step) → IsRun (thread_machine guest.code) (tables (start_flat guest budget profile)) run
     → ((t : ℕ) → t < length guest.entries → HasNone (thread_machine guest.code)
     (end (thread_machine guest.code) (tables (start_flat guest budget profile)) run) t)
     → IsDone (thread_machine guest.code) (end (thread_machine guest.code) (tables (start_flat guest budget profile)) run)
-end_of_run_is_done_if_no_thread_has_step guest budget profile run ok none t =
+no_steps_run_is_done guest budget profile run ok none t =
     let s : State thread.ThreadState = end (thread_machine guest.code) (tables (start_flat guest budget profile)) run in
     elim (ask_is_done_or_not (asked (thread_machine guest.code) s t)) [
       | inl e ↦ e
-      | inr ne ↦ absurd (stuck (guest_run_can_step_unless_done guest budget profile run ok t ne))
+      | inr ne ↦ absurd (stuck (guest_run_not_stuck guest budget profile run ok t ne))
     ]
   where
     stuck : ((u : ℕ) × Can (thread_machine guest.code) (end (thread_machine guest.code) (tables (start_flat guest budget profile)) run) (u, 0)) → ⊥
@@ -94,8 +94,8 @@ end_of_run_is_done_if_no_thread_has_step guest budget profile run ok none t =
     ]
 
 -- a thread that is done has ended
-thread_has_ended_if_its_ask_is_done : (code : List ℕ) (x : thread.ThreadState) → shared_ask (ask_of code x) ≡ machine.Done → x.ended ≢ None
-thread_has_ended_if_its_ask_is_done code x e = (subst (Permits x) (ask_is_done_if_shared_ask_is_done (ask_of code x) e) (ask_of_permitted code x)).0
+done_ask_has_ended : (code : List ℕ) (x : thread.ThreadState) → shared_ask (ask_of code x) ≡ machine.Done → x.ended ≢ None
+done_ask_has_ended code x e = (subst (Permits x) (shared_done_is_done (ask_of code x) e) (ask_of_permitted code x)).0
 
 -- ---- the whole recording
 
@@ -115,7 +115,7 @@ module _ {guest : Guest} {budget : ℕ} {profile : Profile} {turns : List Turn} 
 
   pub profiles_there : (t : ℕ) → t < length b.flat.threads → (thread_of b.flat t).profile ≡ profile
   profiles_there t l =
-      ap (λ s. (s.now t).profile) o.took.moved.ends ∙ profile_is_unchanged_by_run guest.code (tables (start_flat guest budget profile)) o.took.run t
+      ap (λ s. (s.now t).profile) o.took.moved.ends ∙ profile_after_run guest.code (tables (start_flat guest budget profile)) o.took.run t
       ∙ profile_of_start_thread guest budget profile 0 (length guest.entries) t (let n = threads_there in omega (arith, l, n))
 
   run_of_it : IsRun (thread_machine guest.code) (tables (start_flat guest budget profile)) o.took.run
@@ -123,13 +123,13 @@ module _ {guest : Guest} {budget : ℕ} {profile : Profile} {turns : List Turn} 
       (turns ++ plain_turns (rounds (length guest.entries) o.count)) o.took.run o.took.in_turns
 
   done_there : IsDone (thread_machine guest.code) (end (thread_machine guest.code) (tables (start_flat guest budget profile)) o.took.run)
-  done_there = end_of_run_is_done_if_no_thread_has_step guest budget profile o.took.run run_of_it
+  done_there = no_steps_run_is_done guest budget profile o.took.run run_of_it
       (λ t l. subst (λ s. HasNone (thread_machine guest.code) s t) o.took.moved.ends
       (subst (λ c. HasNone (thread_machine c) (tables b.flat) t) o.took.moved.code
       (o.none t (let n = threads_there in omega (arith, l, n)))))
 
   pub ended_there : (t : ℕ) → (thread_of b.flat t).ended ≢ None
-  ended_there t = thread_has_ended_if_its_ask_is_done guest.code (thread_of b.flat t) (ap (λ s. shared_ask (ask_of guest.code (s.now t))) o.took.moved.ends ∙ done_there t)
+  ended_there t = done_ask_has_ended guest.code (thread_of b.flat t) (ap (λ s. shared_ask (ask_of guest.code (s.now t))) o.took.moved.ends ∙ done_there t)
 
   -- what is at hand at its end
   at_end : StandAtEnd guest budget profile o.took.run before (thread_of b.flat) (log_at b.logs) (answers_at b.answers)
@@ -146,7 +146,7 @@ module _ {guest : Guest} {budget : ℕ} {profile : Profile} {turns : List Turn} 
         answered = λ t l. o.took.moved.answers t (omega (arith, l, n));
       }
 
-  pub recorded_there : (failed : List Bool) → IsReady b failed
+  pub recorded_there : (failed : List Bool) → IsReadyToRecord b failed
       → (trace : Recorded) → trace.objects ≡ length b.flat.objects → trace.budget ≡ budget → trace.profile ≡ profile
       → AreThreadTraces b.flat b.logs trace.threads
       → (outputs : List (List ℕ)) → outputs ≡ map (λ x. x.output) b.flat.threads
@@ -169,20 +169,20 @@ module _ {guest : Guest} {budget : ℕ} {profile : Profile} {turns : List Turn} 
       )
 
 -- the recording that was made is one before the first step
-pub progress_is_start_if_flat_and_logs_are_new : (guest : Guest) (budget : ℕ) (profile : Profile) (answers : List (List AnsweredCall)) {f : Flat} {logs : List Logged}
+pub new_is_start_progress : (guest : Guest) (budget : ℕ) (profile : Profile) (answers : List (List AnsweredCall)) {f : Flat} {logs : List Logged}
     → f ≡ start_flat guest budget profile → logs ≡ replicate (length guest.entries) new_log
     → ◌≡◌ {A = Progress} (record { flat = f; logs = logs; answers = answers }) (start guest budget profile answers)
-progress_is_start_if_flat_and_logs_are_new guest budget profile answers p q = λ i. record { flat = p i; logs = q i; answers = answers }
+new_is_start_progress guest budget profile answers p q = λ i. record { flat = p i; logs = q i; answers = answers }
 
-pub recording_is_over_if_rounds_leave_no_step : {guest : Guest} {budget : ℕ} {profile : Profile} {turns : List Turn} {before : List (List AnsweredCall)}
+pub over_if_no_step : {guest : Guest} {budget : ℕ} {profile : Profile} {turns : List Turn} {before : List (List AnsweredCall)}
     {f : Flat} {logs : List Logged} {b : Progress} → f ≡ start_flat guest budget profile → logs ≡ replicate (length guest.entries) new_log
     → ((count : ℕ) × TookTurns (turns ++ plain_turns (rounds (length f.threads) count)) (record { flat = f; logs = logs; answers = before }) b)
     → ((t : ℕ) → t < length b.flat.threads → HasNone (machine b.flat) (tables b.flat) t) → RecordingOver guest budget profile turns before b
-recording_is_over_if_rounds_leave_no_step {guest} {budget} {profile} {turns} {before} {f} {logs} {b} p q k none = record {
+over_if_no_step {guest} {budget} {profile} {turns} {before} {f} {logs} {b} p q k none = record {
   count = k.0;
   took = subst (λ n. TookTurns (turns ++ plain_turns (rounds n k.0)) (start guest budget profile before) b)
       (ap (λ z. length z.threads) p ∙ length_of_start_threads guest budget profile 0 (length guest.entries))
-      (subst (λ z. TookTurns (turns ++ plain_turns (rounds (length f.threads) k.0)) z b) (progress_is_start_if_flat_and_logs_are_new guest budget profile before p q) k.1);
+      (subst (λ z. TookTurns (turns ++ plain_turns (rounds (length f.threads) k.0)) z b) (new_is_start_progress guest budget profile before p q) k.1);
   none = none;
 }
 

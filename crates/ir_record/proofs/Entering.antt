@@ -18,9 +18,9 @@ use Rattle.ir_log.specs.declared.event.Event.{Event}
 use Rattle.ir_trace.specs.Bounds.{IsEvent}
 use Rattle.ir_record.specs.Progress.{TookIf, HasLogs, IsQuiet, log_at, labels_at}
 use Rattle.ir_record.specs.Worlds.{answers_at, AnsweredCall, answers_in}
-use Rattle.ir_record.proofs.Steps.{OneStep, turn_taken_by_step, turn_took_no_step_if_none_and_progress_same, enters_if_free_unless_ask_is_try}
-use Rattle.ir_record.proofs.Logs.{has_logs_after_unlogged_step, has_logs_after_event_pushed, labels_after_event_pushed_end_with_its_label, labels_are_unchanged_by_set_of_other_log}
-use Rattle.ir_record.proofs.Running.{hold_few_objects_if_flat}
+use Rattle.ir_record.proofs.Steps.{OneStep, turn_taken_by_step, took_none_if_same, no_try_enters_if_free}
+use Rattle.ir_record.proofs.Logs.{has_logs_unlogged_step, has_logs_event_pushed, pushed_label_is_last, labels_other_log_same}
+use Rattle.ir_record.proofs.Running.{flat_holds_few}
 
 -- whether a step can be taken is no matter of its result, unless it calls the environment
 abbrev pub IgnoresResult : Ask → Type 0
@@ -31,46 +31,46 @@ entry_ignores_result : (o : ℕ) (a : Access) → IgnoresResult (Enter o a)
 entry_ignores_result o Reading f r h = h
 entry_ignores_result o Writing f r h = h
 
-quiet_step_is_admitted_whatever_its_result : (q : Ask) → IsQuiet q → IgnoresResult q
-quiet_step_is_admitted_whatever_its_result Private k f r h = tt
-quiet_step_is_admitted_whatever_its_result (Env kind) k f r h = absurd k
-quiet_step_is_admitted_whatever_its_result (Enter o a) k f r h = absurd k
-quiet_step_is_admitted_whatever_its_result (Try o) k f r h = absurd k
-quiet_step_is_admitted_whatever_its_result (Leave o a) k f r h = tt
-quiet_step_is_admitted_whatever_its_result (Get o i) k f r h = tt
-quiet_step_is_admitted_whatever_its_result (Put o i w) k f r h = tt
-quiet_step_is_admitted_whatever_its_result Print k f r h = tt
-quiet_step_is_admitted_whatever_its_result (End e) k f r h = tt
-quiet_step_is_admitted_whatever_its_result Done k f r h = absurd h
+quiet_ignores_result : (q : Ask) → IsQuiet q → IgnoresResult q
+quiet_ignores_result Private k f r h = tt
+quiet_ignores_result (Env kind) k f r h = absurd k
+quiet_ignores_result (Enter o a) k f r h = absurd k
+quiet_ignores_result (Try o) k f r h = absurd k
+quiet_ignores_result (Leave o a) k f r h = tt
+quiet_ignores_result (Get o i) k f r h = tt
+quiet_ignores_result (Put o i w) k f r h = tt
+quiet_ignores_result Print k f r h = tt
+quiet_ignores_result (End e) k f r h = tt
+quiet_ignores_result Done k f r h = absurd h
 
-no_step_if_zero_cannot_and_result_is_ignored : (f : Flat) (t : ℕ) → IgnoresResult (ask_of f.code (thread_of f t)) → (Can (machine f) (tables f) (t, 0) → ⊥)
+no_step_if_zero_cannot : (f : Flat) (t : ℕ) → IgnoresResult (ask_of f.code (thread_of f t)) → (Can (machine f) (tables f) (t, 0) → ⊥)
     → HasNone (machine f) (tables f) t
-no_step_if_zero_cannot_and_result_is_ignored f t ignores never r can = never (ignores f r can)
+no_step_if_zero_cannot f t ignores never r can = never (ignores f r can)
 
 pub no_step_if_entry_cannot : (f : Flat) (t o : ℕ) (a : Access) → ask_of f.code (thread_of f t) ≡ Enter o a → (Can (machine f) (tables f) (t, 0) → ⊥)
     → HasNone (machine f) (tables f) t
-no_step_if_entry_cannot f t o a is never = no_step_if_zero_cannot_and_result_is_ignored f t (subst IgnoresResult (sym is) (entry_ignores_result o a)) never
+no_step_if_entry_cannot f t o a is never = no_step_if_zero_cannot f t (subst IgnoresResult (sym is) (entry_ignores_result o a)) never
 
-pub no_step_if_quiet_step_cannot : (f : Flat) (t : ℕ) → IsQuiet (ask_of f.code (thread_of f t)) → (Can (machine f) (tables f) (t, 0) → ⊥)
+pub no_step_if_quiet_cannot : (f : Flat) (t : ℕ) → IsQuiet (ask_of f.code (thread_of f t)) → (Can (machine f) (tables f) (t, 0) → ⊥)
     → HasNone (machine f) (tables f) t
-no_step_if_quiet_step_cannot f t quiet never = no_step_if_zero_cannot_and_result_is_ignored f t (quiet_step_is_admitted_whatever_its_result (ask_of f.code (thread_of f t)) quiet) never
+no_step_if_quiet_cannot f t quiet never = no_step_if_zero_cannot f t (quiet_ignores_result (ask_of f.code (thread_of f t)) quiet) never
 
 -- there is room to log the entry
-pub event_count_is_below_limit_at_entry : (f : Flat) (t o : ℕ) (a : Access) → ask_of f.code (thread_of f t) ≡ Enter o a → (thread_of f t).events < most_events
-event_count_is_below_limit_at_entry f t o a is = (subst (Permits (thread_of f t)) is (ask_of_permitted f.code (thread_of f t))).1
+pub entry_events_below_limit : (f : Flat) (t o : ℕ) (a : Access) → ask_of f.code (thread_of f t) ≡ Enter o a → (thread_of f t).events < most_events
+entry_events_below_limit f t o a is = (subst (Permits (thread_of f t)) is (ask_of_permitted f.code (thread_of f t))).1
 
 -- what is known where the step was taken, and where it was not
-pub fact_on_ok_holds_if_is_err_is_false : {X E : Type 0} (result : Result X E) (b : Bool) (P : Type 0) → b ≡ is_err result → b ≡ false → OnOk result P → P
-fact_on_ok_holds_if_is_err_is_false (Ok x) b P e h p = p
-fact_on_ok_holds_if_is_err_is_false (Err x) b P e h p = absurd (cc (e, h))
+pub on_ok_fact_holds : {X E : Type 0} (result : Result X E) (b : Bool) (P : Type 0) → b ≡ is_err result → b ≡ false → OnOk result P → P
+on_ok_fact_holds (Ok x) b P e h p = p
+on_ok_fact_holds (Err x) b P e h p = absurd (cc (e, h))
 
-pub fact_on_err_holds_if_is_err_is_true : {X E : Type 0} (result : Result X E) (b : Bool) (P : Type 0) → b ≡ is_err result → b ≡ true → OnErr result P → P
-fact_on_err_holds_if_is_err_is_true (Ok x) b P e h p = absurd (cc (e, h))
-fact_on_err_holds_if_is_err_is_true (Err x) b P e h p = p
+pub on_err_fact_holds : {X E : Type 0} (result : Result X E) (b : Bool) (P : Type 0) → b ≡ is_err result → b ≡ true → OnErr result P → P
+on_err_fact_holds (Ok x) b P e h p = absurd (cc (e, h))
+on_err_fact_holds (Err x) b P e h p = p
 
-pub fact_on_err_holds_if_is_ok_is_false : {X E : Type 0} (result : Result X E) (b : Bool) (P : Type 0) → b ≡ is_ok result → b ≡ false → OnErr result P → P
-fact_on_err_holds_if_is_ok_is_false (Ok x) b P e h p = absurd (cc (e, h))
-fact_on_err_holds_if_is_ok_is_false (Err x) b P e h p = p
+pub on_err_fact_by_is_ok : {X E : Type 0} (result : Result X E) (b : Bool) (P : Type 0) → b ≡ is_ok result → b ≡ false → OnErr result P → P
+on_err_fact_by_is_ok (Ok x) b P e h p = absurd (cc (e, h))
+on_err_fact_by_is_ok (Err x) b P e h p = p
 
 -- a step was taken that emits k, and this event was logged of it, which is no answer
 pub record OneEventLogged (f g : Flat) (logs more : List Logged) (t r : ℕ) (k : Label) (e : Event) : Type 0 where
@@ -92,17 +92,17 @@ pub record OneEventLogged (f g : Flat) (logs more : List Logged) (t r : ℕ) (k 
   pub pushed : new ≡ record (log_at logs t) { events = (log_at logs t).events ++ e ∷ [] }
   pub logs_are : more ≡ set logs t new
 
-pub has_logs_after_logged_event : (f g : Flat) (logs more : List Logged) (t r : ℕ) (k : Label) (e : Event) → OneEventLogged f g logs more t r k e → HasLogs g more
-has_logs_after_logged_event f g logs more t r k e x =
-    subst (HasLogs g) (sym x.logs_are) (has_logs_after_event_pushed f g logs t r e x.new x.has_logs x.below x.taken x.threads x.objects x.one x.fits x.pushed)
+pub has_logs_logged_event : (f g : Flat) (logs more : List Logged) (t r : ℕ) (k : Label) (e : Event) → OneEventLogged f g logs more t r k e → HasLogs g more
+has_logs_logged_event f g logs more t r k e x =
+    subst (HasLogs g) (sym x.logs_are) (has_logs_event_pushed f g logs t r e x.new x.has_logs x.below x.taken x.threads x.objects x.one x.fits x.pushed)
 
 -- the step that it is of
-pub one_step_if_one_event_logged : (f g : Flat) (logs more : List Logged) (t r : ℕ) (k : Label) (e : Event) → OneEventLogged f g logs more t r k e
+pub one_step_by_event : (f g : Flat) (logs more : List Logged) (t r : ℕ) (k : Label) (e : Event) → OneEventLogged f g logs more t r k e
     → (answers : List (List AnsweredCall))
     → OneStep t r k (record { flat = f; logs = logs; answers = answers }) (record { flat = g; logs = more; answers = answers })
-one_step_if_one_event_logged f g logs more t r k e x answers = record {
+one_step_by_event f g logs more t r k e x answers = record {
   below = x.below;
-  few = hold_few_objects_if_flat f x.flat;
+  few = flat_holds_few f x.flat;
   can = x.can;
   taken = x.taken;
   code = x.code;
@@ -110,24 +110,24 @@ one_step_if_one_event_logged f g logs more t r k e x answers = record {
   objects = x.objects;
   emits = x.emits;
   own_log = subst (λ z. labels_at z t ≡ labels_at logs t ++ logged k []) (sym x.logs_are)
-      (labels_after_event_pushed_end_with_its_label logs t e x.new (omega (arith, x.below, x.has_logs.one_each)) x.pushed
+      (pushed_label_is_last logs t e x.new (omega (arith, x.below, x.has_logs.one_each)) x.pushed
       ∙ ap (λ z. labels_at logs t ++ z) (ap (λ z. z ∷ []) x.event ∙ sym x.once));
   own_answers = sym (append-nil (answers_at answers t)) ∙ ap (λ z. answers_at answers t ++ z) (sym x.unanswered);
-  other_logs = λ u ne. subst (λ z. labels_at z u ≡ labels_at logs u) (sym x.logs_are) (labels_are_unchanged_by_set_of_other_log logs t u x.new ne);
+  other_logs = λ u ne. subst (λ z. labels_at z u ≡ labels_at logs u) (sym x.logs_are) (labels_other_log_same logs t u x.new ne);
   other_answers = λ u ne. refl;
 }
 
-pub turn_taken_by_logged_event : (f g : Flat) (logs more : List Logged) (t r : ℕ) (k : Label) (e : Event) → OneEventLogged f g logs more t r k e
+pub turn_by_logged_event : (f g : Flat) (logs more : List Logged) (t r : ℕ) (k : Label) (e : Event) → OneEventLogged f g logs more t r k e
     → EntersIfFree (machine f) (tables f) (t, r) → (answers : List (List AnsweredCall))
     → TookIf true (t ∷ []) (record { flat = f; logs = logs; answers = answers }) (record { flat = g; logs = more; answers = answers })
-turn_taken_by_logged_event f g logs more t r k e x enters answers =
+turn_by_logged_event f g logs more t r k e x enters answers =
     turn_taken_by_step t r k (record { flat = f; logs = logs; answers = answers }) (record { flat = g; logs = more; answers = answers })
-    (one_step_if_one_event_logged f g logs more t r k e x answers) enters
+    (one_step_by_event f g logs more t r k e x answers) enters
 
 -- what a step emits, by what is asked
-pub label_of_step_is_emitted_by_act_of_ask : (f : Flat) (t r : ℕ) (q : Ask) → ask_of f.code (thread_of f t) ≡ q
+pub step_label_is_emitted : (f : Flat) (t r : ℕ) (q : Ask) → ask_of f.code (thread_of f t) ≡ q
     → label (machine f) (tables f) (t, r) ≡ emitted (act_of (shared_ask q) r) ((tables f).objects (target (act_of (shared_ask q) r)))
-label_of_step_is_emitted_by_act_of_ask f t r q is = ap (λ z. emitted (act_of (shared_ask z) r) ((tables f).objects (target (act_of (shared_ask z) r)))) is
+step_label_is_emitted f t r q is = ap (λ z. emitted (act_of (shared_ask z) r) ((tables f).objects (target (act_of (shared_ask z) r)))) is
 
 -- what an entry emits is logged, and is no answer
 pub entry_logs_itself : (o : ℕ) (a : Access) (v : ℕ) (b : Object) → logged (emitted (machine.Entered o a v) b) [] ≡ emitted (machine.Entered o a v) b
@@ -151,17 +151,17 @@ pub record QuietStep (f g : Flat) (logs : List Logged) (t : ℕ) : Type 0 where
   pub threads : length g.threads ≡ length f.threads
   pub objects : length g.objects ≡ length f.objects
 
-quiet_ask_adds_no_events : (q : Ask) → IsQuiet q → events_added_by q ≡ 0
-quiet_ask_adds_no_events Private k = refl
-quiet_ask_adds_no_events (Env kind) k = absurd k
-quiet_ask_adds_no_events (Enter o a) k = absurd k
-quiet_ask_adds_no_events (Try o) k = absurd k
-quiet_ask_adds_no_events (Leave o a) k = refl
-quiet_ask_adds_no_events (Get o i) k = refl
-quiet_ask_adds_no_events (Put o i w) k = refl
-quiet_ask_adds_no_events Print k = refl
-quiet_ask_adds_no_events (End e) k = refl
-quiet_ask_adds_no_events Done k = refl
+quiet_adds_no_events : (q : Ask) → IsQuiet q → events_added_by q ≡ 0
+quiet_adds_no_events Private k = refl
+quiet_adds_no_events (Env kind) k = absurd k
+quiet_adds_no_events (Enter o a) k = absurd k
+quiet_adds_no_events (Try o) k = absurd k
+quiet_adds_no_events (Leave o a) k = refl
+quiet_adds_no_events (Get o i) k = refl
+quiet_adds_no_events (Put o i w) k = refl
+quiet_adds_no_events Print k = refl
+quiet_adds_no_events (End e) k = refl
+quiet_adds_no_events Done k = refl
 
 quiet_step_logs_nothing : (q : Ask) (b : Object) → IsQuiet q → logged (emitted (act_of (shared_ask q) 0) b) [] ≡ []
 quiet_step_logs_nothing Private b k = refl
@@ -187,17 +187,17 @@ quiet_ask_is_no_try Print k o e = cc e
 quiet_ask_is_no_try (End x) k o e = cc e
 quiet_ask_is_no_try Done k o e = cc e
 
-pub has_logs_after_quiet_step : (f g : Flat) (logs : List Logged) (t : ℕ) → QuietStep f g logs t → HasLogs g logs
-has_logs_after_quiet_step f g logs t x = has_logs_after_unlogged_step f g logs t 0 x.has_logs x.taken x.threads x.objects (quiet_ask_adds_no_events (ask_of f.code (thread_of f t)) x.quiet)
+pub has_logs_quiet_step : (f g : Flat) (logs : List Logged) (t : ℕ) → QuietStep f g logs t → HasLogs g logs
+has_logs_quiet_step f g logs t x = has_logs_unlogged_step f g logs t 0 x.has_logs x.taken x.threads x.objects (quiet_adds_no_events (ask_of f.code (thread_of f t)) x.quiet)
 
-pub turn_taken_by_quiet_step : (f g : Flat) (logs : List Logged) (t : ℕ) → QuietStep f g logs t → (answers : List (List AnsweredCall))
+pub turn_by_quiet_step : (f g : Flat) (logs : List Logged) (t : ℕ) → QuietStep f g logs t → (answers : List (List AnsweredCall))
     → TookIf true (t ∷ []) (record { flat = f; logs = logs; answers = answers }) (record { flat = g; logs = logs; answers = answers })
-turn_taken_by_quiet_step f g logs t x answers =
+turn_by_quiet_step f g logs t x answers =
     let k : Label = label (machine f) (tables f) (t, 0) in
     let none : logged k [] ≡ [] = quiet_step_logs_nothing (ask_of f.code (thread_of f t)) _ x.quiet in
     turn_taken_by_step t 0 k (record { flat = f; logs = logs; answers = answers }) (record { flat = g; logs = logs; answers = answers }) (record {
       below = x.below;
-      few = hold_few_objects_if_flat f x.flat;
+      few = flat_holds_few f x.flat;
       can = x.can;
       taken = x.taken;
       code = x.code;
@@ -208,12 +208,12 @@ turn_taken_by_quiet_step f g logs t x answers =
       own_answers = sym (append-nil (answers_at answers t)) ∙ ap (λ z. answers_at answers t ++ answers_in z) (sym none);
       other_logs = λ u ne. refl;
       other_answers = λ u ne. refl;
-    }) (enters_if_free_unless_ask_is_try f t 0 (ask_of f.code (thread_of f t)) refl (quiet_ask_is_no_try (ask_of f.code (thread_of f t)) x.quiet))
+    }) (no_try_enters_if_free f t 0 (ask_of f.code (thread_of f t)) refl (quiet_ask_is_no_try (ask_of f.code (thread_of f t)) x.quiet))
 
 -- where the thread waits, or is done, nothing changes
-pub turn_took_no_step_if_thread_has_none : (f g : Flat) (logs : List Logged) (t : ℕ) → HasNone (machine f) (tables f) t → g ≡ f → (answers : List (List AnsweredCall))
+pub turn_took_no_step : (f g : Flat) (logs : List Logged) (t : ℕ) → HasNone (machine f) (tables f) t → g ≡ f → (answers : List (List AnsweredCall))
     → TookIf false (t ∷ []) (record { flat = f; logs = logs; answers = answers }) (record { flat = g; logs = logs; answers = answers })
-turn_took_no_step_if_thread_has_none f g logs t none same answers = turn_took_no_step_if_none_and_progress_same t (record { flat = f; logs = logs; answers = answers })
+turn_took_no_step f g logs t none same answers = took_none_if_same t (record { flat = f; logs = logs; answers = answers })
     (record { flat = g; logs = logs; answers = answers }) none (ap (λ z. record { flat = z; logs = logs; answers = answers }) same)
 
 pub has_logs_of_equal_flat : (f g : Flat) (logs : List Logged) → HasLogs f logs → g ≡ f → HasLogs g logs
@@ -225,12 +225,12 @@ pub record QuietTurn (f g : Flat) (logs : List Logged) (t : ℕ) (moved : Bool) 
       (record { flat = g; logs = logs; answers = answers })
   pub has_logs : HasLogs g logs
 
-pub quiet_turn_if_ok_took_step_and_err_has_none : {X E : Type 0} (result : Result X E) (f g : Flat) (logs : List Logged) (t : ℕ) (moved : Bool) → moved ≡ is_ok result
+pub quiet_turn_by_result : {X E : Type 0} (result : Result X E) (f g : Flat) (logs : List Logged) (t : ℕ) (moved : Bool) → moved ≡ is_ok result
     → HasLogs f logs → IsFlat f → t < length f.threads → IsQuiet (ask_of f.code (thread_of f t))
     → OnOk result (Can (machine f) (tables f) (t, 0)) → OnOk result (tables g ≡ after (machine f) (tables f) (t, 0)) → g.code ≡ f.code
     → length g.threads ≡ length f.threads → length g.objects ≡ length f.objects
     → OnErr result (Can (machine f) (tables f) (t, 0) → ⊥) → OnErr result (g ≡ f) → QuietTurn f g logs t moved
-quiet_turn_if_ok_took_step_and_err_has_none (Ok x) f g logs t moved e has_logs flat l quiet can taken code threads objects never same =
+quiet_turn_by_result (Ok x) f g logs t moved e has_logs flat l quiet can taken code threads objects never same =
     let going : QuietStep f g logs t = record {
       has_logs = has_logs;
       flat = flat;
@@ -243,10 +243,10 @@ quiet_turn_if_ok_took_step_and_err_has_none (Ok x) f g logs t moved e has_logs f
       threads = threads;
       objects = objects;
     } in
-    subst (QuietTurn f g logs t) (sym e) (record { took = turn_taken_by_quiet_step f g logs t going; has_logs = has_logs_after_quiet_step f g logs t going })
-quiet_turn_if_ok_took_step_and_err_has_none (Err x) f g logs t moved e has_logs flat l quiet can taken code threads objects never same =
+    subst (QuietTurn f g logs t) (sym e) (record { took = turn_by_quiet_step f g logs t going; has_logs = has_logs_quiet_step f g logs t going })
+quiet_turn_by_result (Err x) f g logs t moved e has_logs flat l quiet can taken code threads objects never same =
     subst (QuietTurn f g logs t) (sym e) (record {
-      took = turn_took_no_step_if_thread_has_none f g logs t (no_step_if_quiet_step_cannot f t quiet never) same;
+      took = turn_took_no_step f g logs t (no_step_if_quiet_cannot f t quiet never) same;
       has_logs =
           has_logs_of_equal_flat f g logs has_logs same;
     })

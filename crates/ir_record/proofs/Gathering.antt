@@ -13,17 +13,17 @@ use Rattle.ir_record.specs.Gathered.{IsThreadTrace, AreThreadTraces}
 use Rattle.ir_record.specs.Progress.{log_at, no_log}
 
 -- the next of a list
-pub get_or_at_length_of_prefix : {A : Type 0} (before rest whole : List A) (x d : A) → before ++ x ∷ rest ≡ whole → get_or whole (length before) d ≡ x
-get_or_at_length_of_prefix before rest whole x d e = ap (λ z. get_or z (length before) d) (sym e) ∙ get_or-append_seam before x rest d
+pub get_or_at_prefix_end : {A : Type 0} (before rest whole : List A) (x d : A) → before ++ x ∷ rest ≡ whole → get_or whole (length before) d ≡ x
+get_or_at_prefix_end before rest whole x d e = ap (λ z. get_or z (length before) d) (sym e) ∙ get_or-append_seam before x rest d
 
-pub length_of_prefix_is_below_length : {A : Type 0} (before rest whole : List A) (x : A) → before ++ x ∷ rest ≡ whole → length before < length whole
-length_of_prefix_is_below_length before rest whole x e = let n = length-append before (x ∷ rest) in let m : length (before ++ x ∷ rest) ≡ length whole =
+pub prefix_end_below_length : {A : Type 0} (before rest whole : List A) (x : A) → before ++ x ∷ rest ≡ whole → length before < length whole
+prefix_end_below_length before rest whole x e = let n = length-append before (x ∷ rest) in let m : length (before ++ x ∷ rest) ≡ length whole =
     ap (λ z. length z) e in omega (arith, n, m)
 
 -- one thread more
-pub thread_traces_with_one_added : (f : Flat) (before : List Logged) (x : Logged) (rs : List RecordedThread) (r : RecordedThread)
+pub thread_traces_push : (f : Flat) (before : List Logged) (x : Logged) (rs : List RecordedThread) (r : RecordedThread)
     → AreThreadTraces f before rs → IsThreadTrace (thread_of f (length rs)) x r → AreThreadTraces f (before ++ x ∷ []) (rs ++ r ∷ [])
-thread_traces_with_one_added f before x rs r was new =
+thread_traces_push f before x rs r was new =
     let n = length-append before (x ∷ []) in
     let m = length-append rs (r ∷ []) in
     record {
@@ -45,37 +45,37 @@ thread_traces_with_one_added f before x rs r was new =
     }
 
 -- the thread that was read
-pub looked_up_thread_is_thread_of : (f : Flat) (threads : List thread.ThreadState) (t : ℕ) (x : thread.ThreadState) → threads ≡ f.threads → t < length f.threads
+pub looked_up_is_thread_of : (f : Flat) (threads : List thread.ThreadState) (t : ℕ) (x : thread.ThreadState) → threads ≡ f.threads → t < length f.threads
     → x ≡ get_or threads t x → x ≡ thread_of f t
-looked_up_thread_is_thread_of f threads t x same l e = e ∙ ap (λ z. get_or z t x) same ∙ get_or_default f.threads t x idle l
+looked_up_is_thread_of f threads t x same l e = e ∙ ap (λ z. get_or z t x) same ∙ get_or_default f.threads t x idle l
 
 -- one item more of a list that is taken from the prefix
-pub prefix_with_next_item_and_rest_is_whole : {A : Type 0} (before items rest whole : List A) (x : A) → before ++ items ≡ whole → items ≡ x ∷ rest
+pub next_item_to_prefix : {A : Type 0} (before items rest whole : List A) (x : A) → before ++ items ≡ whole → items ≡ x ∷ rest
     → (before ++ x ∷ []) ++ rest ≡ whole
-prefix_with_next_item_and_rest_is_whole before items rest whole x h e = append_assoc before (x ∷ []) rest ∙ ap (λ z. before ++ z) (sym e) ∙ h
+next_item_to_prefix before items rest whole x h e = append_assoc before (x ∷ []) rest ∙ ap (λ z. before ++ z) (sym e) ∙ h
 
-pub length_of_rest_is_one_less : {A : Type 0} (items rest : List A) (x : A) (len less : ℕ) → len ≡ length items → items ≡ x ∷ rest → less + 1 ≡ len
+pub rest_length_one_less : {A : Type 0} (items rest : List A) (x : A) (len less : ℕ) → len ≡ length items → items ≡ x ∷ rest → less + 1 ≡ len
     → less ≡ length rest
-length_of_rest_is_one_less items rest x len less h e one = let n : length items ≡ suc (length rest) = ap (λ z. length z) e in omega (arith, h, n, one)
+rest_length_one_less items rest x len less h e one = let n : length items ≡ suc (length rest) = ap (λ z. length z) e in omega (arith, h, n, one)
 
 -- a list, seen by a function, with one item more
-pub map_of_append_one_is_append_one : {A B : Type 0} (f : A → B) (xs new : List A) (x : A) (ys : List B) → new ≡ xs ++ x ∷ [] → map f xs ≡ ys
+pub map_push : {A B : Type 0} (f : A → B) (xs new : List A) (x : A) (ys : List B) → new ≡ xs ++ x ∷ [] → map f xs ≡ ys
     → map f new ≡ ys ++ f x ∷ []
-map_of_append_one_is_append_one f xs new x ys e h = ap (map f) e ∙ map_of_append_item f xs x ∙ ap (λ z. z ++ f x ∷ []) h
+map_push f xs new x ys e h = ap (map f) e ∙ map_of_append_item f xs x ∙ ap (λ z. z ++ f x ∷ []) h
 
-take_and_next_item_is_take_suc : {A : Type 0} (xs : List A) (i : ℕ) (x d : A) → i < length xs → get_or xs i d ≡ x → take i xs ++ x ∷ [] ≡ take (suc i) xs
-take_and_next_item_is_take_suc [] i x d l e = absurd (omega arith)
-take_and_next_item_is_take_suc (y ∷ xs) zero x d l e = ap (λ z. z ∷ []) (sym e)
-take_and_next_item_is_take_suc (y ∷ xs) (suc i) x d l e = ap (λ z. y ∷ z) (take_and_next_item_is_take_suc xs i x d (omega arith) e)
+take_next_is_take_suc : {A : Type 0} (xs : List A) (i : ℕ) (x d : A) → i < length xs → get_or xs i d ≡ x → take i xs ++ x ∷ [] ≡ take (suc i) xs
+take_next_is_take_suc [] i x d l e = absurd (omega arith)
+take_next_is_take_suc (y ∷ xs) zero x d l e = ap (λ z. z ∷ []) (sym e)
+take_next_is_take_suc (y ∷ xs) (suc i) x d l e = ap (λ z. y ∷ z) (take_next_is_take_suc xs i x d (omega arith) e)
 
 -- the prefix of a list, seen by a function, with one item more
-pub map_is_take_of_map_of_whole_step : {A B C : Type 0} (f : A → B) (h : C → B) (xs new : List A) (x : A) (whole : List C) (c : C) → new ≡ xs ++ x ∷ []
+pub map_take_step : {A B C : Type 0} (f : A → B) (h : C → B) (xs new : List A) (x : A) (whole : List C) (c : C) → new ≡ xs ++ x ∷ []
     → map f xs ≡ take (length xs) (map h whole) → length xs < length whole → c ≡ get_or whole (length xs) c → f x ≡ h c
     → map f new ≡ take (length new) (map h whole)
-map_is_take_of_map_of_whole_step f h xs new x whole c e was l is same =
+map_take_step f h xs new x whole c e was l is same =
     let n : length new ≡ suc (length xs) = ap (λ z. length z) e ∙ length-append xs (x ∷ [])
     ∙ (let k : length xs + 1 ≡ suc (length xs) = omega arith in k) in
-    map_of_append_one_is_append_one f xs new x (take (length xs) (map h whole)) e was
-    ∙ take_and_next_item_is_take_suc (map h whole) (length xs) (f x) (f x) (let m = length-map whole h in omega (arith, m, l))
+    map_push f xs new x (take (length xs) (map h whole)) e was
+    ∙ take_next_is_take_suc (map h whole) (length xs) (f x) (f x) (let m = length-map whole h in omega (arith, m, l))
     (get_or-map h whole (length xs) c (f x) l ∙ ap h (sym is) ∙ sym same)
     ∙ ap (λ k. take k (map h whole)) (sym n)

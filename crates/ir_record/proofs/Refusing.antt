@@ -32,34 +32,34 @@ in_turns_of_append m s ((t, refused) ∷ turns) more run rest (inr some) h = inr
 
 -- ---- turns in which no try is refused that may enter
 
-pub in_plain_turns_if_in_turn : {T : Type 0} (m : Machine T) (s : State T) (order : List ℕ) (run : List Step) → InTurn m s order run
+pub plain_turns_of_order : {T : Type 0} (m : Machine T) (s : State T) (order : List ℕ) (run : List Step) → InTurn m s order run
     → InTurns m s (plain_turns order) run
-in_plain_turns_if_in_turn m s [] run e = e
-in_plain_turns_if_in_turn m s (t ∷ order) run (inl none) = inl (none.0, in_plain_turns_if_in_turn m s order run none.1)
-in_plain_turns_if_in_turn m s (t ∷ order) run (inr some) =
-    inr (some.0, some.1, some.2, some.3, some.4, in_plain_turns_if_in_turn m (after m s (t, some.0)) order some.1 some.5)
+plain_turns_of_order m s [] run e = e
+plain_turns_of_order m s (t ∷ order) run (inl none) = inl (none.0, plain_turns_of_order m s order run none.1)
+plain_turns_of_order m s (t ∷ order) run (inr some) =
+    inr (some.0, some.1, some.2, some.3, some.4, plain_turns_of_order m (after m s (t, some.0)) order some.1 some.5)
 
-pub in_turn_if_in_plain_turns : {T : Type 0} (m : Machine T) (s : State T) (order : List ℕ) (run : List Step) → InTurns m s (plain_turns order) run
+pub order_of_plain_turns : {T : Type 0} (m : Machine T) (s : State T) (order : List ℕ) (run : List Step) → InTurns m s (plain_turns order) run
     → InTurn m s order run
-in_turn_if_in_plain_turns m s [] run e = e
-in_turn_if_in_plain_turns m s (t ∷ order) run (inl none) = inl (none.0, in_turn_if_in_plain_turns m s order run none.1)
-in_turn_if_in_plain_turns m s (t ∷ order) run (inr some) =
-    inr (some.0, some.1, some.2, some.3, some.4, in_turn_if_in_plain_turns m (after m s (t, some.0)) order some.1 some.5)
+order_of_plain_turns m s [] run e = e
+order_of_plain_turns m s (t ∷ order) run (inl none) = inl (none.0, order_of_plain_turns m s order run none.1)
+order_of_plain_turns m s (t ∷ order) run (inr some) =
+    inr (some.0, some.1, some.2, some.3, some.4, order_of_plain_turns m (after m s (t, some.0)) order some.1 some.5)
 
-pub by_plain_turns_if_by_order : {T : Type 0} (m : Machine T) (s : State T) (n : ℕ) (order : List ℕ) (run : List Step) → IsByOrder m s n order run
+pub plain_turns_from_order : {T : Type 0} (m : Machine T) (s : State T) (n : ℕ) (order : List ℕ) (run : List Step) → IsByOrder m s n order run
     → IsByTurns m s n (plain_turns order) run
-by_plain_turns_if_by_order m s n order run h = record {
+plain_turns_from_order m s n order run h = record {
   count = h.count;
   in_turns = subst (λ z. InTurns m s z run) (plain_turns_of_append order (rounds n h.count))
-      (in_plain_turns_if_in_turn m s (order ++ rounds n h.count) run h.turns);
+      (plain_turns_of_order m s (order ++ rounds n h.count) run h.turns);
   done = h.done;
 }
 
-pub by_order_if_by_plain_turns : {T : Type 0} (m : Machine T) (s : State T) (n : ℕ) (order : List ℕ) (run : List Step) → IsByTurns m s n (plain_turns order) run
+pub order_from_plain_turns : {T : Type 0} (m : Machine T) (s : State T) (n : ℕ) (order : List ℕ) (run : List Step) → IsByTurns m s n (plain_turns order) run
     → IsByOrder m s n order run
-by_order_if_by_plain_turns m s n order run h = record {
+order_from_plain_turns m s n order run h = record {
   count = h.count;
-  turns = in_turn_if_in_plain_turns m s (order ++ rounds n h.count) run
+  turns = order_of_plain_turns m s (order ++ rounds n h.count) run
       (subst (λ z. InTurns m s z run) (sym (plain_turns_of_append order (rounds n h.count))) h.in_turns);
   done = h.done;
 }

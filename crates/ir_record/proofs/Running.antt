@@ -9,38 +9,38 @@ use Rattle.ir_flat.specs.Flat.{Flat, thread_of, tables, machine, idle, IsFlat}
 use Rattle.ir_runs.specs.Run.{State, Step, after, IsRun, end}
 use Rattle.ir_runs.specs.Orders.{InTurn}
 use Rattle.ir_log.specs.Logged.{Logged}
-use Rattle.ir_record.specs.Progress.{Took, HasLogs, log_at, labels_at, all_left}
+use Rattle.ir_record.specs.Progress.{TookSteps, HasLogs, log_at, labels_at, all_left}
 use Rattle.ir_record.specs.Worlds.{answers_at, AnsweredCall, answers_in}
 use Rattle.ir_flat.proofs.CallerLemmas.{tallies_along_run}
-use Rattle.ir_record.proofs.Profiles.{are_events_of_equal_profile_and_object_count, profile_is_unchanged_by_run}
-use Rattle.ir_record.proofs.Tally.{HoldFewObjects, all_left_falls_after_steps_of_thread}
+use Rattle.ir_record.proofs.Profiles.{events_of_equal_counts, profile_after_run}
+use Rattle.ir_record.proofs.Tally.{HoldFewObjects, steps_lower_all_left}
 
 -- steps of one thread are its turns
-private_steps_are_in_turn : {T : Type 0} (m : Machine T) (t k : ℕ) (s : State T) → IsRun m s (replicate k (t, 0))
+private_steps_in_turn : {T : Type 0} (m : Machine T) (t k : ℕ) (s : State T) → IsRun m s (replicate k (t, 0))
     → ((j : ℕ) → j < k → m.ask ((end m s (replicate j (t, 0))).now t) ≡ Private) → InTurn m s (replicate k t) (replicate k (t, 0))
-private_steps_are_in_turn m t zero s ok each = refl
-private_steps_are_in_turn m t (suc k) s ok each = inr (
+private_steps_in_turn m t zero s ok each = refl
+private_steps_in_turn m t (suc k) s ok each = inr (
   0,
   replicate k (t, 0),
   refl,
   ok.0,
   λ o tries can. absurd (let private = each 0 (omega arith) in cc (private, tries)),
-  private_steps_are_in_turn m t k (after m s (t, 0)) ok.1 (λ j l. each (suc j) (omega (arith, l))),
+  private_steps_in_turn m t k (after m s (t, 0)) ok.1 (λ j l. each (suc j) (omega (arith, l))),
 )
 
-pub hold_few_objects_if_flat : (f : Flat) → IsFlat f → HoldFewObjects (tables f)
-hold_few_objects_if_flat f flat t = elim (cases_lt t (length f.threads)) [
+pub flat_holds_few : (f : Flat) → IsFlat f → HoldFewObjects (tables f)
+flat_holds_few f flat t = elim (cases_lt t (length f.threads)) [
   | inl l ↦ omega (arith, flat.places t l, flat.few_objects)
   | inr past ↦ let none : length (thread_of f t).held ≡ 0 = ap (λ x. length x.held) (get_or_past f.threads t idle past) in
       omega (arith, none)
 ]
 
-pub turns_taken_by_private_steps : (f g : Flat) (logs : List Logged) (t k : ℕ) → IsFlat f → t < length f.threads → WentAlone f g t k
+pub took_private_steps : (f g : Flat) (logs : List Logged) (t k : ℕ) → IsFlat f → t < length f.threads → WentAlone f g t k
     → (answers : List (List AnsweredCall))
-    → Took (replicate k t) (record { flat = f; logs = logs; answers = answers }) (record { flat = g; logs = logs; answers = answers })
-turns_taken_by_private_steps f g logs t k flat l w answers = record {
+    → TookSteps (replicate k t) (record { flat = f; logs = logs; answers = answers }) (record { flat = g; logs = logs; answers = answers })
+took_private_steps f g logs t k flat l w answers = record {
   run = replicate k (t, 0);
-  turns = private_steps_are_in_turn (machine f) t k (tables f) w.runs (λ j l. ap shared_ask (w.each j l));
+  turns = private_steps_in_turn (machine f) t k (tables f) w.runs (λ j l. ap shared_ask (w.each j l));
   ends = w.ends;
   code = w.code;
   threads = w.threads;
@@ -50,21 +50,21 @@ turns_taken_by_private_steps f g logs t k flat l w answers = record {
   fewer =
       let step : Step = (t, 0) in
       let size : length (replicate k step) ≡ k = length-replicate k step in
-      let less = all_left_falls_after_steps_of_thread f.code (length f.threads) t k (tables f) (hold_few_objects_if_flat f flat) l w.runs in
+      let less = steps_lower_all_left f.code (length f.threads) t k (tables f) (flat_holds_few f flat) l w.runs in
       let same : all_left (length f.threads) (tables g).now ≡ all_left (length f.threads)
       (end (machine f) (tables f) (replicate k (t, 0))).now = ap (λ s. all_left (length f.threads) s.now) w.ends in
       omega (arith, size, less, same);
 }
 
-pub has_logs_after_private_steps : (f g : Flat) (logs : List Logged) (t k : ℕ) → WentAlone f g t k → HasLogs f logs → HasLogs g logs
-has_logs_after_private_steps f g logs t k w has_logs = record {
+pub has_logs_private_steps : (f g : Flat) (logs : List Logged) (t k : ℕ) → WentAlone f g t k → HasLogs f logs → HasLogs g logs
+has_logs_private_steps f g logs t k w has_logs = record {
   one_each = has_logs.one_each ∙ sym w.threads;
   rooms = λ u l. has_logs.rooms u (omega (arith, l, w.threads));
   counts = λ u l. has_logs.counts u (omega (arith, l, w.threads)) ∙ sym (
       ap (λ s. (s.now u).events) w.ends ∙ (tallies_along_run f.code (tables f) (replicate k (t, 0)) w.runs u).events
       ∙ ap (λ z. (thread_of f u).events + length z) (w.quiet u)
       ∙ (let e : (thread_of f u).events + 0 ≡ (thread_of f u).events = omega arith in e));
-  events_fit = λ u l. are_events_of_equal_profile_and_object_count (thread_of f u).profile (thread_of g u).profile (length f.objects) (length g.objects) (log_at logs u).events
-      (ap (λ s. (s.now u).profile) w.ends ∙ profile_is_unchanged_by_run f.code (tables f) (replicate k (t, 0)) u) w.objects
+  events_fit = λ u l. events_of_equal_counts (thread_of f u).profile (thread_of g u).profile (length f.objects) (length g.objects) (log_at logs u).events
+      (ap (λ s. (s.now u).profile) w.ends ∙ profile_after_run f.code (tables f) (replicate k (t, 0)) u) w.objects
       (has_logs.events_fit u (omega (arith, l, w.threads)));
 }

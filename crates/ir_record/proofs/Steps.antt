@@ -1,5 +1,6 @@
 -- Steps that are recorded.
-use Rattle.std.proofs.Common.{◌≡◌, ◌≢◌, ℕ, zero, suc, ◌+◌, ◌<◌, ◌≤◌, true, false, Bool, List, [], ◌∷◌, ◌++◌, length, refl, sym, ap, ◌∙◌, subst, arith, inl, inr, eq-eqb, ne_eqb, append-nil, append_assoc, length-append}
+use Rattle.std.proofs.Common.{◌≡◌, ◌≢◌, ℕ, zero, suc, ◌+◌, ◌<◌, ◌≤◌, true, false, Bool, List, [], ◌∷◌, ◌++◌, length, refl, sym, ap, ◌∙◌}
+use Rattle.std.proofs.Common.{subst, arith, inl, inr, eq-eqb, ne_eqb, append-nil, append_assoc, length-append}
 use Rattle.std.proofs.lemmas.Bool.{cases_eq}
 use Rattle.ir_thread.specs.State.{ask_of, shared_ask, thread_machine}
 use Rattle.ir_thread.specs.declared.ask.Ask.{Ask}
@@ -9,30 +10,30 @@ use Rattle.ir_flat.specs.Flat.{Flat, thread_of, tables, machine}
 use Rattle.ir_runs.specs.Run.{Step, Can, asked, after, label, end, join_if, events, log, EntersIfFree, HasNone}
 use Rattle.ir_runs.specs.Orders.{InTurn}
 use Rattle.ir_runs.proofs.CallerLemmas.{log_append, end_append, in_turn_of_append}
-use Rattle.ir_record.specs.Progress.{Progress, Moved, Took, TookIf, TookTurns, all_left, labels_at}
+use Rattle.ir_record.specs.Progress.{Progress, Moved, TookSteps, TookIf, TookTurns, all_left, labels_at}
 use Rattle.ir_record.specs.Refusing.{Turn, plain_turns, InTurns}
 use Rattle.ir_record.specs.Worlds.{answers_at, answers_in}
-use Rattle.ir_record.proofs.Refusing.{in_plain_turns_if_in_turn, in_turns_of_append}
-use Rattle.ir_record.proofs.Tally.{HoldFewObjects, all_left_falls_after_step}
+use Rattle.ir_record.proofs.Refusing.{plain_turns_of_order, in_turns_of_append}
+use Rattle.ir_record.proofs.Tally.{HoldFewObjects, step_lowers_all_left}
 
 -- ---- what a step logs
 
-pub log_of_own_step_is_its_logged_label : (f : Flat) (t r : ℕ) → log (machine f) (tables f) ((t, r) ∷ []) t ≡ logged (label (machine f) (tables f) (t, r)) []
-log_of_own_step_is_its_logged_label f t r = ap (λ b. events (join_if b (thread_of f t, label (machine f) (tables f) (t, r)) [])) (eq-eqb t t refl)
+pub own_log_is_logged : (f : Flat) (t r : ℕ) → log (machine f) (tables f) ((t, r) ∷ []) t ≡ logged (label (machine f) (tables f) (t, r)) []
+own_log_is_logged f t r = ap (λ b. events (join_if b (thread_of f t, label (machine f) (tables f) (t, r)) [])) (eq-eqb t t refl)
 
-pub log_is_empty_for_step_of_other : (f : Flat) (t r u : ℕ) → u ≢ t → log (machine f) (tables f) ((t, r) ∷ []) u ≡ []
-log_is_empty_for_step_of_other f t r u ne = ap (λ b. events (join_if b (thread_of f u, label (machine f) (tables f) (t, r)) [])) (ne_eqb u t ne)
+pub other_log_is_empty : (f : Flat) (t r u : ℕ) → u ≢ t → log (machine f) (tables f) ((t, r) ∷ []) u ≡ []
+other_log_is_empty f t r u ne = ap (λ b. events (join_if b (thread_of f u, label (machine f) (tables f) (t, r)) [])) (ne_eqb u t ne)
 
 -- ---- turns that were taken
 
 -- what is no try enters nothing
-pub enters_if_free_unless_ask_is_try : (f : Flat) (t r : ℕ) (q : Ask) → ask_of f.code (thread_of f t) ≡ q → ((o : ℕ) → shared_ask q ≢ machine.Try o)
+pub no_try_enters_if_free : (f : Flat) (t r : ℕ) (q : Ask) → ask_of f.code (thread_of f t) ≡ q → ((o : ℕ) → shared_ask q ≢ machine.Try o)
     → EntersIfFree (machine f) (tables f) (t, r)
-enters_if_free_unless_ask_is_try f t r q is never o tries can = absurd (never o (sym (ap shared_ask is) ∙ tries))
+no_try_enters_if_free f t r q is never o tries can = absurd (never o (sym (ap shared_ask is) ∙ tries))
 
 -- nothing happens in the turn of a thread that has no step
-pub turn_took_no_step_if_none_and_progress_same : (t : ℕ) (a b : Progress) → HasNone (machine a.flat) (tables a.flat) t → b ≡ a → TookIf false (t ∷ []) a b
-turn_took_no_step_if_none_and_progress_same t a b none same = subst (TookIf false (t ∷ []) a) (sym same) (record {
+pub took_none_if_same : (t : ℕ) (a b : Progress) → HasNone (machine a.flat) (tables a.flat) t → b ≡ a → TookIf false (t ∷ []) a b
+took_none_if_same t a b none same = subst (TookIf false (t ∷ []) a) (sym same) (record {
   took = record {
     run = [];
     turns = inl (none, refl);
@@ -71,23 +72,23 @@ moved_if_one_step t r k a b s = record {
   objects = s.objects;
   logs = λ u l. elim (cases_eq u t) [
     | inl e ↦ subst (λ z. labels_at b.logs z ≡ labels_at a.logs z ++ log (machine a.flat) (tables a.flat) ((t, r) ∷ []) z) (sym e)
-        (s.own_log ∙ ap (λ z. labels_at a.logs t ++ z) (sym (log_of_own_step_is_its_logged_label a.flat t r ∙ ap (λ z. logged z []) s.emits)))
+        (s.own_log ∙ ap (λ z. labels_at a.logs t ++ z) (sym (own_log_is_logged a.flat t r ∙ ap (λ z. logged z []) s.emits)))
     | inr ne ↦ s.other_logs u ne ∙ sym (append-nil (labels_at a.logs u))
-        ∙ ap (λ z. labels_at a.logs u ++ z) (sym (log_is_empty_for_step_of_other a.flat t r u ne))
+        ∙ ap (λ z. labels_at a.logs u ++ z) (sym (other_log_is_empty a.flat t r u ne))
   ];
   answers = λ u l. elim (cases_eq u t) [
     | inl e ↦ subst (λ z. answers_at b.answers z ≡ answers_at a.answers z ++ answers_in
         (log (machine a.flat) (tables a.flat) ((t, r) ∷ []) z)) (sym e)
-        (s.own_answers ∙ ap (λ z. answers_at a.answers t ++ answers_in z) (sym (log_of_own_step_is_its_logged_label a.flat t r ∙ ap (λ z. logged z []) s.emits)))
+        (s.own_answers ∙ ap (λ z. answers_at a.answers t ++ answers_in z) (sym (own_log_is_logged a.flat t r ∙ ap (λ z. logged z []) s.emits)))
     | inr ne ↦ s.other_answers u ne ∙ sym (append-nil (answers_at a.answers u))
-        ∙ ap (λ z. answers_at a.answers u ++ answers_in z) (sym (log_is_empty_for_step_of_other a.flat t r u ne))
+        ∙ ap (λ z. answers_at a.answers u ++ answers_in z) (sym (other_log_is_empty a.flat t r u ne))
   ];
   fewer = subst (λ z. all_left (length a.flat.threads) z.now + 1 ≤ all_left (length a.flat.threads) (thread_of a.flat)) (sym s.taken)
-      (all_left_falls_after_step a.flat.code (length a.flat.threads) (tables a.flat) (t, r) s.few s.below s.can);
+      (step_lowers_all_left a.flat.code (length a.flat.threads) (tables a.flat) (t, r) s.few s.below s.can);
 }
 
 unfoldable pub took_turn_by_step : (t r : ℕ) (k : Label) (a b : Progress) → OneStep t r k a b → EntersIfFree (machine a.flat) (tables a.flat) (t, r)
-    → Took (t ∷ []) a b
+    → TookSteps (t ∷ []) a b
 took_turn_by_step t r k a b s enters =
     let m : Moved ((t, r) ∷ []) a b = moved_if_one_step t r k a b s in
     record {
@@ -113,19 +114,19 @@ turn_taken_by_step t r k a b s enters = record {
 }
 
 -- in a turn in which a try is refused
-pub took_refused_turn_by_step : (t : ℕ) (k : Label) (a b : Progress) → OneStep t 0 k a b → TookTurns ((t, true) ∷ []) a b
-took_refused_turn_by_step t k a b s = record {
+pub took_refused_turn : (t : ℕ) (k : Label) (a b : Progress) → OneStep t 0 k a b → TookTurns ((t, true) ∷ []) a b
+took_refused_turn t k a b s = record {
   run = (t, 0) ∷ [];
   in_turns = inr (0, [], refl, s.can, (λ o tries. refl), refl);
   moved = moved_if_one_step t 0 k a b s;
 }
 
-answers_in_logged_is_append : (k : Label) (ys : List Label) → answers_in (logged k ys) ≡ answers_in (logged k []) ++ answers_in ys
-answers_in_logged_is_append Quiet ys = refl
-answers_in_logged_is_append (Answer i v) ys = refl
-answers_in_logged_is_append (EnteredAt o a v l) ys = refl
-answers_in_logged_is_append (FailedTry o) ys = refl
-answers_in_logged_is_append (LeftAt o a v) ys = refl
+pub answers_in-logged : (k : Label) (ys : List Label) → answers_in (logged k ys) ≡ answers_in (logged k []) ++ answers_in ys
+answers_in-logged Quiet ys = refl
+answers_in-logged (Answer i v) ys = refl
+answers_in-logged (EnteredAt o a v l) ys = refl
+answers_in-logged (FailedTry o) ys = refl
+answers_in-logged (LeftAt o a v) ys = refl
 
 pub answers_in_append : (xs ys : List Label) → answers_in (xs ++ ys) ≡ answers_in xs ++ answers_in ys
 answers_in_append [] ys = refl
@@ -137,7 +138,7 @@ answers_in_append (LeftAt o a v ∷ xs) ys = answers_in_append xs ys
 
 -- ---- turns one after the other
 
-unfoldable pub took_no_turns : (a : Progress) → Took [] a a
+unfoldable pub took_no_turns : (a : Progress) → TookSteps [] a a
 took_no_turns a = record {
   run = [];
   turns = refl;
@@ -151,10 +152,10 @@ took_no_turns a = record {
 }
 
 -- the same run on the machine and state at which it begins
-pub log_on_later_machine_is_log_on_first_machine_after_run : (a b : Progress) (first : List Step) (run : List Step) (t : ℕ) → b.flat.code ≡ a.flat.code
+pub log_on_later_machine : (a b : Progress) (first : List Step) (run : List Step) (t : ℕ) → b.flat.code ≡ a.flat.code
     → tables b.flat ≡ end (machine a.flat) (tables a.flat) first
     → log (machine b.flat) (tables b.flat) run t ≡ log (machine a.flat) (end (machine a.flat) (tables a.flat) first) run t
-log_on_later_machine_is_log_on_first_machine_after_run a b first run t code ends = ap (λ c. log (thread_machine c) (tables b.flat) run t) code
+log_on_later_machine a b first run t code ends = ap (λ c. log (thread_machine c) (tables b.flat) run t) code
     ∙ ap (λ s. log (machine a.flat) s run t) ends
 
 unfoldable pub moved_by_append_of_runs : (first next : List Step) (a b c : Progress) → Moved first a b → Moved next b c → Moved (first ++ next) a c
@@ -162,7 +163,7 @@ moved_by_append_of_runs first next a b c p q =
     let logs_of : (t : ℕ) → log (machine a.flat) (tables a.flat) (first ++ next) t ≡ log (machine a.flat) (tables a.flat) first t ++ log
     (machine b.flat) (tables b.flat) next t =
     λ t. log_append (machine a.flat) (tables a.flat) first next t
-    ∙ ap (λ z. log (machine a.flat) (tables a.flat) first t ++ z) (sym (log_on_later_machine_is_log_on_first_machine_after_run a b first next t p.code p.ends)) in
+    ∙ ap (λ z. log (machine a.flat) (tables a.flat) first t ++ z) (sym (log_on_later_machine a b first next t p.code p.ends)) in
     record {
       ends = q.ends ∙ ap (λ k. end (thread_machine k) (tables b.flat) next) p.code ∙ ap (λ s. end (machine a.flat) s next) p.ends
           ∙ sym (end_append (machine a.flat) (tables a.flat) first next);
@@ -187,7 +188,7 @@ moved_by_append_of_runs first next a b c p q =
     }
 
 -- the steps of turns
-pub moved_if_took : {order : List ℕ} {a b : Progress} (k : Took order a b) → Moved k.run a b
+pub moved_if_took : {order : List ℕ} {a b : Progress} (k : TookSteps order a b) → Moved k.run a b
 moved_if_took k = record {
   ends = k.ends;
   code = k.code;
@@ -198,7 +199,7 @@ moved_if_took k = record {
   fewer = k.fewer;
 }
 
-unfoldable pub took_append_of_orders : (order more : List ℕ) (a b c : Progress) → Took order a b → Took more b c → Took (order ++ more) a c
+unfoldable pub took_append_of_orders : (order more : List ℕ) (a b c : Progress) → TookSteps order a b → TookSteps more b c → TookSteps (order ++ more) a c
 took_append_of_orders order more a b c p q =
     let m : Moved (p.run ++ q.run) a c = moved_by_append_of_runs p.run q.run a b c (moved_if_took p) (moved_if_took q) in
     record {
@@ -218,17 +219,17 @@ took_append_of_orders order more a b c p q =
 -- ---- turns in which tries may be refused
 
 -- turns in which no try is refused that may enter
-pub took_plain_turns_if_took_order : (order : List ℕ) (a b : Progress) → Took order a b → TookTurns (plain_turns order) a b
-took_plain_turns_if_took_order order a b k = record {
+pub took_plain_turns : (order : List ℕ) (a b : Progress) → TookSteps order a b → TookTurns (plain_turns order) a b
+took_plain_turns order a b k = record {
   run = k.run;
-  in_turns = in_plain_turns_if_in_turn (machine a.flat) (tables a.flat) order k.run k.turns;
+  in_turns = plain_turns_of_order (machine a.flat) (tables a.flat) order k.run k.turns;
   moved = moved_if_took k;
 }
 
 -- where the thread asks no try, refusing its tries changes nothing
-pub took_refused_turn_if_ask_is_no_try : (t : ℕ) (a b : Progress) → ((o : ℕ) → asked (machine a.flat) (tables a.flat) t ≢ machine.Try o) → Took (t ∷ []) a b
+pub refused_no_try_turn : (t : ℕ) (a b : Progress) → ((o : ℕ) → asked (machine a.flat) (tables a.flat) t ≢ machine.Try o) → TookSteps (t ∷ []) a b
     → TookTurns ((t, true) ∷ []) a b
-took_refused_turn_if_ask_is_no_try t a b never k = record { run = k.run; in_turns = refusing k.run k.turns; moved = moved_if_took k }
+refused_no_try_turn t a b never k = record { run = k.run; in_turns = refusing k.run k.turns; moved = moved_if_took k }
   where
     refusing : (run : List Step) → InTurn (machine a.flat) (tables a.flat) (t ∷ []) run
         → InTurns (machine a.flat) (tables a.flat) ((t, true) ∷ []) run
@@ -236,11 +237,11 @@ took_refused_turn_if_ask_is_no_try t a b never k = record { run = k.run; in_turn
     refusing run (inr some) = inr (some.0, some.1, some.2, some.3, (λ o tries. absurd (never o tries)), some.5)
 
 pub took_turns_of_empty : (a : Progress) → TookTurns [] a a
-took_turns_of_empty a = took_plain_turns_if_took_order [] a a (took_no_turns a)
+took_turns_of_empty a = took_plain_turns [] a a (took_no_turns a)
 
 -- a turn of what has no step
-pub took_turn_without_step_changes_nothing : (t : ℕ) (refused : Bool) (a : Progress) → HasNone (machine a.flat) (tables a.flat) t → TookTurns ((t, refused) ∷ []) a a
-took_turn_without_step_changes_nothing t refused a none = record { run = []; in_turns = inl (none, refl); moved = still }
+pub took_turn_without_step : (t : ℕ) (refused : Bool) (a : Progress) → HasNone (machine a.flat) (tables a.flat) t → TookTurns ((t, refused) ∷ []) a a
+took_turn_without_step t refused a none = record { run = []; in_turns = inl (none, refl); moved = still }
   where
     still : Moved [] a a
     still = record {

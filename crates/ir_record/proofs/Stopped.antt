@@ -1,6 +1,7 @@
 -- Turns that end at a world that fails.
 use Rattle.ir_thread.specs.declared.profile.Profile.{Profile}
-use Rattle.std.proofs.Common.{◌≡◌, ℕ, zero, suc, ◌+◌, ◌-◌, ◌<◌, ◌≤◌, Bool, false, List, [], ◌∷◌, ◌++◌, length, replicate, Some, Result, Ok, Err, IfErr, IsErrAnd, refl, sym, ap, ◌∙◌, subst, arith, append-nil, append_assoc}
+use Rattle.std.proofs.Common.{◌≡◌, ℕ, zero, suc, ◌+◌, ◌-◌, ◌<◌, ◌≤◌, Bool, false, List, [], ◌∷◌, ◌++◌, length, replicate, Some, Result, Ok}
+use Rattle.std.proofs.Common.{Err, IfErr, IsErrAnd, refl, sym, ap, ◌∙◌, subst, arith, append-nil, append_assoc}
 use Rattle.std.proofs.lemmas.List.{replicate-append-replicate}
 use Rattle.std.proofs.lemmas.Option.{slice_get-get_or}
 use Rattle.std.specs.List.{range_with_len}
@@ -16,24 +17,24 @@ use Rattle.ir_runs.proofs.CallerLemmas.{log_append, end_append, in_turn_of_appen
 use Rattle.ir_log.specs.Logged.{Logged}
 use Rattle.ir_record.specs.Ahead.{Went}
 use Rattle.ir_record.specs.Failures.{IsUnanswered, StoppedAt, StoppedTurns}
-use Rattle.ir_record.specs.Progress.{Progress, Took, TookTurns, IsReady}
+use Rattle.ir_record.specs.Progress.{Progress, TookSteps, TookTurns, IsReadyToRecord}
 use Rattle.ir_record.specs.Refusing.{Turn, plain_turns, InTurns}
 use Rattle.ir_record.specs.Worlds.{answers_at, AnsweredCall, answers_in}
 use Rattle.ir_record.specs.Recording.{StoppedInTurns}
-use Rattle.ir_record.proofs.Ended.{start, progress_is_start_if_flat_and_logs_are_new, new_log}
-use Rattle.ir_record.proofs.Going.{reached, range_from_zero_with_last}
-use Rattle.ir_record.proofs.Refusing.{plain_turns_of_append, in_turns_of_append, in_plain_turns_if_in_turn}
-use Rattle.ir_record.proofs.Steps.{log_on_later_machine_is_log_on_first_machine_after_run, answers_in_append}
+use Rattle.ir_record.proofs.Ended.{start, new_is_start_progress, new_log}
+use Rattle.ir_record.proofs.Going.{reached, range_from_zero_push}
+use Rattle.ir_record.proofs.Refusing.{plain_turns_of_append, in_turns_of_append, plain_turns_of_order}
+use Rattle.ir_record.proofs.Steps.{log_on_later_machine, answers_in_append}
 
 -- the error that a `?` hands on
-pub if_err_holds_if_holds_of_its_error : {A E : Type 0} (P : E → Type 0) (r : Result A E) (e : E) → IsErrAnd r (λ x. x ≡ e) → P e → IfErr r P
-if_err_holds_if_holds_of_its_error P (Ok x) e h p = tt
-if_err_holds_if_holds_of_its_error P (Err x) e h p = subst P (sym h) p
+pub if_err_of_its_error : {A E : Type 0} (P : E → Type 0) (r : Result A E) (e : E) → IsErrAnd r (λ x. x ≡ e) → P e → IfErr r P
+if_err_of_its_error P (Ok x) e h p = tt
+if_err_of_its_error P (Err x) e h p = subst P (sym h) p
 
 -- a turn in which the thread asks its world, in any state in which it is the same
-pub stopped_at_turn_of_unanswered_thread : (t : ℕ) (s : State thread.ThreadState) (p : Progress) (named : ℕ) (answers : List (List AnsweredCall)) (failed : List Bool)
-    → IsReady p failed → s.now t ≡ thread_of p.flat t → IsUnanswered t p named answers → StoppedAt (t ∷ []) s p named answers
-stopped_at_turn_of_unanswered_thread t s p named answers failed ready same h = record {
+pub stopped_at_unanswered : (t : ℕ) (s : State thread.ThreadState) (p : Progress) (named : ℕ) (answers : List (List AnsweredCall)) (failed : List Bool)
+    → IsReadyToRecord p failed → s.now t ≡ thread_of p.flat t → IsUnanswered t p named answers → StoppedAt (t ∷ []) s p named answers
+stopped_at_unanswered t s p named answers failed ready same h = record {
   taken = [];
   left = [];
   so_far = ap (λ z. z ∷ []) (sym h.named_is);
@@ -62,11 +63,11 @@ stopped_in_longer_order order more whole s p named answers e h = record {
 }
 
 -- turns by a first order, and those of a next one
-stopped_after_run_of_order : (order more : List ℕ) (s : State thread.ThreadState) (a b : Progress) (run : List Step) (named : ℕ) (answers : List (List AnsweredCall))
+stopped_after_order : (order more : List ℕ) (s : State thread.ThreadState) (a b : Progress) (run : List Step) (named : ℕ) (answers : List (List AnsweredCall))
     → InTurn (machine a.flat) s order run → b.flat.code ≡ a.flat.code → length b.flat.threads ≡ length a.flat.threads
     → ((t : ℕ) → t < length a.flat.threads → answers_at b.answers t ≡ answers_at a.answers t ++ answers_in (log (machine a.flat) s run t))
     → StoppedAt more (end (machine a.flat) s run) b named answers → StoppedAt (order ++ more) s a named answers
-stopped_after_run_of_order order more s a b run named answers turns code threads given h =
+stopped_after_order order more s a b run named answers turns code threads given h =
     let mid : State thread.ThreadState = end (machine a.flat) s run in
     let logs_of : (t : ℕ) → log (machine a.flat) s (run ++ h.run) t ≡ log (machine a.flat) s run t ++ log (machine b.flat) mid h.run t =
     λ t. log_append (machine a.flat) s run h.run t
@@ -89,17 +90,17 @@ stopped_after_run_of_order order more s a b run named answers turns code threads
           (sym (answers_in_append (log (machine a.flat) s run t) (log (machine b.flat) mid h.run t)) ∙ ap answers_in (sym (logs_of t)));
     }
 
-pub stopped_after_turns : (order more : List ℕ) (a b : Progress) (named : ℕ) (answers : List (List AnsweredCall)) → Took order a b
+pub stopped_after_turns : (order more : List ℕ) (a b : Progress) (named : ℕ) (answers : List (List AnsweredCall)) → TookSteps order a b
     → StoppedAt more (tables b.flat) b named answers → StoppedAt (order ++ more) (tables a.flat) a named answers
-stopped_after_turns order more a b named answers p h = stopped_after_run_of_order order more (tables a.flat) a b p.run named answers p.turns p.code p.threads
+stopped_after_turns order more a b named answers p h = stopped_after_order order more (tables a.flat) a b p.run named answers p.turns p.code p.threads
     p.answers (subst (λ s. StoppedAt more s b named answers) p.ends h)
 
 -- the same where threads are ahead
-pub stopped_after_turns_ahead : (order more : List ℕ) (s : State thread.ThreadState) (a b : Progress) (c d : List ℕ) (named : ℕ)
+pub stopped_past_turns : (order more : List ℕ) (s : State thread.ThreadState) (a b : Progress) (c d : List ℕ) (named : ℕ)
     (answers : List (List AnsweredCall)) (p : Went order s a c b d) → StoppedAt more (reached p) b named answers
     → StoppedAt (order ++ more) s a named answers
-stopped_after_turns_ahead order more s a b c d named answers p h =
-    stopped_after_run_of_order order more s a b p.run named answers p.turns p.code p.threads p.answers h
+stopped_past_turns order more s a b c d named answers p h =
+    stopped_after_order order more s a b p.run named answers p.turns p.code p.threads p.answers h
 
 -- n numbers, and then the others
 pub range_splits_in_two : (from n more : ℕ) → range_with_len from n ++ range_with_len (from + n) more ≡ range_with_len from (n + more)
@@ -112,29 +113,29 @@ range_splits_in_two from (suc n) more = ap (λ xs. from ∷ xs)
 
 -- the numbers below t, t, and those after it
 pub range_splits_at_number : (t n : ℕ) → t < n → (range_with_len 0 t ++ t ∷ []) ++ range_with_len (t + 1) (n - (t + 1)) ≡ range_with_len 0 n
-range_splits_at_number t n l = ap (λ z. z ++ range_with_len (t + 1) (n - (t + 1))) (range_from_zero_with_last t)
+range_splits_at_number t n l = ap (λ z. z ++ range_with_len (t + 1) (n - (t + 1))) (range_from_zero_push t)
     ∙ ap (λ k. range_with_len 0 (t + 1) ++ range_with_len k (n - (t + 1))) (let e : t + 1 ≡ 0 + (t + 1) = omega arith in e)
     ∙ range_splits_in_two 0 (t + 1) (n - (t + 1)) ∙ ap (range_with_len 0) (let e : t + 1 + (n - (t + 1)) ≡ n = omega (arith, l) in e)
 
 -- the turns of one thread before the last one that was taken, that one, and those after it
-pub replicate_splits_around_later_element : (t count left ran : ℕ) → left ≤ count → 0 < left → ran ≤ left - 1
+pub replicate_around_later : (t count left ran : ℕ) → left ≤ count → 0 < left → ran ≤ left - 1
     → (replicate (count - left + ran) t ++ t ∷ []) ++ replicate (left - (ran + 1)) t ≡ replicate count t
-replicate_splits_around_later_element t count left ran l some few = ap (λ z. z ++ replicate (left - (ran + 1)) t) (replicate-append-replicate (count - left + ran) 1 t)
+replicate_around_later t count left ran l some few = ap (λ z. z ++ replicate (left - (ran + 1)) t) (replicate-append-replicate (count - left + ran) 1 t)
     ∙ replicate-append-replicate (count - left + ran + 1) (left - (ran + 1)) t
     ∙ ap (λ k. replicate k t) (let e : count - left + ran + 1 + (left - (ran + 1)) ≡ count = omega (arith, l, some, few) in e)
 
 -- ---- turns in which tries may be refused
 
 -- turns in which no try is refused that may enter
-pub stopped_in_plain_turns_if_in_order : (order : List ℕ) (p : Progress) (named : ℕ) (answers : List (List AnsweredCall)) → StoppedAt order (tables p.flat) p named answers
+pub stopped_plain_turns : (order : List ℕ) (p : Progress) (named : ℕ) (answers : List (List AnsweredCall)) → StoppedAt order (tables p.flat) p named answers
     → StoppedTurns (plain_turns order) p named answers
-stopped_in_plain_turns_if_in_order order p named answers h = record {
+stopped_plain_turns order p named answers h = record {
   taken = plain_turns h.taken;
   refused = false;
   left = plain_turns h.left;
   so_far = ap plain_turns h.so_far ∙ plain_turns_of_append h.taken (named ∷ h.left);
   run = h.run;
-  in_turns = in_plain_turns_if_in_turn (machine p.flat) (tables p.flat) h.taken h.run h.turns;
+  in_turns = plain_turns_of_order (machine p.flat) (tables p.flat) h.taken h.run h.turns;
   kind = h.kind;
   asks = h.asks;
   worlds = h.worlds;
@@ -142,10 +143,10 @@ stopped_in_plain_turns_if_in_order order p named answers h = record {
 }
 
 -- a turn in which the thread asks its world
-pub stopped_turns_at_turn_of_unanswered_thread : (t : ℕ) (refused : Bool) (p : Progress) (named : ℕ) (answers : List (List AnsweredCall)) (failed : List Bool) → IsReady p failed
+pub stopped_turns_unanswered : (t : ℕ) (refused : Bool) (p : Progress) (named : ℕ) (answers : List (List AnsweredCall)) (failed : List Bool) → IsReadyToRecord p failed
     → IsUnanswered t p named answers → StoppedTurns ((t, refused) ∷ []) p named answers
-stopped_turns_at_turn_of_unanswered_thread t refused p named answers failed ready h =
-    let s : StoppedAt (t ∷ []) (tables p.flat) p named answers = stopped_at_turn_of_unanswered_thread t (tables p.flat) p named answers failed ready refl h in
+stopped_turns_unanswered t refused p named answers failed ready h =
+    let s : StoppedAt (t ∷ []) (tables p.flat) p named answers = stopped_at_unanswered t (tables p.flat) p named answers failed ready refl h in
     record {
       taken = [];
       refused = refused;
@@ -176,13 +177,13 @@ stopped_in_longer_turns turns more whole p named answers e h = record {
 }
 
 -- turns, and then others
-pub stopped_turns_after_turns : (turns more : List Turn) (a b : Progress) (named : ℕ) (answers : List (List AnsweredCall)) → TookTurns turns a b
+pub stopped_turns_after : (turns more : List Turn) (a b : Progress) (named : ℕ) (answers : List (List AnsweredCall)) → TookTurns turns a b
     → StoppedTurns more b named answers → StoppedTurns (turns ++ more) a named answers
-stopped_turns_after_turns turns more a b named answers p h =
+stopped_turns_after turns more a b named answers p h =
     let both : (t : ℕ) → log (machine a.flat) (tables a.flat) (p.run ++ h.run) t ≡ log (machine a.flat) (tables a.flat) p.run t
     ++ log (machine b.flat) (tables b.flat) h.run t =
     λ t. log_append (machine a.flat) (tables a.flat) p.run h.run t
-    ∙ ap (λ z. log (machine a.flat) (tables a.flat) p.run t ++ z) (sym (log_on_later_machine_is_log_on_first_machine_after_run a b p.run h.run t p.moved.code p.moved.ends)) in
+    ∙ ap (λ z. log (machine a.flat) (tables a.flat) p.run t ++ z) (sym (log_on_later_machine a b p.run h.run t p.moved.code p.moved.ends)) in
     record {
       taken = turns ++ h.taken;
       refused = h.refused;
@@ -207,16 +208,16 @@ stopped_turns_after_turns turns more a b named answers p h =
     }
 
 -- the turns from the guest's start
-pub recording_stopped_in_turns_if_stopped_from_start : {guest : Guest} {budget : ℕ} {profile : Profile} {turns : List Turn} {before answers : List (List AnsweredCall)}
+pub recording_stopped : {guest : Guest} {budget : ℕ} {profile : Profile} {turns : List Turn} {before answers : List (List AnsweredCall)}
     {f : Flat} {logs : List Logged} {named : ℕ} → f ≡ start_flat guest budget profile → logs ≡ replicate (length guest.entries) new_log
     → ((count : ℕ) × StoppedTurns (turns ++ plain_turns (rounds (length f.threads) count)) (record { flat = f; logs = logs; answers = before })
     named answers) → StoppedInTurns guest budget profile turns named before answers
-recording_stopped_in_turns_if_stopped_from_start {guest} {budget} {profile} {turns} {before} {answers} {f} {logs} {named} p q k =
+recording_stopped {guest} {budget} {profile} {turns} {before} {answers} {f} {logs} {named} p q k =
     let size : length (start_flat guest budget profile).threads ≡ length guest.entries =
     length_of_start_threads guest budget profile 0 (length guest.entries) in
     let h : StoppedTurns (turns ++ plain_turns (rounds (length f.threads) k.0)) (start guest budget profile before) named answers =
     subst (λ z. StoppedTurns (turns ++ plain_turns (rounds (length f.threads) k.0)) z named answers)
-    (progress_is_start_if_flat_and_logs_are_new guest budget profile before p q) k.1 in
+    (new_is_start_progress guest budget profile before p q) k.1 in
     record {
       count = k.0;
       taken = h.taken;

@@ -9,7 +9,7 @@ use Rattle.ir_thread.specs.State as thread
 use Rattle.ir_thread.specs.declared.end.End as end
 use Rattle.ir_flat.specs.Flat.{start_flat, tables}
 use Rattle.ir_runs.specs.Run.{Step, IsRun, IsDone, end, log, count}
-use Rattle.ir_flat.proofs.CallerLemmas.{tallies_along_run, start_thread_has_no_steps}
+use Rattle.ir_flat.proofs.CallerLemmas.{tallies_along_run, start_has_no_steps}
 use Rattle.ir_log.specs.Logged.{Logged}
 use Rattle.ir_log.specs.Logging.{label_of}
 use Rattle.ir_trace.specs.Recorded.{Recorded, RecordedThread}
@@ -52,7 +52,7 @@ module _ {guest : Guest} {budget : ℕ} {profile : Profile} {run : List Step} {b
       steps = λ t l. sym ((each t l).steps ∙ ap (λ x. x.steps) (s.threads t l)
           ∙ (tallies_along_run guest.code (tables (start_flat guest budget profile)) run s.runs t).steps
           ∙ ap (λ k. k + count (thread_machine guest.code) (tables (start_flat guest budget profile)) run t)
-          (start_thread_has_no_steps guest budget profile 0 (length guest.entries) t)
+          (start_has_no_steps guest budget profile 0 (length guest.entries) t)
           ∙ (let e : 0 + count (thread_machine guest.code) (tables (start_flat guest budget profile)) run t ≡ count (thread_machine guest.code)
           (tables (start_flat guest budget profile)) run t = omega arith in e));
       logs = λ t l. sym (ap (map label_of) (each t l).events ∙ s.logged t l);

@@ -10,22 +10,22 @@ use Rattle.ir_runs.specs.Machine.{act_of, target, emitted, Admits, Label, Failed
 use Rattle.ir_runs.specs.declared.access.Access.TheVariants.{Writing}
 use Rattle.ir_runs.specs.Run.{Can, after}
 use Rattle.ir_flat.specs.Flat.{Flat, thread_of, tables, machine as machine_of, IsFlat}
-use Rattle.ir_flat.proofs.CallerLemmas.{events_added_by, tried_object_below_object_count}
+use Rattle.ir_flat.proofs.CallerLemmas.{events_added_by, tried_object_exists}
 use Rattle.ir_log.specs.Logged.{Logged}
 use Rattle.ir_log.specs.Logging.{label_of}
 use Rattle.ir_log.specs.declared.event.Event.{Event}
 use Rattle.ir_log.specs.declared.event.Event.TheVariants as event
 use Rattle.ir_trace.specs.Bounds.{IsEvent}
 use Rattle.ir_record.specs.Progress.{HasLogs, log_at}
-use Rattle.ir_record.proofs.Entering.{OneEventLogged, label_of_step_is_emitted_by_act_of_ask, entry_logs_itself, entry_logs_no_answer}
+use Rattle.ir_record.proofs.Entering.{OneEventLogged, step_label_is_emitted, entry_logs_itself, entry_logs_no_answer}
 
 -- there is room to log a try
-pub event_count_is_below_limit_at_try : (f : Flat) (t o : ℕ) → ask_of f.code (thread_of f t) ≡ Try o → (thread_of f t).events < most_events
-event_count_is_below_limit_at_try f t o is = (subst (Permits (thread_of f t)) is (ask_of_permitted f.code (thread_of f t))).1
+pub try_events_below_limit : (f : Flat) (t o : ℕ) → ask_of f.code (thread_of f t) ≡ Try o → (thread_of f t).events < most_events
+try_events_below_limit f t o is = (subst (Permits (thread_of f t)) is (ask_of_permitted f.code (thread_of f t))).1
 
 -- a try may always be refused
-pub refused_try_can_be_taken : (f : Flat) (t o : ℕ) → ask_of f.code (thread_of f t) ≡ Try o → Can (machine_of f) (tables f) (t, 0)
-refused_try_can_be_taken f t o is = subst (λ q. Admits (machine_of f) (act_of (shared_ask q) 0) ((tables f).objects (target (act_of (shared_ask q) 0))))
+pub refused_try_can_step : (f : Flat) (t o : ℕ) → ask_of f.code (thread_of f t) ≡ Try o → Can (machine_of f) (tables f) (t, 0)
+refused_try_can_step f t o is = subst (λ q. Admits (machine_of f) (act_of (shared_ask q) 0) ((tables f).objects (target (act_of (shared_ask q) 0))))
     (sym is) tt
 
 -- a try was taken with this result, and this event was logged of it
@@ -48,14 +48,14 @@ abbrev pub write_entry_label : Flat → ℕ → Label
 write_entry_label f o = emitted (machine.Entered o Writing 0) ((tables f).objects o)
 
 -- it entered
-pub entering_try_logs_one_event : (f g : Flat) (logs more : List Logged) (t o : ℕ) (e : Event) → TryLogged f g logs more t o 1 e → label_of e ≡ write_entry_label f o
+pub entering_try_logs_one : (f g : Flat) (logs more : List Logged) (t o : ℕ) (e : Event) → TryLogged f g logs more t o 1 e → label_of e ≡ write_entry_label f o
     → ((profile : Profile) → IsEvent profile (length f.objects) e) → OneEventLogged f g logs more t 1 (write_entry_label f o) e
-entering_try_logs_one_event f g logs more t o e x emits fits = record {
+entering_try_logs_one f g logs more t o e x emits fits = record {
   has_logs = x.has_logs;
   flat = x.flat;
   below = x.below;
   one = ap events_added_by x.asked;
-  emits = label_of_step_is_emitted_by_act_of_ask f t 1 (Try o) x.asked;
+  emits = step_label_is_emitted f t 1 (Try o) x.asked;
   event = emits;
   once = entry_logs_itself o Writing 0 ((tables f).objects o);
   unanswered = entry_logs_no_answer o Writing 0 ((tables f).objects o);
@@ -71,20 +71,20 @@ entering_try_logs_one_event f g logs more t o e x emits fits = record {
 }
 
 -- it was refused
-pub refused_try_logs_one_event : (f g : Flat) (logs more : List Logged) (t o : ℕ) → TryLogged f g logs more t o 0 (event.Try o)
+pub refused_try_logs_one : (f g : Flat) (logs more : List Logged) (t o : ℕ) → TryLogged f g logs more t o 0 (event.Try o)
     → OneEventLogged f g logs more t 0 (FailedTry o) (event.Try o)
-refused_try_logs_one_event f g logs more t o x = record {
+refused_try_logs_one f g logs more t o x = record {
   has_logs = x.has_logs;
   flat = x.flat;
   below = x.below;
   one = ap events_added_by x.asked;
-  emits = label_of_step_is_emitted_by_act_of_ask f t 0 (Try o) x.asked;
+  emits = step_label_is_emitted f t 0 (Try o) x.asked;
   event = refl;
   once = refl;
   unanswered = refl;
   fits = (
     (subst (Permits (thread_of f t)) x.asked (ask_of_permitted f.code (thread_of f t))).4,
-    tried_object_below_object_count f t o x.flat x.below x.asked,
+    tried_object_exists f t o x.flat x.below x.asked,
   );
   can = x.can;
   taken = x.taken;

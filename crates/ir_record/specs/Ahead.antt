@@ -18,24 +18,24 @@ alone m zero x = x
 alone m (suc k) x = alone m k (m.take x 0)
 
 -- how many steps thread t is ahead
-abbrev pub lead : List ℕ → ℕ → ℕ
-lead ahead t = slice_index_or ahead t 0
+abbrev pub lead_of_thread : List ℕ → ℕ → ℕ
+lead_of_thread ahead t = slice_index_or ahead t 0
 
 -- the later state is s, with each thread t lead ahead t private steps ahead
-pub record IsAhead {T : Type 0} (m : Machine T) (ahead : List ℕ) (s later : State T) : Type 0 where
-  pub threads : (t : ℕ) → later.now t ≡ alone m (lead ahead t) (s.now t)
-  pub each : (t k : ℕ) → k < lead ahead t → m.ask (alone m k (s.now t)) ≡ Private
+pub record IsThreadAhead {T : Type 0} (m : Machine T) (ahead : List ℕ) (s later : State T) : Type 0 where
+  pub threads : (t : ℕ) → later.now t ≡ alone m (lead_of_thread ahead t) (s.now t)
+  pub each : (t k : ℕ) → k < lead_of_thread ahead t → m.ask (alone m k (s.now t)) ≡ Private
   pub objects : later.objects ≡ s.objects
 
 -- each of the first n threads is as many steps ahead as there are such rounds, or has no step in the later state: in these
 -- rounds no object changes
 abbrev pub CanSkip : {T : Type 0} → Machine T → ℕ → ℕ → List ℕ → State T → Type 0
-CanSkip m n count ahead later = (t : ℕ) → t < n → (count ≤ lead ahead t) ⊎ HasNone m later t
+CanSkip m n count ahead later = (t : ℕ) → t < n → (count ≤ lead_of_thread ahead t) ⊎ HasNone m later t
 
 -- how many steps all threads are ahead
-abbrev pub all_ahead : List ℕ → ℕ
-all_ahead [] = 0
-all_ahead (k ∷ ks) = k + all_ahead ks
+abbrev pub all_threads_ahead : List ℕ → ℕ
+all_threads_ahead [] = 0
+all_threads_ahead (k ∷ ks) = k + all_threads_ahead ks
 
 -- each thread of the guest has a place, and what is kept there is what it asks
 pub record AreAsks (asks : List ask.Ask) (f : Flat) : Type 0 where
@@ -51,13 +51,13 @@ pub record HasPlaces (numbers : List ℕ) (kept : List ask.Ask) (f : Flat) : Typ
 -- none of these threads is ahead
 abbrev pub NoneAhead : List ℕ → List ℕ → Type 0
 NoneAhead [] ahead = Unit {0}
-NoneAhead (t ∷ order) ahead = (lead ahead t ≡ 0) × NoneAhead order ahead
+NoneAhead (t ∷ order) ahead = (lead_of_thread ahead t ≡ 0) × NoneAhead order ahead
 
 -- a is ahead of the state s, and b is a after a turn of each thread that the order names
 pub record Went (order : List ℕ) (s : State thread.ThreadState) (a : Progress) (old : List ℕ) (b : Progress) (new : List ℕ) : Type 0 where
   pub run : List Step
   pub turns : InTurn (machine a.flat) s order run
-  pub ahead : IsAhead (machine a.flat) new (end (machine a.flat) s run) (tables b.flat)
+  pub ahead : IsThreadAhead (machine a.flat) new (end (machine a.flat) s run) (tables b.flat)
   pub code : b.flat.code ≡ a.flat.code
   pub threads : length b.flat.threads ≡ length a.flat.threads
   pub objects : length b.flat.objects ≡ length a.flat.objects
@@ -65,8 +65,8 @@ pub record Went (order : List ℕ) (s : State thread.ThreadState) (a : Progress)
   pub logs : (t : ℕ) → t < length a.flat.threads → labels_at b.logs t ≡ labels_at a.logs t ++ log (machine a.flat) s run t
   pub answers : (t : ℕ) → t < length a.flat.threads
       → answers_at b.answers t ≡ answers_at a.answers t ++ answers_in (log (machine a.flat) s run t)
-  pub fewer : all_left (length a.flat.threads) (tables b.flat).now + all_ahead new + length run ≤ all_left (length a.flat.threads)
-      (tables a.flat).now + all_ahead old
+  pub fewer : all_left (length a.flat.threads) (tables b.flat).now + all_threads_ahead new + length run ≤ all_left (length a.flat.threads)
+      (tables a.flat).now + all_threads_ahead old
 
 -- the same, and whether a step was taken
 pub record WentIf (moved : Bool) (order : List ℕ) (s : State thread.ThreadState) (a : Progress) (old : List ℕ) (b : Progress) (new : List ℕ) :

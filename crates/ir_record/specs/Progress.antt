@@ -57,7 +57,7 @@ all_left zero now = 0
 all_left (suc n) now = all_left n now + steps_left (now n).ended (now n)
 
 -- b is a after a turn of each thread that the order names
-pub record Took (order : List ℕ) (a b : Progress) : Type 0 where
+pub record TookSteps (order : List ℕ) (a b : Progress) : Type 0 where
   pub run : List Step
   pub turns : InTurn (machine a.flat) (tables a.flat) order run
   pub ends : tables b.flat ≡ end (machine a.flat) (tables a.flat) run
@@ -90,7 +90,7 @@ pub record TookTurns (turns : List Turn) (a b : Progress) : Type 0 where
 
 -- b is a after a turn of each thread that the order names, and whether a step was taken
 pub record TookIf (moved : Bool) (order : List ℕ) (a b : Progress) : Type 0 where
-  pub took : Took order a b
+  pub took : TookSteps order a b
   pub some : moved ≡ true → 0 < length took.run
   pub none : moved ≡ false → took.run ≡ []
 
@@ -110,7 +110,7 @@ pub record HasLogs (f : Flat) (logs : List Logged) : Type 0 where
       → AllByRecursion (IsEvent (thread_of f t).profile (length f.objects)) (log_at logs t).events
 
 -- what holds before each turn: each thread has its log and its world, and no world has failed
-pub record IsReady (p : Progress) (failed : List Bool) : Type 0 where
+pub record IsReadyToRecord (p : Progress) (failed : List Bool) : Type 0 where
   pub has_logs : HasLogs p.flat p.logs
   pub worlds : length p.answers ≡ length p.flat.threads
   pub works : NoneFailed failed

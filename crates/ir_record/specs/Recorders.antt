@@ -4,7 +4,7 @@ use Rattle.std.specs.declared.result.Result.{Result}
 use Rattle.ir_runs.specs.Run.{State}
 use Rattle.ir_thread.specs.State as thread
 use Rattle.ir_record.specs.Failures.{IsUnanswered, StoppedAt, StoppedTurns}
-use Rattle.ir_record.specs.Progress.{Progress, progress, IsReady}
+use Rattle.ir_record.specs.Progress.{Progress, progress, IsReadyToRecord}
 use Rattle.ir_record.specs.Refusing.{Turn}
 use Rattle.ir_record.specs.Worlds.{AnsweredCall, IsFirstFailed, AreSameWorlds}
 use Rattle.ir_record.specs.declared.in_order.recorder.Recorder.{Recorder}
@@ -16,7 +16,7 @@ progress_of answers r = progress r.guest (map answers r.worlds.items)
 
 -- it may take a turn
 abbrev pub CanContinue : {W : Type 0} → (W → List AnsweredCall) → (W → Bool) → Recorder W → Type 0
-CanContinue answers broken r = IsReady (progress_of answers r) (map broken r.worlds.items)
+CanContinue answers broken r = IsReadyToRecord (progress_of answers r) (map broken r.worlds.items)
 
 -- the world of the thread that is named has failed, and none of a lower thread
 abbrev pub NamesFirst : {W : Type 0} → (W → Bool) → List W → Failed → Type 0

@@ -8,7 +8,7 @@ use Rattle.atomic_table.specs.declared.shared.Seat.{Seat}
 use Rattle.ir_image.specs.Guest.{Guest}
 use Rattle.ir_thread.specs.State.{most_events, most_output}
 use Rattle.ir_thread.specs.State as thread
-use Rattle.ir_crew.specs.Rule.{View}
+use Rattle.ir_crew.specs.Rule.{CrewView}
 use Rattle.ir_trace.specs.Recorded.{RecordedThread}
 use Rattle.ir_trace.specs.Bounds.{IsEvent}
 use Rattle.ir_record.specs.Gathered.{IsThreadTrace}
@@ -16,7 +16,7 @@ use Rattle.ir_record.specs.declared.by_threads.buffers.Buffers.{Buffers}
 use Rattle.ir_record.specs.declared.by_threads.worker.Worker.{Worker}
 
 -- the worker of thread t before its first step
-pub record IsNew {W : Type 0} (g : Guest) (budget : ℕ) (profile : Profile) (id : TableId) (t : ℕ) (w : Worker W) : Type 0 where
+pub record IsNewThread {W : Type 0} (g : Guest) (budget : ℕ) (profile : Profile) (id : TableId) (t : ℕ) (w : Worker W) : Type 0 where
   pub table : w.seat.table_id ≡ id
   pub me : w.seat.me ≡ (record { thread = t; steps = [] } ∷ [], [])
   pub thread : w.thread ≡ thread.start_state g t budget profile
@@ -25,7 +25,7 @@ pub record IsNew {W : Type 0} (g : Guest) (budget : ℕ) (profile : Profile) (id
 -- the workers of the threads from t on
 abbrev pub AreNew : {W : Type 0} → Guest → ℕ → Profile → TableId → ℕ → List (Worker W) → Type 0
 AreNew g budget profile id t [] = ⊤
-AreNew g budget profile id t (w ∷ ws) = IsNew g budget profile id t w × AreNew g budget profile id (suc t) ws
+AreNew g budget profile id t (w ∷ ws) = IsNewThread g budget profile id t w × AreNew g budget profile id (suc t) ws
 
 -- a worker whose thread is done, of a guest with the given number of objects
 pub record IsOver {W : Type 0} (profile : Profile) (objects : ℕ) (w : Worker W) : Type 0 where
@@ -50,7 +50,7 @@ pub record AreOutputBuffers (n : ℕ) (vs : List (Vec ℕ)) : Type 0 where
   pub each : AllByRecursion (IsEmptyFor most_output) vs
 
 -- room for what n workers hand back
-pub record HasRoom {W : Type 0} (n : ℕ) (b : Buffers W) : Type 0 where
+pub record HasRoomForThread {W : Type 0} (n : ℕ) (b : Buffers W) : Type 0 where
   pub seats : IsEmptyFor n b.seats
   pub traces : IsEmptyFor n b.traces
   pub outputs : IsEmptyFor n b.outputs
@@ -58,11 +58,11 @@ pub record HasRoom {W : Type 0} (n : ℕ) (b : Buffers W) : Type 0 where
   pub worlds : IsEmptyFor n b.worlds
 
 -- a seat of this table that holds nothing else
-pub record IsSeatOf (id : TableId) (s : Seat (Unit {0}) View) : Type 0 where
+pub record IsSeatOf (id : TableId) (s : Seat (Unit {0}) CrewView) : Type 0 where
   pub table : s.table_id ≡ id
   pub empty : s.me.1 ≡ []
 
 -- the tracks of all seats
-abbrev pub views_of : List (Seat (Unit {0}) View) → View
+abbrev pub views_of : List (Seat (Unit {0}) CrewView) → CrewView
 views_of [] = []
 views_of (s ∷ ss) = s.me.0 ++ views_of ss

@@ -14,7 +14,7 @@ use Rattle.ir_thread.specs.declared.ask.Ask.TheVariants as ask
 use Rattle.ir_object.specs.Order.{Shared}
 use Rattle.ir_crew.specs.Plays.{M, IsAlone, history, inside_by}
 use Rattle.ir_crew.specs.Rule as rule
-use Rattle.ir_crew.specs.Rule.{View, shared_of, entries}
+use Rattle.ir_crew.specs.Rule.{CrewView, shared_of, entries}
 use Rattle.ir_crew.specs.declared.deed.ObjectStep.{ObjectStep}
 use Rattle.ir_crew.specs.declared.table.Crew.{Crew}
 use Rattle.ir_runs.specs.Run.{events}
@@ -37,22 +37,22 @@ pub record Worked {T : Type 0} (m : Machine T) (x y : T) (steps : List Shared) (
   pub logged : events (alone_trail m x replies labels) ≡ log
 
 -- a worker apart from where it lies: its seat's view, its thread, its log, and what its world has answered
-pub record Work : Type 0 where
+pub record WorkerWork : Type 0 where
   pub me : M
   pub thread : thread.ThreadState
   pub log : Logged
   pub answers : List AnsweredCall
 
-abbrev pub work_of : {W : Type 0} → (W → List AnsweredCall) → Worker W → Work
-work_of answers w = record { me = w.seat.me; thread = w.thread; log = w.log; answers = answers w.world }
+abbrev pub work_of_worker : {W : Type 0} → (W → List AnsweredCall) → Worker W → WorkerWork
+work_of_worker answers w = record { me = w.seat.me; thread = w.thread; log = w.log; answers = answers w.world }
 
 -- the worker of thread t, whose world had answered so when it began
-pub record IsWorking (g : Guest) (budget : ℕ) (profile : Profile) (t : ℕ) (before : List AnsweredCall) (w : Work) : Type 0 where
+pub record IsWorking (g : Guest) (budget : ℕ) (profile : Profile) (t : ℕ) (before : List AnsweredCall) (w : WorkerWork) : Type 0 where
   -- the object steps of the thread
   pub track : List ObjectStep
   pub view : w.me ≡ (record { thread = t; steps = track } ∷ [], [])
   -- its thread has taken its own steps from the start; these are its object steps, and its log
-  pub worked : Worked (thread_machine g.code) (thread.start_state g t budget profile) w.thread (map shared_of track) (map rule.label_of track)
+  pub worked : Worked (thread_machine g.code) (thread.start_state g t budget profile) w.thread (map shared_of track) (map rule.label_by_rule track)
       (map label_of w.log.events)
   -- it is inside what it holds
   pub held : (o : ℕ) → inside_by o track ≡ held_at w.thread.held o
@@ -65,11 +65,11 @@ pub record IsWorking (g : Guest) (budget : ℕ) (profile : Profile) (t : ℕ) (b
   pub answered : w.answers ≡ before ++ answers_in (map label_of w.log.events)
 
 -- the worker of some thread
-abbrev pub IsWorker : Guest → Work → Type 0
+abbrev pub IsWorker : Guest → WorkerWork → Type 0
 IsWorker g w = (budget : ℕ) × (profile : Profile) × (t : ℕ) × (before : List AnsweredCall) × IsWorking g budget profile t before w
 
 -- whichever thread's worker v is, w is that thread's
-abbrev pub StillWorks : Guest → Work → Work → Type 0
+abbrev pub StillWorks : Guest → WorkerWork → WorkerWork → Type 0
 StillWorks g v w = (budget : ℕ) (profile : Profile) (t : ℕ) (before : List AnsweredCall) → IsWorking g budget profile t before v → IsWorking g budget profile t before w
 
 -- the step touches no object, and nothing is logged of it
@@ -90,13 +90,13 @@ abbrev pub own_steps_left : thread.ThreadState → ℕ
 own_steps_left x = steps_left_within (length x.held) x.ended x
 
 -- the seat's one thread is inside what this thread holds
-pub record IsInside (g : Guest) (me : M) (x : thread.ThreadState) : Type 0 where
+pub record IsInsideWork (g : Guest) (me : M) (x : thread.ThreadState) : Type 0 where
   pub alone : IsAlone me.0
   pub places : length x.held ≡ object_count g
   pub inside : (o : ℕ) → inside_by o (history me.0) ≡ held_at x.held o
 
 -- a seat at this table, whose one thread is inside nothing
-pub record IsOutside (id : TableId) (s : Seat (Unit {0}) View) : Type 0 where
+pub record IsOutside (id : TableId) (s : Seat (Unit {0}) CrewView) : Type 0 where
   pub table : s.table_id ≡ id
   pub alone : IsAlone s.me.0
   pub outside : (o : ℕ) → inside_by o (history s.me.0) ≡ None
@@ -105,7 +105,7 @@ pub record IsOutside (id : TableId) (s : Seat (Unit {0}) View) : Type 0 where
 pub record IsSeated {W : Type 0} (answers : W → List AnsweredCall) (g : Guest) (id : TableId) (code : List ℕ) (w : Worker W) : Type 0 where
   pub seat : w.seat.table_id ≡ id
   pub same_code : code ≡ g.code
-  pub worker : IsWorker g (work_of answers w)
+  pub worker : IsWorker g (work_of_worker answers w)
 
 -- the same of the guest and the table that the objects are at
 abbrev pub IsAtWork : {W : Type 0} → (W → List AnsweredCall) → Crew → List ℕ → Worker W → Type 0
@@ -114,14 +114,14 @@ IsAtWork answers crew code w = IsSeated answers crew.table.shared.key crew.table
 -- it keeps its seat, and is still the worker of its thread
 pub record Stays {W : Type 0} (answers : W → List AnsweredCall) (g : Guest) (v w : Worker W) : Type 0 where
   pub seat : w.seat.table_id ≡ v.seat.table_id
-  pub still : StillWorks g (work_of answers v) (work_of answers w)
+  pub still : StillWorks g (work_of_worker answers v) (work_of_worker answers w)
 
 -- the same of the guest at the table
 abbrev pub StaysAtWork : {W : Type 0} → (W → List AnsweredCall) → Crew → Worker W → Worker W → Type 0
 StaysAtWork answers crew v w = Stays answers crew.table.shared.key v w
 
 -- its thread asks its world, which failed and answered no more; the thread took no step
-pub record IsStopped {W : Type 0} (answers : W → List AnsweredCall) (broken : W → Bool) (code : List ℕ) (v w : Worker W) : Type 0 where
+pub record IsStoppedWorker {W : Type 0} (answers : W → List AnsweredCall) (broken : W → Bool) (code : List ℕ) (v w : Worker W) : Type 0 where
   pub failed : broken w.world ≡ true
   pub seat : w.seat ≡ v.seat
   pub thread : w.thread ≡ v.thread
@@ -130,8 +130,8 @@ pub record IsStopped {W : Type 0} (answers : W → List AnsweredCall) (broken : 
 
 -- its world failed: it worked until its thread asked its world, which answered no more
 pub record WorkedUntil {W : Type 0} (answers : W → List AnsweredCall) (g : Guest) (v w : Worker W) : Type 0 where
-  pub last : Work
-  pub still : StillWorks g (work_of answers v) last
+  pub last : WorkerWork
+  pub still : StillWorks g (work_of_worker answers v) last
   pub asks : (kind : EnvKind) × (ask_of g.code last.thread ≡ ask.Env kind)
   pub no_more : answers w.world ≡ last.answers
 

@@ -4,7 +4,7 @@ ghost use Rattle.std.specs.Prelude.{◌≡◌, ◌<◌, ◌≤◌, ◌++◌, ℕ
 ghost use Rattle.ir_thread.specs.State.{IsAllowed, most_budget};
 ghost use Rattle.ir_flat.specs.Flat.{tables, machine};
 ghost use Rattle.ir_runs.specs.Run.{HasNone, rounds};
-ghost use Rattle.ir_record.specs.Progress.{TookTurns, Took};
+ghost use Rattle.ir_record.specs.Progress.{TookTurns, TookSteps};
 ghost use Rattle.ir_record.specs.Recorders.{progress_of, CanContinue, StopsInTurns, StaysReady};
 ghost use Rattle.ir_record.specs.Recording.{IsRecordedInTurns, AllWork, AreHandedBack, IsFailureInTurns, order_of_turns, turns_of_items};
 ghost use Rattle.ir_record.specs.Refusing.{plain_turns};
@@ -49,9 +49,15 @@ impl<W: World> Recorder<'_, W> {
         requires ready { CanContinue W.answers W.broken self.old }
         requires level { ahead.old.items ≡ replicate (length self.old.guest.flat.threads) 0 }
         requires asks { length asks.old.items ≡ length self.old.guest.flat.threads }
-        ensures took { OnOk result ((count : ℕ) × TookTurns (turns_of_items order.now ++ plain_turns (rounds (length self.old.guest.flat.threads) count)) (progress_of W.answers self.old) (progress_of W.answers self.new)) }
+        ensures took { OnOk result
+            ((count : ℕ)
+            × TookTurns (turns_of_items order.now ++ plain_turns (rounds (length self.old.guest.flat.threads) count))
+            (progress_of W.answers self.old) (progress_of W.answers self.new)) }
         ensures over { OnOk result ((t : ℕ) → t < length self.new.guest.flat.threads → HasNone (machine self.new.guest.flat) (tables self.new.guest.flat) t) }
-        ensures stopped { IfErr result (λ f. (count : ℕ) × StopsInTurns W.answers (turns_of_items order.now ++ plain_turns (rounds (length self.old.guest.flat.threads) count)) self.old self.new.worlds.items f) }
+        ensures stopped { IfErr result
+            (λ f. (count : ℕ)
+            × StopsInTurns W.answers (turns_of_items order.now ++ plain_turns (rounds (length self.old.guest.flat.threads) count))
+            self.old self.new.worlds.items f) }
         ensures stays { StaysReady W.answers W.broken W.origin self.old self.new result }
     {
         self.follow(order)?;

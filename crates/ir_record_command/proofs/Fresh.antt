@@ -13,14 +13,14 @@ use Rattle.ir_record_command.specs.Recording.{IsRecordedBy, IsRecordedOf}
 use Rattle.ir_world.specs.Sources.{origin_of, IsAnsweredFrom}
 
 -- what was recorded in an order, with fresh worlds
-pub fresh_recording_by_order_is_recorded : (image list : List ℕ) (plan : Plan) (guest : Guest) (entries : List ℕ) (order given : List Turn)
+pub fresh_by_order : (image list : List ℕ) (plan : Plan) (guest : Guest) (entries : List ℕ) (order given : List Turn)
     (before : List (List AnsweredCall)) (trace : Recorded) (outputs : List (List ℕ)) (answers : List (List AnsweredCall))
     → plan.order ≡ Some list
     → guest_at image ≡ Ok guest → entries ≡ guest.entries → order_of (length entries) list ≡ Some order → given ≡ order
     → before ≡ replicate (length entries) [] → IsRecordingByTurns guest plan.budget plan.profile given before trace outputs answers
     → ((t : ℕ) → t < length entries → IsAnsweredFrom (origin_of true plan.random plan.input t) (get_or answers t []))
     → IsRecordedOf image plan trace outputs
-fresh_recording_by_order_is_recorded image list plan guest entries order given before trace outputs answers listed is same spelled e silent h answered =
+fresh_by_order image list plan guest entries order given before trace outputs answers listed is same spelled e silent h answered =
     let long : length entries ≡ length guest.entries = ap (λ (z : List ℕ). length z) same in
     record {
       guest = guest;
@@ -38,14 +38,14 @@ fresh_recording_by_order_is_recorded image list plan guest entries order given b
     }
 
 -- the same, by threads
-pub fresh_recording_by_threads_is_recorded : (image : List ℕ) (plan : Plan) (guest : Guest) (entries : List ℕ) (before : List (List AnsweredCall))
+pub fresh_by_threads : (image : List ℕ) (plan : Plan) (guest : Guest) (entries : List ℕ) (before : List (List AnsweredCall))
     (trace : Recorded) (outputs : List (List ℕ)) (answers : List (List AnsweredCall))
     → plan.order ≡ None
     → guest_at image ≡ Ok guest → entries ≡ guest.entries → before ≡ replicate (length entries) []
     → IsRecordingOfSome guest plan.budget plan.profile before trace outputs answers
     → ((t : ℕ) → t < length entries → IsAnsweredFrom (origin_of false plan.random plan.input t) (get_or answers t []))
     → IsRecordedOf image plan trace outputs
-fresh_recording_by_threads_is_recorded image plan guest entries before trace outputs answers unlisted is same silent h answered =
+fresh_by_threads image plan guest entries before trace outputs answers unlisted is same silent h answered =
     let long : length entries ≡ length guest.entries = ap (λ (z : List ℕ). length z) same in
     record {
       guest = guest;

@@ -4,3 +4,4 @@ mod Numerals
 mod Parts
 mod Printed
 mod Reported
+pub mod CallerLemmas

@@ -4,6 +4,6 @@ use Rattle.ir_image.specs.Guest.{Guest}
 use Rattle.ir_image.specs.declared.image_err.ImageErr.{ImageErr}
 
 -- how many threads an image has; bytes that are no image have none
-abbrev pub thread_count : Result Guest ImageErr → ℕ
-thread_count (Ok guest) = length guest.entries
-thread_count (Err e) = 0
+abbrev pub image_thread_count : Result Guest ImageErr → ℕ
+image_thread_count (Ok guest) = length guest.entries
+image_thread_count (Err e) = 0

@@ -45,7 +45,8 @@ impl<T: Drop> From<AllocFailed<T>> for OrderErr {
 // The part of a text before the first such character, and what follows it, if there is one.
 fn first_part(text: &str, mark: char) -> (&str, Option<&str>)
     requires { mark < 128 }
-    ensures parts { MatchOption result.1 (slice_split (λ b. b == mark) text.now ≡ result.0.now ∷ []) (λ rest. slice_split (λ b. b == mark) text.now ≡ result.0.now ∷ slice_split (λ b. b == mark) rest.now) }
+    ensures parts { MatchOption result.1 (slice_split (λ b. b == mark) text.now ≡ result.0.now ∷ [])
+        (λ rest. slice_split (λ b. b == mark) text.now ≡ result.0.now ∷ slice_split (λ b. b == mark) rest.now) }
     ensures shorter { IfSome result.1 (λ rest. length rest.now < length text.now) }
 {
     match text.split_once(mark) {
@@ -167,7 +168,9 @@ fn item_fault(item: &str, threads: usize) -> Option<&'static str>
 pub fn bad_item(list: &str, threads: usize) -> Option<(&str, &'static str)>
     requires some { 1 ≤ threads }
     requires few { threads ≤ most_threads }
-    ensures { MatchOption result (first_bad threads (slice_split (λ b. b == 44) list.now) ≡ None) (λ found. (first_bad threads (slice_split (λ b. b == 44) list.now) ≡ Some found.0.now) × (found.1.now ≡ item_why threads found.0.now)) }
+    ensures { MatchOption result (first_bad threads (slice_split (λ b. b == 44) list.now) ≡ None)
+        (λ found. (first_bad threads (slice_split (λ b. b == 44) list.now) ≡ Some found.0.now)
+        × (found.1.now ≡ item_why threads found.0.now)) }
 {
     let mut rest = Some(list);
     'items: while let Some(text) = rest {

@@ -2,10 +2,10 @@
 
 ghost use Rattle.std.specs.Prelude.{◌≡◌, ◌≢◌, ℕ, List, Ok, IfOk, IfErr, IfSome, OnOk};
 ghost use Rattle.ir_image.specs.Guest.{guest_at};
-ghost use Rattle.ir_image.specs.Results.{Gives};
+ghost use Rattle.ir_image.specs.Results.{YieldsImage};
 ghost use Rattle.ir_thread.specs.State.{IsAllowed};
 ghost use Rattle.ir_record_command.specs.Faults.{Allows, RefusesRecord};
-ghost use Rattle.ir_record_command.specs.Images.{thread_count};
+ghost use Rattle.ir_record_command.specs.Images.{image_thread_count};
 ghost use Rattle.ir_record_command.specs.declared.record_fault.RecordFault.TheVariants.{Clock, Order};
 
 use crate::plan::RecordPlan;
@@ -26,7 +26,7 @@ impl<'a> Model for ParsedImage<'a> {
 
     ghost view = { λ i. i.bytes.now };
 
-    ghost invariant = { λ i. Gives (λ guest. guest) i.guest (guest_at i.bytes.now) };
+    ghost invariant = { λ i. YieldsImage (λ guest. guest) i.guest (guest_at i.bytes.now) };
 }
 
 impl<'a> ParsedImage<'a> {
@@ -55,7 +55,7 @@ impl<'a> ParsedImage<'a> {
     /// # Errors
     /// Memory ran out as it was parsed.
     pub fn threads(&self) -> Result<usize, AllocError>
-        ensures { IfOk result (λ n. n ≡ thread_count (guest_at self.now)) }
+        ensures { IfOk result (λ n. n ≡ image_thread_count (guest_at self.now)) }
     {
         match &self.guest {
             Ok(guest) => Ok(guest.entries().len()),

@@ -57,7 +57,7 @@ fn printed<W: Drop>(alloc: Global, outputs: Outputs<W>) -> Result<Vec<Vec<u8>>, 
 
 // The recording of the image's guest by the order that the list spells, on one thread: the trace, and what each thread
 // printed.
-#[tactic(auto, using(ir_image::proofs::CallerLemmas::guest_threads_at_most_limit))]
+#[tactic(auto, using(ir_image::proofs::CallerLemmas::guest_threads_within))]
 fn recorded_in_order<C: Clock>(
     clock: &C,
     alloc: Global,
@@ -320,7 +320,8 @@ fn told<W: WholeSink, P: OutputSink, O: Sink, E: Sink>(
     ensures allowed { OnOk result (Allows recording.now.image.now recording.now.plan.now) }
     ensures quiet { OnOk result (faults.new ≡ faults.old) }
     ensures stopped { IfErr result (λ status. (e : RecordFault) × (status ≡ fault_status e)
-        × IsReported e recording.now.image.now recording.now.plan.now (unwritten_of (W.called files.new.trace) (W.cause files.new.trace)) (unwritten_of (P.called files.new.outputs) (P.cause files.new.outputs))
+        × IsReported e recording.now.image.now recording.now.plan.now (unwritten_of (W.called files.new.trace) (W.cause files.new.trace))
+        (unwritten_of (P.called files.new.outputs) (P.cause files.new.outputs))
         (writer_of (E.written faults.old) (E.written faults.new) (E.broken faults.new)) × StopsRecord e recording.now.image.now recording.now.plan.now
         (writer_of (W.written files.old.trace) (W.written files.new.trace) (W.broken files.new.trace))
         (output_writer_of (P.taken files.old.outputs) (P.taken files.new.outputs) (P.broken files.new.outputs))
@@ -367,7 +368,8 @@ pub fn record_by_list<R: Clock + AllocGlobal, W: WholeSink, P: OutputSink, O: Si
     ensures quiet { OnOk result (faults.new ≡ faults.old) }
     // Else what stopped it, what that left, and that it is reported.
     ensures stopped { IfErr result (λ status. (e : RecordFault) × (status ≡ fault_status e)
-        × IsReported e recording.now.image.now recording.now.plan.now (unwritten_of (W.called files.new.trace) (W.cause files.new.trace)) (unwritten_of (P.called files.new.outputs) (P.cause files.new.outputs))
+        × IsReported e recording.now.image.now recording.now.plan.now (unwritten_of (W.called files.new.trace) (W.cause files.new.trace))
+        (unwritten_of (P.called files.new.outputs) (P.cause files.new.outputs))
         (writer_of (E.written faults.old) (E.written faults.new) (E.broken faults.new)) × StopsRecord e recording.now.image.now recording.now.plan.now
         (writer_of (W.written files.old.trace) (W.written files.new.trace) (W.broken files.new.trace))
         (output_writer_of (P.taken files.old.outputs) (P.taken files.new.outputs) (P.broken files.new.outputs))
@@ -424,7 +426,8 @@ pub fn record_run<
     ensures quiet { OnOk result (faults.new ≡ faults.old) }
     // Else what stopped it, what that left, and that it is reported.
     ensures stopped { IfErr result (λ status. (e : RecordFault) × (status ≡ fault_status e)
-        × IsReported e recording.now.image.now recording.now.plan.now (unwritten_of (W.called files.new.trace) (W.cause files.new.trace)) (unwritten_of (P.called files.new.outputs) (P.cause files.new.outputs))
+        × IsReported e recording.now.image.now recording.now.plan.now (unwritten_of (W.called files.new.trace) (W.cause files.new.trace))
+        (unwritten_of (P.called files.new.outputs) (P.cause files.new.outputs))
         (writer_of (E.written faults.old) (E.written faults.new) (E.broken faults.new)) × StopsRecord e recording.now.image.now recording.now.plan.now
         (writer_of (W.written files.old.trace) (W.written files.new.trace) (W.broken files.new.trace))
         (output_writer_of (P.taken files.old.outputs) (P.taken files.new.outputs) (P.broken files.new.outputs))

@@ -10,36 +10,37 @@ use Rattle.ir_object.specs.Cell.{Cell}
 use Rattle.ir_flat.specs.Flat.{Flat, idle}
 use Rattle.ir_runs.specs.Run.{Cut}
 use Rattle.ir_fit.specs.Fit.{FittedTrace, HasRun}
-use Rattle.ir_runs.proofs.CallerLemmas.{sum_below_less_if_one_less}
+use Rattle.ir_runs.proofs.CallerLemmas.{sum_below_less}
 use Rattle.ir_cut.specs.Positions.{cut_of, IsConsistentCut}
 use Rattle.ir_weave.specs.Ahead.{IsAhead}
-use Rattle.ir_weave.specs.Standing.{Standing, StandsAt, flat_in, IsBetween, positions}
-use Rattle.ir_weave.specs.Woven.{View, M, trace_in, opened_in, opened_at, AreSeats, IsSeated, WasStopped, IsClosed, AreAt}
+use Rattle.ir_weave.specs.Standing.{Standing, StandsAtCut, flat_in, IsBetween, positions}
+use Rattle.ir_weave.specs.Woven.{View, M, trace_in, opened_in, opened_at, AreSeats, IsSeated, WasStopped, IsClosedTable, AreAt}
 use Rattle.ir_weave.specs.declared.plan.Plan.{Plan}
-use Rattle.ir_replay.specs.Rounds.{Goes, backwards, threads_of, seats_of, views_of, IsOfTable}
-use Rattle.ir_replay.specs.Workers.{IsReady, HasWorked}
+use Rattle.ir_replay.specs.Rounds.{Goes, backwards, round_threads, seats_of, views_of, IsOfTable}
+use Rattle.ir_replay.specs.Workers.{IsWorkerReady, HasWorked}
 use Rattle.ir_replay.specs.declared.worker.Worker.{Worker}
-use Rattle.ir_replay.proofs.Down.{AllByNumber, all_by_number_if_implied, all_by_number_of_both, all_if_implied_by_all_by_number, element_with_property_exists_at_number_if_all_by_number, all_by_number_have_related_element_with_property_if_pairs, length_of_backward_threads, each_worker_has_thread_of_its_number, each_worker_has_opening_seat_of_its_number, IsSeatAtOpening}
-use Rattle.ir_replay.proofs.Gathered.{state_of_ahead_threads_stands_at_own_positions, target_reached_if_each_thread_is_there_or_was_stopped}
-use Rattle.ir_weave.proofs.CallerLemmas.{state_thread_is_ahead_at_position}
+use Rattle.ir_replay.proofs.Down.{AllByNumber, all_by_number_implied, all_by_number_of_both, all_from_by_number, by_number_exists}
+use Rattle.ir_replay.proofs.Down.{by_number_related, length-threads_backward, worker_has_own_thread, worker_has_own_seat, IsSeatAtOpening}
+use Rattle.ir_replay.proofs.Gathered.{ahead_stands_at_own, all_there_reaches_target}
+use Rattle.ir_weave.proofs.CallerLemmas.{state_ahead_at_position}
 
 -- the guest at a cut below the target
 pub record StandsBelowTarget (f : FittedTrace) (target : List ℕ) (s : Standing) : Type 0 where
   pub run : HasRun f
-  pub stands : StandsAt f (positions (flat_in f s)) s
+  pub stands : StandsAtCut f (positions (flat_in f s)) s
   pub size : length target ≡ length f.guest.entries
   pub consistent : IsConsistentCut f target
   pub below : (t : ℕ) → positions (flat_in f s) t ≤ cut_of target t
 
-pub stands_below_target_in_plan : (k : Plan) (f : FittedTrace) (target : List ℕ) (s : Standing) → trace_in k ≡ f → k.opened.value ≡ s → StandsBelowTarget f target s
+pub stands_below_target : (k : Plan) (f : FittedTrace) (target : List ℕ) (s : Standing) → trace_in k ≡ f → k.opened.value ≡ s → StandsBelowTarget f target s
     → StandsBelowTarget (trace_in k) target k.opened.value
-stands_below_target_in_plan k f target s for is h = subst (λ (z : FittedTrace × Standing). StandsBelowTarget z.0 target z.1) (λ i. (sym for i, sym is i)) h
+stands_below_target k f target s for is h = subst (λ (z : FittedTrace × Standing). StandsBelowTarget z.0 target z.1) (λ i. (sym for i, sym is i)) h
 
 -- ---- before the workers go on
 
 -- thread t as the table is opened
 pub record IsAssigned (id : TableId) (k : Plan) (target : List ℕ) (t : ℕ) (w : Worker) : Type 0 where
-  pub ready : IsReady id k target w
+  pub ready : IsWorkerReady id k target w
   pub number : w.thread.number ≡ t
   pub steps : w.thread.steps ≡ opened_at k t
 
@@ -49,7 +50,7 @@ worker_is_assigned : (id : TableId) (k : Plan) (target : List ℕ) (t : ℕ) (w 
 worker_is_assigned id k target t w h there first same =
     let ahead : IsAhead (trace_in k) t (opened_at k t) w.thread =
     subst (IsAhead (trace_in k) t (opened_at k t)) (sym same)
-    (state_thread_is_ahead_at_position (trace_in k) (opened_in k) t h.run h.stands.flat h.stands.at there) in
+    (state_ahead_at_position (trace_in k) (opened_in k) t h.run h.stands.flat h.stands.at there) in
     let steps : w.thread.steps ≡ opened_at k t = ap (λ (x : thread.ThreadState). x.steps) same in
     record {
       ready = record {
@@ -64,24 +65,24 @@ worker_is_assigned id k target t w h there first same =
 
 pub workers_are_assigned : (id : TableId) (k : Plan) (target : List ℕ) (ws : List Worker) (seats : List (Seat (Unit {0}) View))
     → StandsBelowTarget (trace_in k) target k.opened.value → AreSeats id k 0 seats → backwards (seats_of ws) ≡ seats
-    → backwards (threads_of ws) ≡ k.opened.value.threads → AllByNumber (IsAssigned id k target) ws
+    → backwards (round_threads ws) ≡ k.opened.value.threads → AllByNumber (IsAssigned id k target) ws
 workers_are_assigned id k target ws seats h are of_seats of_threads =
-    let size : length ws ≡ length k.opened.value.threads = sym (length_of_backward_threads ws) ∙ ap (λ z. length z) of_threads in
-    all_by_number_if_implied (λ t w. IsSeatAtOpening id k t w.seat × (w.thread ≡ slice_index_or k.opened.value.threads t idle)) (IsAssigned id k target) ws
+    let size : length ws ≡ length k.opened.value.threads = sym (length-threads_backward ws) ∙ ap (λ z. length z) of_threads in
+    all_by_number_implied (λ t w. IsSeatAtOpening id k t w.seat × (w.thread ≡ slice_index_or k.opened.value.threads t idle)) (IsAssigned id k target) ws
     (λ t w l x. worker_is_assigned id k target t w h (omega (arith, l, size)) x.0 x.1)
     (all_by_number_of_both (λ t w. IsSeatAtOpening id k t w.seat) (λ t w. w.thread ≡ slice_index_or k.opened.value.threads t idle) ws
-    (each_worker_has_opening_seat_of_its_number id k ws [] (subst (AreSeats id k 0) (sym (append-nil (backwards (seats_of ws)) ∙ of_seats)) are))
-    (each_worker_has_thread_of_its_number ws [] k.opened.value.threads (append-nil (backwards (threads_of ws)) ∙ of_threads)))
+    (worker_has_own_seat id k ws [] (subst (AreSeats id k 0) (sym (append-nil (backwards (seats_of ws)) ∙ of_seats)) are))
+    (worker_has_own_thread ws [] k.opened.value.threads (append-nil (backwards (round_threads ws)) ∙ of_threads)))
 
-pub assigned_workers_are_ready : (id : TableId) (k : Plan) (target : List ℕ) (ws : List Worker) → AllByNumber (IsAssigned id k target) ws
-    → AllByRecursion (IsReady id k target) ws
-assigned_workers_are_ready id k target ws h = all_if_implied_by_all_by_number (IsAssigned id k target) (IsReady id k target) ws (λ t w l m. m.ready) h
+pub assigned_are_ready : (id : TableId) (k : Plan) (target : List ℕ) (ws : List Worker) → AllByNumber (IsAssigned id k target) ws
+    → AllByRecursion (IsWorkerReady id k target) ws
+assigned_are_ready id k target ws h = all_from_by_number (IsAssigned id k target) (IsWorkerReady id k target) ws (λ t w l m. m.ready) h
 
 -- ---- and after that
 
 -- thread t has gone on as far as it could
 pub record IsAfterRound (id : TableId) (k : Plan) (target : List ℕ) (t : ℕ) (w : Worker) : Type 0 where
-  pub ready : IsReady id k target w
+  pub ready : IsWorkerReady id k target w
   pub number : w.thread.number ≡ t
   pub up : opened_at k t ≤ w.thread.steps
   pub rests : (w.thread.steps ≡ cut_of target t) ⊎ WasStopped k t w.thread.steps
@@ -97,24 +98,24 @@ worker_is_after_round id k target t v w m h = record {
 
 pub workers_are_after_round : (id : TableId) (k : Plan) (target : List ℕ) (vs ws : List Worker) → AllByNumber (IsAssigned id k target) vs
     → AllZip (HasWorked id k target) vs ws → AllByNumber (IsAfterRound id k target) ws
-workers_are_after_round id k target vs ws h p = all_by_number_if_implied (λ t w. (v : Worker) × IsAssigned id k target t v × HasWorked id k target v w)
+workers_are_after_round id k target vs ws h p = all_by_number_implied (λ t w. (v : Worker) × IsAssigned id k target t v × HasWorked id k target v w)
     (IsAfterRound id k target) ws (λ t w l x. worker_is_after_round id k target t x.0 w x.1 x.2)
-    (all_by_number_have_related_element_with_property_if_pairs (IsAssigned id k target) (HasWorked id k target) vs ws h p)
+    (by_number_related (IsAssigned id k target) (HasWorked id k target) vs ws h p)
 
-pub workers_after_round_are_of_table : (id : TableId) (k : Plan) (target : List ℕ) (ws : List Worker) → AllByNumber (IsAfterRound id k target) ws
+pub workers_are_of_table : (id : TableId) (k : Plan) (target : List ℕ) (ws : List Worker) → AllByNumber (IsAfterRound id k target) ws
     → AllByRecursion (IsOfTable id) ws
-workers_after_round_are_of_table id k target ws h = all_if_implied_by_all_by_number (IsAfterRound id k target) (IsOfTable id) ws
+workers_are_of_table id k target ws h = all_from_by_number (IsAfterRound id k target) (IsOfTable id) ws
     (λ t w l p. record { table = p.ready.table; slots = p.ready.slots }) h
 
 -- ---- where the threads are
 
-parts_are_at_cut_if_append_is : (p : Cut) (v w : View) → AreAt p (v ++ w) → AreAt p v × AreAt p w
-parts_are_at_cut_if_append_is p [] w h = (tt, h)
-parts_are_at_cut_if_append_is p (q ∷ v) w h = let r = parts_are_at_cut_if_append_is p v w h.1 in ((h.0, r.0), r.1)
+parts_are_at_cut : (p : Cut) (v w : View) → AreAt p (v ++ w) → AreAt p v × AreAt p w
+parts_are_at_cut p [] w h = (tt, h)
+parts_are_at_cut p (q ∷ v) w h = let r = parts_are_at_cut p v w h.1 in ((h.0, r.0), r.1)
 
-worker_views_are_at_cut_if_joined_views_are : (p : Cut) (ws : List Worker) → AreAt p (views_of ws) → AllByNumber (λ t w. AreAt p w.seat.me.0) ws
-worker_views_are_at_cut_if_joined_views_are p [] h = tt
-worker_views_are_at_cut_if_joined_views_are p (w ∷ ws) h = let r = parts_are_at_cut_if_append_is p (views_of ws) w.seat.me.0 h in (r.1, worker_views_are_at_cut_if_joined_views_are p ws r.0)
+worker_views_at_cut : (p : Cut) (ws : List Worker) → AreAt p (views_of ws) → AllByNumber (λ t w. AreAt p w.seat.me.0) ws
+worker_views_at_cut p [] h = tt
+worker_views_at_cut p (w ∷ ws) h = let r = parts_are_at_cut p (views_of ws) w.seat.me.0 h in (r.1, worker_views_at_cut p ws r.0)
 
 seated_thread_is_ahead : (k : Plan) (p : Cut) (v : View) (x : thread.ThreadState) (t : ℕ) → IsSeated k v x → AreAt p v → x.number ≡ t
     → IsAhead (trace_in k) t (p t) x
@@ -132,56 +133,56 @@ record IsThreadAfterRound (k : Plan) (target : List ℕ) (p : Cut) (t : ℕ) (x 
   below : x.steps ≤ cut_of target t
   rests : (x.steps ≡ cut_of target t) ⊎ WasStopped k t x.steps
 
-thread_of_worker_after_round : (id : TableId) (k : Plan) (target : List ℕ) (p : Cut) (t : ℕ) (w : Worker) → IsAfterRound id k target t w → AreAt p w.seat.me.0
+worker_after_round : (id : TableId) (k : Plan) (target : List ℕ) (p : Cut) (t : ℕ) (w : Worker) → IsAfterRound id k target t w → AreAt p w.seat.me.0
     → IsThreadAfterRound k target p t w.thread
-thread_of_worker_after_round id k target p t w h at = record {
+worker_after_round id k target p t w h at = record {
   ahead = seated_thread_is_ahead k p w.seat.me.0 w.thread t h.ready.seated at h.number;
   up = h.up;
   below = subst (λ n. w.thread.steps ≤ cut_of target n) h.number h.ready.below;
   rests = h.rests;
 }
 
-thread_at_number_after_round : (id : TableId) (k : Plan) (target : List ℕ) (p : Cut) (ws : List Worker) → AllByNumber (IsAfterRound id k target) ws
-    → AreAt p (views_of ws) → (t : ℕ) → t < length ws → IsThreadAfterRound k target p t (slice_index_or (backwards (threads_of ws)) t idle)
-thread_at_number_after_round id k target p ws h at t l =
-    let xs : List thread.ThreadState = backwards (threads_of ws) in
+thread_after_round : (id : TableId) (k : Plan) (target : List ℕ) (p : Cut) (ws : List Worker) → AllByNumber (IsAfterRound id k target) ws
+    → AreAt p (views_of ws) → (t : ℕ) → t < length ws → IsThreadAfterRound k target p t (slice_index_or (backwards (round_threads ws)) t idle)
+thread_after_round id k target p ws h at t l =
+    let xs : List thread.ThreadState = backwards (round_threads ws) in
     let all : AllByNumber (λ n w. IsThreadAfterRound k target p n (slice_index_or xs n idle)) ws =
-    all_by_number_if_implied (λ n w. (IsAfterRound id k target n w × AreAt p w.seat.me.0) × (w.thread ≡ slice_index_or xs n idle))
+    all_by_number_implied (λ n w. (IsAfterRound id k target n w × AreAt p w.seat.me.0) × (w.thread ≡ slice_index_or xs n idle))
     (λ n w. IsThreadAfterRound k target p n (slice_index_or xs n idle)) ws
-    (λ n w less x. subst (IsThreadAfterRound k target p n) x.1 (thread_of_worker_after_round id k target p n w x.0.0 x.0.1))
+    (λ n w less x. subst (IsThreadAfterRound k target p n) x.1 (worker_after_round id k target p n w x.0.0 x.0.1))
     (all_by_number_of_both (λ n w. IsAfterRound id k target n w × AreAt p w.seat.me.0) (λ n w. w.thread ≡ slice_index_or xs n idle) ws
-    (all_by_number_of_both (IsAfterRound id k target) (λ n w. AreAt p w.seat.me.0) ws h (worker_views_are_at_cut_if_joined_views_are p ws at))
-    (each_worker_has_thread_of_its_number ws [] xs (append-nil xs))) in
-    (element_with_property_exists_at_number_if_all_by_number (λ n w. IsThreadAfterRound k target p n (slice_index_or xs n idle)) ws all t l).1
+    (all_by_number_of_both (IsAfterRound id k target) (λ n w. AreAt p w.seat.me.0) ws h (worker_views_at_cut p ws at))
+    (worker_has_own_thread ws [] xs (append-nil xs))) in
+    (by_number_exists (λ n w. IsThreadAfterRound k target p n (slice_index_or xs n idle)) ws all t l).1
 
-steps_of_missing_thread_zero : (xs : List thread.ThreadState) (t : ℕ) → length xs ≤ t → (slice_index_or xs t idle).steps ≡ 0
-steps_of_missing_thread_zero xs t l = ap (λ (x : thread.ThreadState). x.steps) (get_or_past xs t idle l)
+missing_has_zero_steps : (xs : List thread.ThreadState) (t : ℕ) → length xs ≤ t → (slice_index_or xs t idle).steps ≡ 0
+missing_has_zero_steps xs t l = ap (λ (x : thread.ThreadState). x.steps) (get_or_past xs t idle l)
 
 -- ---- the guest after the round
 
 abbrev standing_after_round : List Worker → List Cell → Standing
-standing_after_round ws cells = record { threads = backwards (threads_of ws); objects = cells }
+standing_after_round ws cells = record { threads = backwards (round_threads ws); objects = cells }
 
-standing_after_round_is_between : (id : TableId) (k : Plan) (target : List ℕ) (ws : List Worker) (cells : List Cell) → StandsBelowTarget (trace_in k) target k.opened.value
-    → length ws ≡ length k.opened.value.threads → AllByNumber (IsAfterRound id k target) ws → IsClosed k (views_of ws) cells
+round_is_between : (id : TableId) (k : Plan) (target : List ℕ) (ws : List Worker) (cells : List Cell) → StandsBelowTarget (trace_in k) target k.opened.value
+    → length ws ≡ length k.opened.value.threads → AllByNumber (IsAfterRound id k target) ws → IsClosedTable k (views_of ws) cells
     → IsBetween (trace_in k) target k.opened.value (standing_after_round ws cells)
-standing_after_round_is_between id k target ws cells h size p c =
-    let xs : List thread.ThreadState = backwards (threads_of ws) in
-    let back : length xs ≡ length ws = length_of_backward_threads ws in
+round_is_between id k target ws cells h size p c =
+    let xs : List thread.ThreadState = backwards (round_threads ws) in
+    let back : length xs ≡ length ws = length-threads_backward ws in
     let there = h.stands.at.threads in
     let closed = c.at.threads in
     let left : (t : ℕ) → t < length ws → IsThreadAfterRound k target (positions c.state) t (slice_index_or xs t idle) =
-    thread_at_number_after_round id k target (positions c.state) ws p c.view in
+    thread_after_round id k target (positions c.state) ws p c.view in
     record {
-      stands = state_of_ahead_threads_stands_at_own_positions (trace_in k) c.state xs cells h.run c.flat c.at (λ t l. (left t (omega (arith, l, size, there, closed))).ahead)
+      stands = ahead_stands_at_own (trace_in k) c.state xs cells h.run c.flat c.at (λ t l. (left t (omega (arith, l, size, there, closed))).ahead)
           (omega (arith, back, size, there, closed)) c.objects;
       above = λ t. elim (cases_lt t (length ws)) [
         | inl l ↦ (left t l).up
-        | inr past ↦ let none = steps_of_missing_thread_zero k.opened.value.threads t (omega (arith, past, size)) in omega (arith, none)
+        | inr past ↦ let none = missing_has_zero_steps k.opened.value.threads t (omega (arith, past, size)) in omega (arith, none)
       ];
       below = λ t. elim (cases_lt t (length ws)) [
         | inl l ↦ (left t l).below
-        | inr past ↦ let none = steps_of_missing_thread_zero xs t (omega (arith, past, back)) in omega (arith, none)
+        | inr past ↦ let none = missing_has_zero_steps xs t (omega (arith, past, back)) in omega (arith, none)
       ];
     }
 
@@ -199,32 +200,32 @@ equal_or_some_increase (suc n) a b up = elim (cases_lt (a n) (b n)) [
   ]
 ]
 
-standing_after_round_progresses : (id : TableId) (k : Plan) (target : List ℕ) (ws : List Worker) (cells : List Cell) → StandsBelowTarget (trace_in k) target k.opened.value
-    → length ws ≡ length k.opened.value.threads → AllByNumber (IsAfterRound id k target) ws → IsClosed k (views_of ws) cells
+round_goes_on : (id : TableId) (k : Plan) (target : List ℕ) (ws : List Worker) (cells : List Cell) → StandsBelowTarget (trace_in k) target k.opened.value
+    → length ws ≡ length k.opened.value.threads → AllByNumber (IsAfterRound id k target) ws → IsClosedTable k (views_of ws) cells
     → IsBetween (trace_in k) target k.opened.value (standing_after_round ws cells) → Goes (trace_in k) target k.opened.value (standing_after_round ws cells)
-standing_after_round_progresses id k target ws cells h size p c b t less =
+round_goes_on id k target ws cells h size p c b t less =
     let new : Flat = flat_in (trace_in k) (standing_after_round ws cells) in
     let there = h.stands.at.threads in
     let whole = h.size in
     elim (equal_or_some_increase (length target) (opened_at k) (positions new) b.above) [
-      | inr some ↦ sum_below_less_if_one_less (length target) some.0 (λ u. cut_of target u - positions new u) (λ u. cut_of target u - opened_at k u) some.1
+      | inr some ↦ sum_below_less (length target) some.0 (λ u. cut_of target u - positions new u) (λ u. cut_of target u - opened_at k u) some.1
           (let up = some.2 in let below = b.below some.0 in omega (arith, up, below)) (λ u. let up = b.above u in omega (arith, up))
       | inl same ↦
           let rests : (u : ℕ) → u < length target → (opened_at k u ≡ cut_of target u) ⊎ WasStopped k u (opened_at k u) =
           λ u l. subst (λ n. (n ≡ cut_of target u) ⊎ WasStopped k u n) (sym (same u l))
-          (thread_at_number_after_round id k target (positions c.state) ws p c.view u (omega (arith, l, size, there, whole))).rests in
-          let at = target_reached_if_each_thread_is_there_or_was_stopped k target h.run h.stands.at h.size h.consistent h.below rests t in
+          (thread_after_round id k target (positions c.state) ws p c.view u (omega (arith, l, size, there, whole))).rests in
+          let at = all_there_reaches_target k target h.run h.stands.at h.size h.consistent h.below rests t in
           absurd (omega (arith, at, less))
     ]
 
-pub standing_after_round_is_between_and_progresses : (id : TableId) (k : Plan) (f : FittedTrace) (target : List ℕ) (s new : Standing) (ws : List Worker) (cells : List Cell)
+pub round_is_between_and_goes : (id : TableId) (k : Plan) (f : FittedTrace) (target : List ℕ) (s new : Standing) (ws : List Worker) (cells : List Cell)
     → trace_in k ≡ f → k.opened.value ≡ s → StandsBelowTarget f target s → length ws ≡ length s.threads → AllByNumber (IsAfterRound id k target) ws
-    → IsClosed k (views_of ws) cells → new ≡ record { threads = backwards (threads_of ws); objects = cells }
+    → IsClosedTable k (views_of ws) cells → new ≡ record { threads = backwards (round_threads ws); objects = cells }
     → IsBetween f target s new × Goes f target s new
-standing_after_round_is_between_and_progresses id k f target s new ws cells for is h size p c e =
-    let start : StandsBelowTarget (trace_in k) target k.opened.value = stands_below_target_in_plan k f target s for is h in
+round_is_between_and_goes id k f target s new ws cells for is h size p c e =
+    let start : StandsBelowTarget (trace_in k) target k.opened.value = stands_below_target k f target s for is h in
     let long : length ws ≡ length k.opened.value.threads = size ∙ ap (λ (z : Standing). length z.threads) (sym is) in
-    let b : IsBetween (trace_in k) target k.opened.value (standing_after_round ws cells) = standing_after_round_is_between id k target ws cells start long p c in
+    let b : IsBetween (trace_in k) target k.opened.value (standing_after_round ws cells) = round_is_between id k target ws cells start long p c in
     subst (λ (z : FittedTrace × Standing). IsBetween z.0 target z.1 new × Goes z.0 target z.1 new) (λ i. (for i, is i))
     (subst (λ z. IsBetween (trace_in k) target k.opened.value z × Goes (trace_in k) target k.opened.value z) (sym e)
-    (b, standing_after_round_progresses id k target ws cells start long p c b))
+    (b, round_goes_on id k target ws cells start long p c b))

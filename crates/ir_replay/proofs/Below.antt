@@ -20,9 +20,9 @@ counts_below_at_start target p = record {
 }
 
 -- one thread further, which is below
-pub counts_below_step_below_target : (target : List ℕ) (p : Cut) (n below below' : ℕ) → CountsBelow target p n below → p n < cut_of target n
+pub counts_below_more : (target : List ℕ) (p : Cut) (n below below' : ℕ) → CountsBelow target p n below → p n < cut_of target n
     → (below ≡ 0 → below' ≡ 1) → (0 < below → 1 < below') → CountsBelow target p (n + 1) below'
-counts_below_step_below_target target p n below below' h less first next = elim (cases_eq below 0) [
+counts_below_more target p n below below' h less first next = elim (cases_eq below 0) [
   | inl e ↦ (
       let one : below' ≡ 1 = first e in
       record {
@@ -51,9 +51,9 @@ counts_below_step_below_target target p n below below' h less first next = elim 
 ]
 
 -- one thread further, which isn't
-pub counts_below_step_at_target : (target : List ℕ) (p : Cut) (n below : ℕ) → CountsBelow target p n below → cut_of target n ≤ p n
+pub counts_below_same : (target : List ℕ) (p : Cut) (n below : ℕ) → CountsBelow target p n below → cut_of target n ≤ p n
     → CountsBelow target p (n + 1) below
-counts_below_step_at_target target p n below h not = record {
+counts_below_same target p n below h not = record {
   none = λ e t l. elim (cases_eq t n) [
     | inl same ↦ subst (λ z. cut_of target z ≤ p z) (sym same) not
     | inr other ↦ h.none e t (omega (arith, l, other))
@@ -71,8 +71,8 @@ counts_below_step_at_target target p n below h not = record {
 }
 
 -- of all threads at most one is below where no more were counted
-pub at_most_one_thread_is_below_target_if_count_is : (target : List ℕ) (p : Cut) (n below : ℕ) → CountsBelow target p n below → length target ≡ n → below ≤ 1 → OneIsBelow target p
-at_most_one_thread_is_below_target_if_count_is target p n below h size few t u a b = elim (cases_eq below 0) [
+pub at_most_one_below : (target : List ℕ) (p : Cut) (n below : ℕ) → CountsBelow target p n below → length target ≡ n → below ≤ 1 → OneIsBelow target p
+at_most_one_below target p n below h size few t u a b = elim (cases_eq below 0) [
   | inl e ↦ (let c = h.none e t (within t a) in absurd (omega (arith, a, c)))
   | inr ne ↦ (let one = h.one (omega (arith, ne, few)) in let x = one.3 t (within t a) a in let y = one.3 u (within u b) b in
       omega (arith, x, y))
@@ -85,8 +85,8 @@ at_most_one_thread_is_below_target_if_count_is target p n below h size few t u a
     ]
 
 -- and where more were, more than one is
-pub below_count_is_at_most_one_if_at_most_one_thread_is_below : (target : List ℕ) (p : Cut) (n below : ℕ) → CountsBelow target p n below → OneIsBelow target p → below ≤ 1
-below_count_is_at_most_one_if_at_most_one_thread_is_below target p n below h one = elim (cases_lt 1 below) [
+pub below_count_at_most_one : (target : List ℕ) (p : Cut) (n below : ℕ) → CountsBelow target p n below → OneIsBelow target p → below ≤ 1
+below_count_at_most_one target p n below h one = elim (cases_lt 1 below) [
   | inl many ↦ (let a = h.more many in let same = one a.0 a.1 a.3 a.4 in let l = a.2 in absurd (omega (arith, same, l)))
   | inr few ↦ few
 ]

@@ -4,13 +4,13 @@ use Rattle.std.proofs.lemmas.Bool.{cases_eq, cases_lt}
 use Rattle.ir_flat.specs.Alone.{WentAlone}
 use Rattle.ir_flat.specs.Flat.{Flat}
 use Rattle.ir_fit.specs.Fit.{FittedTrace}
-use Rattle.ir_runs.proofs.CallerLemmas.{sum_below_is_monotone, sum_below_less_if_one_less}
+use Rattle.ir_runs.proofs.CallerLemmas.{sum_below_is_monotone, sum_below_less}
 use Rattle.ir_cut.specs.Positions.{cut_of}
 use Rattle.ir_weave.specs.Standing.{positions}
-use Rattle.ir_weave.specs.Stepping.{IsTarget, IsUnder, HasGone, IsSame, Rests, steps_left}
-use Rattle.ir_weave.proofs.CallerLemmas.{position_after_going_alone, position_of_other_after_going_alone}
+use Rattle.ir_weave.specs.Stepping.{IsTarget, IsUnder, HasGone, IsSameSeat, RestsAtTarget, steps_left}
+use Rattle.ir_weave.proofs.CallerLemmas.{position_after_alone, other_position_alone}
 use Rattle.ir_replay.specs.Passes.{IsPass}
-use Rattle.ir_replay.proofs.Reached.{rests_in_same_state, target_reached_if_all_rest}
+use Rattle.ir_replay.proofs.Reached.{rests_in_same_state, all_rest_reaches_target}
 
 -- ---- one thread
 
@@ -18,18 +18,18 @@ pub has_gone_no_steps : (s : Flat) (t : ℕ) → HasGone s s t 0
 has_gone_no_steps s t = record { own = omega arith; others = λ u ne. refl }
 
 pub has_gone_if_went_alone : (s new : Flat) (t n : ℕ) → WentAlone s new t n → HasGone s new t n
-has_gone_if_went_alone s new t n w = record { own = position_after_going_alone s new t n w; others = position_of_other_after_going_alone s new t n w }
+has_gone_if_went_alone s new t n w = record { own = position_after_alone s new t n w; others = other_position_alone s new t n w }
 
 -- by private steps
-pub has_gone_after_private_steps : (old s new : Flat) (t m n : ℕ) → HasGone old s t m → WentAlone s new t n → HasGone old new t (m + n)
-has_gone_after_private_steps old s new t m n h w = record {
-  own = let a = h.own in let more = position_after_going_alone s new t n w in omega (arith, a, more);
-  others = λ u ne. position_of_other_after_going_alone s new t n w u ne ∙ h.others u ne;
+pub gone_then_private : (old s new : Flat) (t m n : ℕ) → HasGone old s t m → WentAlone s new t n → HasGone old new t (m + n)
+gone_then_private old s new t m n h w = record {
+  own = let a = h.own in let more = position_after_alone s new t n w in omega (arith, a, more);
+  others = λ u ne. other_position_alone s new t n w u ne ∙ h.others u ne;
 }
 
 -- and no step
-pub has_gone_after_same_state : (old s new : Flat) (t m : ℕ) → HasGone old s t m → IsSame s new → HasGone old new t m
-has_gone_after_same_state old s new t m h same = record {
+pub gone_then_same : (old s new : Flat) (t m : ℕ) → HasGone old s t m → IsSameSeat s new → HasGone old new t m
+gone_then_same old s new t m h same = record {
   own = let a = h.own in let b = same t in omega (arith, a, b);
   others = λ u ne. same u ∙ h.others u ne;
 }
@@ -47,23 +47,23 @@ positions_rise_if_gone old new t n h u = elim (cases_eq u t) [
   | inr ne ↦ let a = h.others u ne in omega (arith, a)
 ]
 
-same_state_if_gone_no_steps : (old new : Flat) (t n : ℕ) → HasGone old new t n → n ≡ 0 → IsSame old new
-same_state_if_gone_no_steps old new t n h none u = elim (cases_eq u t) [
+gone_none_is_same : (old new : Flat) (t n : ℕ) → HasGone old new t n → n ≡ 0 → IsSameSeat old new
+gone_none_is_same old new t n h none u = elim (cases_eq u t) [
   | inl same ↦ subst (λ w. positions new w ≡ positions old w) (sym same) (let a = h.own in omega (arith, a, none))
   | inr ne ↦ h.others u ne
 ]
 
 -- ---- how many steps are left
 
-pub steps_left_fall_if_positions_rise : (target : List ℕ) (old new : Flat) → ((t : ℕ) → positions old t ≤ positions new t)
+pub steps_left_fall : (target : List ℕ) (old new : Flat) → ((t : ℕ) → positions old t ≤ positions new t)
     → steps_left target new ≤ steps_left target old
-steps_left_fall_if_positions_rise target old new above = sum_below_is_monotone (length target) (λ t. cut_of target t - positions new t) (λ t. cut_of target t - positions old t)
+steps_left_fall target old new above = sum_below_is_monotone (length target) (λ t. cut_of target t - positions new t) (λ t. cut_of target t - positions old t)
     (λ t. let a = above t in omega (arith, a))
 
-fewer_steps_left_if_gone : (target : List ℕ) (old new : Flat) (t n : ℕ) → t < length target → HasGone old new t n → 0 < n
+gone_steps_left_fewer : (target : List ℕ) (old new : Flat) (t n : ℕ) → t < length target → HasGone old new t n → 0 < n
     → positions new t ≤ cut_of target t → steps_left target new < steps_left target old
-fewer_steps_left_if_gone target old new t n l gone some below =
-    sum_below_less_if_one_less (length target) t (λ u. cut_of target u - positions new u) (λ u. cut_of target u - positions old u) l
+gone_steps_left_fewer target old new t n l gone some below =
+    sum_below_less (length target) t (λ u. cut_of target u - positions new u) (λ u. cut_of target u - positions old u) l
     (let own = gone.own in omega (arith, own, some, below)) (λ u. let a = positions_rise_if_gone old new t n gone u in omega (arith, a))
 
 -- ---- a pass
@@ -79,21 +79,21 @@ pass_at_start f target s most under = record {
 
 -- the next thread has gone on
 pub pass_after_next_thread : (f : FittedTrace) (target : List ℕ) (old s new : Flat) (taken most t more : ℕ) → IsPass f target old s taken most t
-    → t < length target → IsUnder f target new → HasGone s new t more → (more < most - taken → Rests f target new t)
+    → t < length target → IsUnder f target new → HasGone s new t more → (more < most - taken → RestsAtTarget f target new t)
     → IsPass f target old new (taken + more) most (t + 1)
 pass_after_next_thread f target old s new taken most t more k l under gone rests = record {
   under = under;
   above = λ u. let a = k.above u in let b = positions_rise_if_gone s new t more gone u in omega (arith, a, b);
   fewer = λ some. elim (cases_lt 0 more) [
-    | inl moved ↦ let a = fewer_steps_left_if_gone target s new t more l gone moved (under.below t) in let b = steps_left_fall_if_positions_rise target old s k.above in
+    | inl moved ↦ let a = gone_steps_left_fewer target s new t more l gone moved (under.below t) in let b = steps_left_fall target old s k.above in
         omega (arith, a, b)
-    | inr still ↦ let a = steps_left_fall_if_positions_rise target s new (positions_rise_if_gone s new t more gone) in let b = k.fewer (omega (arith, some, still)) in
+    | inr still ↦ let a = steps_left_fall target s new (positions_rise_if_gone s new t more gone) in let b = k.fewer (omega (arith, some, still)) in
         omega (arith, a, b)
   ];
-  same = λ none u. same_state_if_gone_no_steps s new t more gone (omega (arith, none)) u ∙ k.same (omega (arith, none)) u;
+  same = λ none u. gone_none_is_same s new t more gone (omega (arith, none)) u ∙ k.same (omega (arith, none)) u;
   rest = λ none some u less. elim (cases_eq u t) [
-    | inl here ↦ subst (Rests f target new) (sym here) (rests (omega (arith, none, some)))
-    | inr ne ↦ rests_in_same_state f target s new u (same_state_if_gone_no_steps s new t more gone (omega (arith, none)))
+    | inl here ↦ subst (RestsAtTarget f target new) (sym here) (rests (omega (arith, none, some)))
+    | inr ne ↦ rests_in_same_state f target s new u (gone_none_is_same s new t more gone (omega (arith, none)))
         (k.rest (omega (arith, none)) some u (omega (arith, less, ne)))
   ];
 }
@@ -106,7 +106,7 @@ pub record ArePasses (f : FittedTrace) (target : List ℕ) (old s : Flat) (most 
   pub above : (t : ℕ) → positions old t ≤ positions s t
   pub within : left ≤ most
   pub fewer : left < most → steps_left target s < steps_left target old
-  pub same : left ≡ most → IsSame old s
+  pub same : left ≡ most → IsSameSeat old s
 
 pub passes_at_start : (f : FittedTrace) (target : List ℕ) (s : Flat) (most : ℕ) → IsUnder f target s → ArePasses f target s s most most
 passes_at_start f target s most under = record {
@@ -124,18 +124,18 @@ passes_after_pass f target old s new most left taken n k p few some = record {
   above = λ t. let a = k.above t in let b = p.above t in omega (arith, a, b);
   within = let a = k.within in omega (arith, a);
   fewer = λ l. let a = p.fewer (elim (cases_lt 0 taken) [ inl l ↦ l | inr none ↦ absurd (some (omega (arith, none))) ]) in let b =
-      steps_left_fall_if_positions_rise target old s k.above in omega (arith, a, b);
+      steps_left_fall target old s k.above in omega (arith, a, b);
   same = λ e. let a = k.within in absurd (some (omega (arith, a, e, few)));
 }
 
 -- where a pass takes no step, none was left to those before, or these took some
-pub fewer_steps_left_after_passes_if_last_pass_took_none : (f : FittedTrace) (target : List ℕ) (old s new : Flat) (most left taken : ℕ) → IsTarget f target
+pub passes_steps_left_fewer : (f : FittedTrace) (target : List ℕ) (old s new : Flat) (most left taken : ℕ) → IsTarget f target
     → ArePasses f target old s most left → IsPass f target s new taken left (length target) → taken ≡ 0 → 0 < left → (t : ℕ)
     → positions old t < cut_of target t → steps_left target new < steps_left target old
-fewer_steps_left_after_passes_if_last_pass_took_none f target old s new most left taken aim k p none some t less = elim (cases_lt left most) [
-  | inl l ↦ let a = k.fewer l in let b = steps_left_fall_if_positions_rise target s new p.above in omega (arith, a, b)
+passes_steps_left_fewer f target old s new most left taken aim k p none some t less = elim (cases_lt left most) [
+  | inl l ↦ let a = k.fewer l in let b = steps_left_fall target s new p.above in omega (arith, a, b)
   | inr all ↦
-      let at : positions new t ≡ cut_of target t = target_reached_if_all_rest f target new aim p.under (p.rest none some) t in
+      let at : positions new t ≡ cut_of target t = all_rest_reaches_target f target new aim p.under (p.rest none some) t in
       let a = p.same none t in
       let b = k.same (let w = k.within in omega (arith, all, w)) t in
       absurd (omega (arith, at, a, b, less))

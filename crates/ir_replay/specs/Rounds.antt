@@ -20,9 +20,9 @@ abbrev pub backwards : {A : Type 0} → List A → List A
 backwards [] = []
 backwards (x ∷ xs) = backwards xs ++ x ∷ []
 
-abbrev pub threads_of : List Worker → List thread.ThreadState
-threads_of [] = []
-threads_of (w ∷ ws) = w.thread ∷ threads_of ws
+abbrev pub round_threads : List Worker → List thread.ThreadState
+round_threads [] = []
+round_threads (w ∷ ws) = w.thread ∷ round_threads ws
 
 abbrev pub seats_of : List Worker → List (Seat (Unit {0}) View)
 seats_of [] = []

@@ -5,7 +5,7 @@ ghost use Rattle.ir_thread.specs.State.{ask_of, most_events};
 ghost use Rattle.ir_thread.specs.declared.ask.Ask.TheVariants as ask;
 ghost use Rattle.ir_flat.specs.Flat.{thread_of, IsFlat};
 ghost use Rattle.ir_fit.specs.Ahead.{steps_ahead};
-ghost use Rattle.ir_weave.specs.Stepping.{IsNext};
+ghost use Rattle.ir_weave.specs.Stepping.{IsNextOfSeat};
 
 use ir_fit::{Fitted, is_open};
 use ir_flat::Flat;
@@ -29,7 +29,7 @@ fn call_result(fitted: &Fitted, flat: &Flat<'_>, t: usize, kind: EnvKind) -> Opt
     requires thread { t < length flat.now.threads }
     requires asked { ask_of flat.now.code (thread_of flat.now t) ≡ ask.Env kind }
     requires steps { 0 < steps_ahead fitted.now.recorded flat.now t }
-    ensures { IsNext fitted.now.recorded flat.now t result }
+    ensures { IsNextOfSeat fitted.now.recorded flat.now t result }
 {
     let before = events_of(flat, t);
     match fitted.trace().next_event(t, before, Ask::Env(kind)) {
@@ -52,7 +52,7 @@ fn entry_result(
     requires thread { t < length flat.now.threads }
     requires asked { ask_of flat.now.code (thread_of flat.now t) ≡ ask.Enter object access }
     requires steps { 0 < steps_ahead fitted.now.recorded flat.now t }
-    ensures { IsNext fitted.now.recorded flat.now t result }
+    ensures { IsNextOfSeat fitted.now.recorded flat.now t result }
 {
     let before = events_of(flat, t);
     let asked = Ask::Enter(object, access);
@@ -74,7 +74,7 @@ fn try_result(fitted: &Fitted, flat: &Flat<'_>, t: usize, object: u8) -> Option<
     requires thread { t < length flat.now.threads }
     requires asked { ask_of flat.now.code (thread_of flat.now t) ≡ ask.Try object }
     requires steps { 0 < steps_ahead fitted.now.recorded flat.now t }
-    ensures { IsNext fitted.now.recorded flat.now t result }
+    ensures { IsNextOfSeat fitted.now.recorded flat.now t result }
 {
     let before = events_of(flat, t);
     match fitted.trace().next_event(t, before, Ask::Try(object)) {
@@ -96,7 +96,7 @@ pub fn next_result(fitted: &Fitted, flat: &Flat<'_>, t: usize, asked: Ask) -> Op
     requires thread { t < length flat.now.threads }
     requires asked { asked ≡ ask_of flat.now.code (thread_of flat.now t) }
     requires steps { 0 < steps_ahead fitted.now.recorded flat.now t }
-    ensures { IsNext fitted.now.recorded flat.now t result }
+    ensures { IsNextOfSeat fitted.now.recorded flat.now t result }
 {
     match asked {
         Ask::Env(kind) => call_result(fitted, flat, t, kind),

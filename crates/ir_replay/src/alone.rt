@@ -4,8 +4,8 @@ ghost use Rattle.ir_flat.specs.Flat.{thread_of};
 ghost use Rattle.ir_thread.specs.Private.{UnmarkedSteps};
 ghost use Rattle.std.specs.Prelude.{◌≡◌, ◌<◌, ◌≤◌, ℕ, length};
 ghost use Rattle.ir_cut.specs.Positions.{IsConsistentCut, cut_of};
-ghost use Rattle.ir_weave.specs.Standing.{StandsAt, flat_in, positions};
-ghost use Rattle.ir_weave.specs.Stepping.{HasGone, Rests};
+ghost use Rattle.ir_weave.specs.Standing.{StandsAtCut, flat_in, positions};
+ghost use Rattle.ir_weave.specs.Stepping.{HasGone, RestsAtTarget};
 ghost use Rattle.ir_replay.specs.Alone.{RestsUnmarked};
 
 use crate::stepping::{go, left};
@@ -26,15 +26,15 @@ pub fn advance_alone<G: Gate>(
     most: u64,
     gate: &G,
 ) -> (State, u64)
-    requires state { StandsAt fitted.now (positions (flat_in fitted.now state)) state }
+    requires state { StandsAtCut fitted.now (positions (flat_in fitted.now state)) state }
     requires target { (length target.now ≡ length fitted.now.guest.entries) × IsConsistentCut fitted.now target.now }
     requires below { (u : ℕ) → positions (flat_in fitted.now state) u ≤ cut_of target.now u }
     requires thread { t < length fitted.now.guest.entries }
-    ensures stands { StandsAt fitted.now (positions (flat_in fitted.now result.0)) result.0 }
+    ensures stands { StandsAtCut fitted.now (positions (flat_in fitted.now result.0)) result.0 }
     ensures below { (u : ℕ) → positions (flat_in fitted.now result.0) u ≤ cut_of target.now u }
     ensures within { result.1 ≤ most }
     ensures gone { HasGone (flat_in fitted.now state) (flat_in fitted.now result.0) t result.1 }
-    ensures rests { result.1 < most → Rests fitted.now target.now (flat_in fitted.now result.0) t }
+    ensures rests { result.1 < most → RestsAtTarget fitted.now target.now (flat_in fitted.now result.0) t }
 {
     known(fitted);
     let mut flat = with_code(fitted, state);
@@ -53,12 +53,12 @@ pub fn advance_unmarked(
     code: &MarkedCode<'_>,
     most: u64,
 ) -> (State, u64)
-    requires state { StandsAt fitted.now (positions (flat_in fitted.now state)) state }
+    requires state { StandsAtCut fitted.now (positions (flat_in fitted.now state)) state }
     requires target { (length target.now ≡ length fitted.now.guest.entries) × IsConsistentCut fitted.now target.now }
     requires below { (u : ℕ) → positions (flat_in fitted.now state) u ≤ cut_of target.now u }
     requires thread { t < length fitted.now.guest.entries }
     requires code { code.now.words ≡ fitted.now.guest.code }
-    ensures stands { StandsAt fitted.now (positions (flat_in fitted.now result.0)) result.0 }
+    ensures stands { StandsAtCut fitted.now (positions (flat_in fitted.now result.0)) result.0 }
     ensures below { (u : ℕ) → positions (flat_in fitted.now result.0) u ≤ cut_of target.now u }
     ensures within { result.1 ≤ most }
     ensures gone { HasGone (flat_in fitted.now state) (flat_in fitted.now result.0) t result.1 }

@@ -3,7 +3,7 @@
 ghost use Rattle.std.specs.Prelude.{◌≡◌, ◌<◌, ◌≤◌, ◌↔◌, ℕ, true, false, length, slice_index_or, IfOk, IfErr, IsOk, IsTrue};
 ghost use Rattle.ir_flat.specs.Flat.{idle};
 ghost use Rattle.ir_cut.specs.Positions.{IsConsistentCut, cut_of};
-ghost use Rattle.ir_weave.specs.Standing.{StandsAt, flat_in, IsBetween, OneIsBelow, positions};
+ghost use Rattle.ir_weave.specs.Standing.{StandsAtCut, flat_in, IsBetween, OneIsBelow, positions};
 ghost use Rattle.ir_weave.specs.Stepping.{steps_left};
 ghost use Rattle.ir_replay.specs.Rounds.{Goes};
 
@@ -25,11 +25,11 @@ use std::alloc::AllocError;
 /// are at their targets. The state at the target doesn't depend on the order. Takes no memory, and time linear in the
 /// steps up to the target, the entries of the order and, for each pass, the threads.
 pub fn advance_in_order(fitted: &Fitted, state: State, target: &Cut, order: &[u8]) -> State
-    requires state { StandsAt fitted.now (positions (flat_in fitted.now state)) state }
+    requires state { StandsAtCut fitted.now (positions (flat_in fitted.now state)) state }
     requires size { length target.now ≡ length fitted.now.guest.entries }
     requires consistent { IsConsistentCut fitted.now target.now }
     requires below { (t : ℕ) → positions (flat_in fitted.now state) t ≤ cut_of target.now t }
-    ensures { StandsAt fitted.now (cut_of target.now) result }
+    ensures { StandsAtCut fitted.now (cut_of target.now) result }
 {
     known(fitted);
     let mut flat = with_code(fitted, state);
@@ -86,7 +86,7 @@ fn turn<H: Hands>(
     target: &Cut,
     pace: &mut Pace,
 ) -> Result<State, (State, AllocError)>
-    requires state { StandsAt fitted.now (positions (flat_in fitted.now state)) state }
+    requires state { StandsAtCut fitted.now (positions (flat_in fitted.now state)) state }
     requires target { (length target.now ≡ length fitted.now.guest.entries) × IsConsistentCut fitted.now target.now }
     requires below { (t : ℕ) → positions (flat_in fitted.now state) t ≤ cut_of target.now t }
     ensures ok { IfOk result (λ s. IsBetween fitted.now target.now state s) }
@@ -126,10 +126,10 @@ pub fn advance<H: Hands>(
     target: &Cut,
     pace: &mut Pace,
 ) -> Result<State, (State, AllocError)>
-    requires state { StandsAt fitted.now (positions (flat_in fitted.now state)) state }
+    requires state { StandsAtCut fitted.now (positions (flat_in fitted.now state)) state }
     requires target { (length target.now ≡ length fitted.now.guest.entries) × IsConsistentCut fitted.now target.now }
     requires below { (t : ℕ) → positions (flat_in fitted.now state) t ≤ cut_of target.now t }
-    ensures ok { IfOk result (λ s. StandsAt fitted.now (cut_of target.now) s) }
+    ensures ok { IfOk result (λ s. StandsAtCut fitted.now (cut_of target.now) s) }
     ensures err { IfErr result (λ e. IsBetween fitted.now target.now state e.0) }
     // One thread alone takes its steps without memory.
     ensures alone { OneIsBelow target.now (positions (flat_in fitted.now state)) → IsOk result }

@@ -3,7 +3,7 @@
 ghost use Rattle.std.specs.Prelude.{◌≡◌, ◌<◌, ◌≤◌, ℕ, length};
 ghost use Rattle.ir_cut.specs.Positions.{cut_of};
 ghost use Rattle.ir_weave.specs.Standing.{positions};
-ghost use Rattle.ir_weave.specs.Stepping.{IsTarget, IsUnder, Rests, steps_left};
+ghost use Rattle.ir_weave.specs.Stepping.{IsTarget, IsUnder, RestsAtTarget, steps_left};
 ghost use Rattle.ir_replay.specs.Passes.{IsPass};
 
 use crate::stepping::{go, step};

@@ -4,11 +4,11 @@ ghost use Rattle.std.specs.Prelude.{◌≡◌, ◌<◌, ◌≤◌, ℕ, true, fa
 ghost use Rattle.std.specs.List.{AllByRecursion, AllZip};
 ghost use Rattle.ir_flat.specs.Flat.{idle};
 ghost use Rattle.ir_cut.specs.Positions.{IsConsistentCut, cut_of};
-ghost use Rattle.ir_weave.specs.Standing.{StandsAt, flat_in, IsBetween, positions};
+ghost use Rattle.ir_weave.specs.Standing.{StandsAtCut, flat_in, IsBetween, positions};
 ghost use Rattle.ir_weave.specs.Stepping.{steps_left};
 ghost use Rattle.ir_weave.specs.Woven.{IsFor, AreSeats};
-ghost use Rattle.ir_replay.specs.Rounds.{Goes, backwards, threads_of, seats_of, views_of, IsOfTable};
-ghost use Rattle.ir_replay.specs.Workers.{IsReady, HasWorked};
+ghost use Rattle.ir_replay.specs.Rounds.{Goes, backwards, round_threads, seats_of, views_of, IsOfTable};
+ghost use Rattle.ir_replay.specs.Workers.{IsWorkerReady, HasWorked};
 
 use crate::worker::{Worker, work_all};
 use crossbeam_utils::CachePadded;
@@ -26,7 +26,7 @@ pub fn assign_seats(workers: &mut Vec<Worker>, threads: &mut Vec<Thread>, mut se
     requires room { length threads.old.items ≤ vec_capacity workers.old }
     ensures none { threads.new.items ≡ [] }
     ensures room { vec_capacity threads.new ≡ vec_capacity threads.old }
-    ensures threads { backwards (threads_of workers.new.items) ≡ threads.old.items }
+    ensures threads { backwards (round_threads workers.new.items) ≡ threads.old.items }
     ensures seats { backwards (seats_of workers.new.items) ≡ seats.items }
 {
     'threads: while let Some(thread) = threads.pop() {
@@ -51,7 +51,7 @@ fn run_all<H: Hands>(
 )
     requires table { IsFor weave.now.table.shared.key fitted.now }
     requires target { (length target.now ≡ length fitted.now.guest.entries) × IsConsistentCut fitted.now target.now }
-    requires ready { AllByRecursion (IsReady weave.now.table.shared.table_id weave.now.table.shared.key target.now) workers.old.items }
+    requires ready { AllByRecursion (IsWorkerReady weave.now.table.shared.table_id weave.now.table.shared.key target.now) workers.old.items }
     ensures { AllZip (HasWorked weave.now.table.shared.table_id weave.now.table.shared.key target.now) workers.old.items workers.new.items }
 {
     work_all(hands, weave, workers.as_mut_slice(), fitted, target, millis);
@@ -63,7 +63,7 @@ fn joined(weave: &Weave, workers: &mut Vec<Worker>, threads: &mut Vec<Thread>) -
     requires none { threads.old.items ≡ [] }
     requires room { vec_len workers.old ≤ vec_capacity threads.old }
     requires seats { AllByRecursion (IsOfTable weave.now.table.shared.table_id) workers.old.items }
-    ensures threads { threads.new.items ≡ backwards (threads_of workers.old.items) }
+    ensures threads { threads.new.items ≡ backwards (round_threads workers.old.items) }
     ensures table { result.table_id ≡ weave.now.table.shared.table_id }
     ensures views { result.me.0 ≡ views_of workers.old.items }
 {
@@ -99,7 +99,7 @@ fn run_at_table<H: Hands>(
     requires seats { AreSeats opened.weave.table.shared.table_id opened.weave.table.shared.key 0 opened.seats.items × (length opened.seats.items ≡ length fitted.now.guest.entries) }
     requires none { opened.workers.items ≡ [] }
     requires room { length opened.seats.items ≤ vec_capacity opened.workers }
-    requires state { StandsAt fitted.now (positions (flat_in fitted.now state)) state }
+    requires state { StandsAtCut fitted.now (positions (flat_in fitted.now state)) state }
     requires target { (length target.now ≡ length fitted.now.guest.entries) × IsConsistentCut fitted.now target.now }
     requires below { (t : ℕ) → positions (flat_in fitted.now state) t ≤ cut_of target.now t }
     ensures between { IsBetween fitted.now target.now state result }
@@ -127,7 +127,7 @@ pub fn round<H: Hands>(
     target: &Cut,
     millis: u32,
 ) -> Result<State, (State, AllocError)>
-    requires state { StandsAt fitted.now (positions (flat_in fitted.now state)) state }
+    requires state { StandsAtCut fitted.now (positions (flat_in fitted.now state)) state }
     requires target { (length target.now ≡ length fitted.now.guest.entries) × IsConsistentCut fitted.now target.now }
     requires below { (t : ℕ) → positions (flat_in fitted.now state) t ≤ cut_of target.now t }
     ensures ok { IfOk result (λ s. IsBetween fitted.now target.now state s) }

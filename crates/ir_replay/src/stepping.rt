@@ -5,7 +5,7 @@ ghost use Rattle.ir_thread.specs.State.{ask_of};
 ghost use Rattle.ir_flat.specs.Flat.{thread_of};
 ghost use Rattle.ir_cut.specs.Positions.{cut_of};
 ghost use Rattle.ir_weave.specs.Standing.{positions};
-ghost use Rattle.ir_weave.specs.Stepping.{IsTarget, IsUnder, HasGone, IsSame, Rests};
+ghost use Rattle.ir_weave.specs.Stepping.{IsTarget, IsUnder, HasGone, IsSameSeat, RestsAtTarget};
 
 use crate::admission::next_result;
 use crate::telling::{tell_entry, tell_leave};
@@ -40,8 +40,8 @@ fn take_if_admitted<G: Gate>(
     requires asked { asked ≡ ask_of flat.old.code (thread_of flat.old t) }
     ensures under { IsUnder fitted.now target.now flat.new }
     ensures gone { result ≡ true → HasGone flat.old flat.new t 1 }
-    ensures same { result ≡ false → IsSame flat.old flat.new }
-    ensures rests { result ≡ false → Rests fitted.now target.now flat.new t }
+    ensures same { result ≡ false → IsSameSeat flat.old flat.new }
+    ensures rests { result ≡ false → RestsAtTarget fitted.now target.now flat.new t }
 {
     if left(target, flat, t) == 0 {
         return false;
@@ -73,8 +73,8 @@ fn step_asked<G: Gate>(
     requires asked { asked ≡ ask_of flat.old.code (thread_of flat.old t) }
     ensures under { IsUnder fitted.now target.now flat.new }
     ensures gone { result ≡ true → HasGone flat.old flat.new t 1 }
-    ensures same { result ≡ false → IsSame flat.old flat.new }
-    ensures rests { result ≡ false → Rests fitted.now target.now flat.new t }
+    ensures same { result ≡ false → IsSameSeat flat.old flat.new }
+    ensures rests { result ≡ false → RestsAtTarget fitted.now target.now flat.new t }
 {
     match asked {
         Ask::Enter(object, access) => {
@@ -113,8 +113,8 @@ pub fn step<G: Gate>(
     requires thread { t < length target.now }
     ensures under { IsUnder fitted.now target.now flat.new }
     ensures gone { result ≡ true → HasGone flat.old flat.new t 1 }
-    ensures same { result ≡ false → IsSame flat.old flat.new }
-    ensures rests { result ≡ false → Rests fitted.now target.now flat.new t }
+    ensures same { result ≡ false → IsSameSeat flat.old flat.new }
+    ensures rests { result ≡ false → RestsAtTarget fitted.now target.now flat.new t }
 {
     let asked = flat.ask(t);
     step_asked(fitted, target, flat, t, asked, gate)
@@ -135,7 +135,7 @@ pub fn go<G: Gate>(
     ensures under { IsUnder fitted.now target.now flat.new }
     ensures within { result ≤ most }
     ensures gone { HasGone flat.old flat.new t result }
-    ensures rests { result < most → Rests fitted.now target.now flat.new t }
+    ensures rests { result < most → RestsAtTarget fitted.now target.now flat.new t }
 {
     let mut taken = 0;
     'steps: while taken < most {

@@ -4,7 +4,7 @@ ghost use Rattle.std.specs.Prelude.{◌≡◌, ◌<◌, ◌≤◌, ℕ, length};
 ghost use Rattle.ir_flat.specs.Flat.{IsFlat};
 ghost use Rattle.ir_fit.specs.Fit.{HasRun};
 ghost use Rattle.ir_cut.specs.Positions.{IsConsistentCut, cut_of};
-ghost use Rattle.ir_weave.specs.Standing.{StandsAt, flat_in, IsBetween, positions};
+ghost use Rattle.ir_weave.specs.Standing.{StandsAtCut, flat_in, IsBetween, positions};
 ghost use Rattle.ir_replay.specs.Rounds.{Goes};
 
 use crate::passes::go_on;
@@ -41,7 +41,7 @@ pub fn without_code(flat: Flat<'_>) -> State
 
 // The state after `most` steps, or at the target.
 pub fn stretch<G: Gate>(fitted: &Fitted, state: State, target: &Cut, most: u64, gate: &G) -> State
-    requires state { StandsAt fitted.now (positions (flat_in fitted.now state)) state }
+    requires state { StandsAtCut fitted.now (positions (flat_in fitted.now state)) state }
     requires target { (length target.now ≡ length fitted.now.guest.entries) × IsConsistentCut fitted.now target.now }
     requires below { (t : ℕ) → positions (flat_in fitted.now state) t ≤ cut_of target.now t }
     requires some { 0 < most }

@@ -5,7 +5,7 @@ ghost use Rattle.ir_thread.specs.State.{ask_of};
 ghost use Rattle.ir_cut.specs.Positions.{IsConsistentCut, cut_of};
 ghost use Rattle.ir_weave.specs.Woven.{IsFor, WasStopped};
 ghost use Rattle.ir_weave.specs.declared.stepping.Tried.TheVariants.{Stepped, NotNow, AtTarget};
-ghost use Rattle.ir_replay.specs.Workers.{IsReady, IsOnWay, HasWorked};
+ghost use Rattle.ir_replay.specs.Workers.{IsWorkerReady, IsWorkerOnWay, HasWorked};
 
 use crate::limit::Limit;
 use crate::patience::Patience;
@@ -39,9 +39,9 @@ fn try_again<C: Clock>(
 ) -> Tried
     requires table { IsFor weave.now.table.shared.key fitted.now }
     requires target { (length target.now ≡ length fitted.now.guest.entries) × IsConsistentCut fitted.now target.now }
-    requires ready { IsReady weave.now.table.shared.table_id weave.now.table.shared.key target.now worker.old }
+    requires ready { IsWorkerReady weave.now.table.shared.table_id weave.now.table.shared.key target.now worker.old }
     requires asked { asked ≡ ask_of fitted.now.guest.code worker.old.thread }
-    ensures on_way { IsOnWay weave.now.table.shared.table_id weave.now.table.shared.key target.now worker.old worker.new }
+    ensures on_way { IsWorkerOnWay weave.now.table.shared.table_id weave.now.table.shared.key target.now worker.old worker.new }
     ensures stepped { result ≡ Stepped → worker.old.thread.steps < worker.new.thread.steps }
     ensures stopped { result ≡ NotNow → WasStopped weave.now.table.shared.key worker.new.thread.number worker.new.thread.steps }
     ensures reached { result ≡ AtTarget → worker.new.thread.steps ≡ cut_of target.now worker.new.thread.number }
@@ -68,7 +68,7 @@ fn work<H: Hands>(
 )
     requires table { IsFor weave.now.table.shared.key fitted.now }
     requires target { (length target.now ≡ length fitted.now.guest.entries) × IsConsistentCut fitted.now target.now }
-    requires ready { IsReady weave.now.table.shared.table_id weave.now.table.shared.key target.now worker.old }
+    requires ready { IsWorkerReady weave.now.table.shared.table_id weave.now.table.shared.key target.now worker.old }
     ensures { HasWorked weave.now.table.shared.table_id weave.now.table.shared.key target.now worker.old worker.new }
 {
     let number = worker.thread.number();
@@ -103,8 +103,10 @@ pub fn work_all<H: Hands>(
 )
     requires table { IsFor weave.now.table.shared.key fitted.now }
     requires target { (length target.now ≡ length fitted.now.guest.entries) × IsConsistentCut fitted.now target.now }
-    requires ready { All (IsReady weave.now.table.shared.table_id weave.now.table.shared.key target.now) workers.old }
-    ensures { (i : ℕ) (d : _) → i < length workers.old → HasWorked weave.now.table.shared.table_id weave.now.table.shared.key target.now (slice_index_or workers.old i d) (slice_index_or workers.new i d) }
+    requires ready { All (IsWorkerReady weave.now.table.shared.table_id weave.now.table.shared.key target.now) workers.old }
+    ensures { (i : ℕ) (d : _) → i < length workers.old
+        → HasWorked weave.now.table.shared.table_id weave.now.table.shared.key target.now (slice_index_or workers.old i d)
+        (slice_index_or workers.new i d) }
 {
     if workers.is_empty() {
         return;
@@ -118,7 +120,7 @@ pub fn work_all<H: Hands>(
         &|_, worker: &mut Worker|
             requires table { IsFor weave.now.table.shared.key fitted.now }
             requires target { (length target.now ≡ length fitted.now.guest.entries) × IsConsistentCut fitted.now target.now }
-            requires ready { IsReady weave.now.table.shared.table_id weave.now.table.shared.key target.now worker.now }
+            requires ready { IsWorkerReady weave.now.table.shared.table_id weave.now.table.shared.key target.now worker.now }
             ensures { HasWorked weave.entry.now.table.shared.table_id weave.entry.now.table.shared.key target.entry.now worker.entry.now worker.exit.now }
         { work(hands, weave, worker, fitted, target, &limit) },
     );

@@ -9,11 +9,10 @@ use Rattle.ir_log.specs.declared.event.Event.{Event}
 use Rattle.ir_log.specs.declared.event.Event.TheVariants.{Answer, Read, Write, Try}
 use Rattle.ir_trace.specs.Recorded.{Recorded, recorded_thread}
 use Rattle.ir_fit.specs.Fit.{FittedTrace, HasRun}
-use Rattle.ir_fit.proofs.CallerLemmas.{event_positions_rise}
 use Rattle.ir_past.specs.Past.{event_at}
-use Rattle.ir_events.specs.Events.{entry_of}
+use Rattle.ir_events.specs.Events.{event_entry}
 use Rattle.ir_opened.specs.Positions.{IsInside, IsLeaveOf, EntryLeaves}
-use Rattle.ir_opened.proofs.CallerLemmas.{recorded_event_is_inside, leave_is_past_event}
+use Rattle.ir_opened.proofs.CallerLemmas.{recorded_is_inside, leave_is_past_event, earlier_entry_step_le}
 use Rattle.ir_picture.specs.Needs.{Needs}
 use Rattle.ir_picture.specs.Boxes.{IsInBox, HasBox}
 use Rattle.ir_picture.specs.Places.{EndsNeeded}
@@ -32,49 +31,42 @@ use Rattle.ir_holds.specs.declared.span.Span.{Span}
 -- ---- steps of events
 
 -- an event of the trace is one of the guest's thread
-pub event_below_length_is_inside : (f : FittedTrace) → HasRun f → (t i : ℕ) → i < length (recorded_thread f.recorded t).events → IsInside f t i
-event_below_length_is_inside f h t i l =
+pub below_length_is_inside : (f : FittedTrace) → HasRun f → (t i : ℕ) → i < length (recorded_thread f.recorded t).events → IsInside f t i
+below_length_is_inside f h t i l =
     let es : List Event = (recorded_thread f.recorded t).events in
-    recorded_event_is_inside f h t i (get_or es i (Try 0)) (slice_get-get_or es i (Try 0) l)
-
--- the steps of events that come first are no later
-pub entry_step_is_no_later : (f : FittedTrace) → HasRun f → (t i k : ℕ) → IsInside f t i → k ≤ i → entry_of f t k ≤ entry_of f t i
-entry_step_is_no_later f h t i k inside by = elim (cases_lt k i) [
-  | inl less ↦ let up = event_positions_rise f h t inside.thread k i less inside.event in omega (arith, up)
-  | inr past ↦ let same : k ≡ i = omega (arith, by, past) in let equal = ap (λ z. entry_of f t z) same in omega (arith, equal)
-]
+    recorded_is_inside f h t i (get_or es i (Try 0)) (slice_get-get_or es i (Try 0) l)
 
 -- the last step of an event is its leave, and no earlier than the step that logs it
-leave_is_last_step : (f : FittedTrace) (t i k l : ℕ) (e : Option Event) → event_at f.recorded t i ≡ e → IsLastStep f t i e (Some k) → IsLeaveOf f t i l → l ≤ k
-leave_is_last_step f t i k l None is h left = absurd h
-leave_is_last_step f t i k l (Some (Answer kind value)) is h left = absurd (subst (λ z. EntryLeaves f t (entry_of f t i + 1) z l) is left.leaves)
-leave_is_last_step f t i k l (Some (Read o v)) is h left = left.first k h.leaves
-leave_is_last_step f t i k l (Some (Write o v readers)) is h left = left.first k h.leaves
-leave_is_last_step f t i k l (Some (Try o)) is h left = absurd (subst (λ z. EntryLeaves f t (entry_of f t i + 1) z l) is left.leaves)
+leave_is_before_last_step : (f : FittedTrace) (t i k l : ℕ) (e : Option Event) → event_at f.recorded t i ≡ e → IsLastStep f t i e (Some k) → IsLeaveOf f t i l → l ≤ k
+leave_is_before_last_step f t i k l None is h left = absurd h
+leave_is_before_last_step f t i k l (Some (Answer kind value)) is h left = absurd (subst (λ z. EntryLeaves f t (event_entry f t i + 1) z l) is left.leaves)
+leave_is_before_last_step f t i k l (Some (Read o v)) is h left = left.first k h.leaves
+leave_is_before_last_step f t i k l (Some (Write o v readers)) is h left = left.first k h.leaves
+leave_is_before_last_step f t i k l (Some (Try o)) is h left = absurd (subst (λ z. EntryLeaves f t (event_entry f t i + 1) z l) is left.leaves)
 
-pub last_step_is_past_event : (f : FittedTrace) (t i k : ℕ) (e : Option Event) → IsLastStep f t i e (Some k) → entry_of f t i ≤ k
+pub last_step_is_past_event : (f : FittedTrace) (t i k : ℕ) (e : Option Event) → IsLastStep f t i e (Some k) → event_entry f t i ≤ k
 last_step_is_past_event f t i k None h = absurd h
-last_step_is_past_event f t i k (Some (Answer kind value)) h = let same = same_Some k (entry_of f t i) h in omega (arith, same)
+last_step_is_past_event f t i k (Some (Answer kind value)) h = let same = same_Some k (event_entry f t i) h in omega (arith, same)
 last_step_is_past_event f t i k (Some (Read o v)) h = let past = leave_is_past_event f t i k h.leaves in omega (arith, past)
 last_step_is_past_event f t i k (Some (Write o v readers)) h = let past = leave_is_past_event f t i k h.leaves in omega (arith, past)
-last_step_is_past_event f t i k (Some (Try o)) h = let same = same_Some k (entry_of f t i) h in omega (arith, same)
+last_step_is_past_event f t i k (Some (Try o)) h = let same = same_Some k (event_entry f t i) h in omega (arith, same)
 
 -- what an event of a box entered is left by the box's last step
-pub leave_is_by_end_of_box : (f : FittedTrace) → HasRun f → (b : EventBox) (s : Span) → IsRunBox f b → IsSpan f b s → (j l : ℕ) → IsInBox b b.thread j
+pub leave_within_box_end : (f : FittedTrace) → HasRun f → (b : EventBox) (s : Span) → IsRunBox f b → IsSpan f b s → (j l : ℕ) → IsInBox b b.thread j
     → IsLeaveOf f b.thread j l → l ≤ s.last
-leave_is_by_end_of_box f h b s box go j l has left =
+leave_within_box_end f h b s box go j l has left =
     let below = has.below in
     let some = box.some in
     elim (cases_lt j (last_event b)) [
       | inl less ↦ brief less
       | inr past ↦
           let same : last_event b ≡ j = omega (arith, below, some, past) in
-          leave_is_last_step f b.thread (last_event b) s.last l (event_at f.recorded b.thread (last_event b)) refl go.last
+          leave_is_before_last_step f b.thread (last_event b) s.last l (event_at f.recorded b.thread (last_event b)) refl go.last
           (subst (λ z. IsLeaveOf f b.thread z l) (sym same) left)
     ]
   where
     last_is_inside : IsInside f b.thread (last_event b)
-    last_is_inside = event_below_length_is_inside f h b.thread (last_event b) (let within = box.within in let some = box.some in omega (arith, within, some))
+    last_is_inside = below_length_is_inside f h b.thread (last_event b) (let within = box.within in let some = box.some in omega (arith, within, some))
 
     brief : j < last_event b → l ≤ s.last
     brief less =
@@ -84,7 +76,7 @@ leave_is_by_end_of_box f h b s box go j l has left =
         let inside = last_is_inside in
         let room = inside.event in
         let before = fold.one l left (omega (arith, less, room)) in
-        let later = entry_step_is_no_later f h b.thread (last_event b) (suc j) inside (omega (arith, less)) in
+        let later = earlier_entry_step_le f h b.thread (last_event b) (suc j) inside (omega (arith, less)) in
         let end = last_step_is_past_event f b.thread (last_event b) s.last (event_at f.recorded b.thread (last_event b)) go.last in
         omega (arith, before, later, end)
 
@@ -96,9 +88,9 @@ needed_event_exists r t i u j (inl maker) = slice_get_within (recorded_thread r 
 needed_event_exists r t i u j (inr reader) = slice_get_within (recorded_thread r u).events j (Read reader.object reader.version) reader.read
 
 -- a box whose events are at a place in the list is at that place
-pub placed_box_is_at : (boxes : List PlacedBox) (n : ℕ) (b : EventBox) → slice_get (events_of_all boxes) n ≡ Some b
+pub placed_box_of_events : (boxes : List PlacedBox) (n : ℕ) (b : EventBox) → slice_get (events_of_all boxes) n ≡ Some b
     → (p : PlacedBox) × (slice_get boxes n ≡ Some p) × (p.events ≡ b)
-placed_box_is_at boxes n b at =
+placed_box_of_events boxes n b at =
     let nowhere : Point = record { x = 0; u = 0 } in
     let none : PlacedBox = record { events = b; start = nowhere; end = nowhere; came = 0; row = 0 } in
     let long = length_of_map (λ (x : PlacedBox). x.events) boxes in
@@ -111,9 +103,9 @@ placed_box_is_at boxes n b at =
     )
 
 -- the steps of a box are there
-pub span_is_at : (f : FittedTrace) (boxes : List PlacedBox) (spans : List Span) (ends : List Point) → AreHeld f boxes spans ends → (n : ℕ)
+pub box_has_span_of_run : (f : FittedTrace) (boxes : List PlacedBox) (spans : List Span) (ends : List Point) → AreHeld f boxes spans ends → (n : ℕ)
     (b : PlacedBox) → slice_get boxes n ≡ Some b → (s : Span) × (slice_get spans n ≡ Some s) × IsSpan f b.events s
-span_is_at f boxes spans ends h n b at =
+box_has_span_of_run f boxes spans ends h n b at =
     let none : Span = record { thread = 0; first = 0; last = 0 } in
     let size = h.go.size in
     let within = slice_get_within boxes n b at in
@@ -124,9 +116,9 @@ span_is_at f boxes spans ends h n b at =
     )
 
 -- it is a box of the run
-pub box_is_of_run : (f : FittedTrace) (boxes : List PlacedBox) (spans : List Span) (ends : List Point) → AreHeld f boxes spans ends → (n : ℕ)
+pub held_box_is_of_run : (f : FittedTrace) (boxes : List PlacedBox) (spans : List Span) (ends : List Point) → AreHeld f boxes spans ends → (n : ℕ)
     (b : PlacedBox) → slice_get boxes n ≡ Some b → IsRunBox f b.events
-box_is_of_run f boxes spans ends h n b at = h.all.each n b.events
+held_box_is_of_run f boxes spans ends h n b at = h.all.each n b.events
     (slice_get-map (λ (x : PlacedBox). x.events) boxes n ∙ ap (λ (x : Option PlacedBox). option_map (λ (y : PlacedBox). y.events) x) at)
 
 -- ---- the law
@@ -137,19 +129,19 @@ behind_starts_left f run boxes spans ends h t i u k x z behind early late =
     let l = behind.leave in
     let j = behind.needs.needed in
     let own : HasBox (events_of_all boxes) u j = h.all.all u j (needed_event_exists f.recorded t i u j behind.needs.needs) in
-    let found = placed_box_is_at boxes own.number own.box own.there in
+    let found = placed_box_of_events boxes own.number own.box own.there in
     let a : PlacedBox = found.0 in
-    let span_a = span_is_at f boxes spans ends h own.number a found.1 in
-    let span_b = span_is_at f boxes spans ends h late.number late.box late.there in
-    let span_c = span_is_at f boxes spans ends h early.number early.box early.there in
+    let span_a = box_has_span_of_run f boxes spans ends h own.number a found.1 in
+    let span_b = box_has_span_of_run f boxes spans ends h late.number late.box late.there in
+    let span_c = box_has_span_of_run f boxes spans ends h early.number early.box early.there in
     let has : IsInBox a.events u j = subst (λ (y : EventBox). IsInBox y u j) (sym found.2) own.has in
     let has_own : IsInBox a.events a.events.thread j = subst (λ y. IsInBox a.events y j) (sym has.thread) has in
     let left_own : IsLeaveOf f a.events.thread j l = subst (λ y. IsLeaveOf f y j l) (sym has.thread) behind.needs.left in
-    let by = leave_is_by_end_of_box f run a.events span_a.0 (box_is_of_run f boxes spans ends h own.number a found.1) span_a.2 j l has_own left_own in
+    let by = leave_within_box_end f run a.events span_a.0 (held_box_is_of_run f boxes spans ends h own.number a found.1) span_a.2 j l has_own left_own in
     let before = behind.before in
-    let first : entry_of f u early.box.events.event ≤ entry_of f u k = entry_step_is_no_later f run u k early.box.events.event behind.inside early.has.from in
-    let first_is : span_c.0.first ≡ entry_of f u early.box.events.event =
-    span_c.2.first ∙ ap (λ y. entry_of f y early.box.events.event) early.has.thread in
+    let first : event_entry f u early.box.events.event ≤ event_entry f u k = earlier_entry_step_le f run u k early.box.events.event behind.inside early.has.from in
+    let first_is : span_c.0.first ≡ event_entry f u early.box.events.event =
+    span_c.2.first ∙ ap (λ y. event_entry f y early.box.events.event) early.has.thread in
     let mark : IsMark boxes spans span_a.0.thread span_c.0.first early.box.start = record {
       number = early.number;
       box = early.box;
@@ -167,7 +159,7 @@ behind_starts_left f run boxes spans ends h t i u k x z behind early late =
       x = refl;
     } in
     let es : List Event = (recorded_thread f.recorded a.events.thread).events in
-    let of_run = box_is_of_run f boxes spans ends h own.number a found.1 in
+    let of_run = held_box_is_of_run f boxes spans ends h own.number a found.1 in
     let some = of_run.some in
     let within = of_run.within in
     let e : Event = get_or es a.events.event (Try 0) in

@@ -1,55 +1,38 @@
 -- The boxes of a run, event by event.
-use Rattle.std.proofs.Common.{◌≡◌, ℕ, suc, ◌+◌, ◌-◌, ◌<◌, ◌≤◌, ◌⊎◌, inl, inr, true, false, Some, List, [], ◌∷◌, ◌++◌, length, get_or, slice_set, refl, sym, ap, ◌∙◌, subst, arith, length-append}
+use Rattle.std.proofs.Common.{◌≡◌, ℕ, suc, ◌+◌, ◌-◌, ◌<◌, ◌≤◌, inl, inr, true, false, Some, List, [], ◌∷◌, ◌++◌, length, get_or, slice_set, refl, sym, ap, ◌∙◌, subst, arith, length-append}
 use Rattle.std.specs.Prelude.{slice_get}
 use Rattle.std.proofs.lemmas.Bool.{cases_eq, cases_lt}
 use Rattle.std.proofs.lemmas.List.{get_or_past}
 use Rattle.std.proofs.lemmas.Option.{same_Some, none-some, slice_get_within, slice_get_read}
-use Rattle.ir_lemmas.proofs.CallerLemmas.{added_element_is_last, slice_get_after_push_cases, slice_get_after_push_earlier}
+use Rattle.ir_lemmas.proofs.CallerLemmas.{added_element_is_last, slice_get-push_cases, slice_get_push_earlier, suc_is_plus_one}
 use Rattle.ir_trace.specs.Recorded.{RecordedThread, recorded_thread}
 use Rattle.ir_trace.specs.Absent.{absent}
 use Rattle.ir_coherence.specs.Before.{IsBefore}
 use Rattle.ir_fit.specs.Fit.{FittedTrace}
 use Rattle.ir_picture.specs.Boxes.{IsInBox, HasBox}
-use Rattle.ir_picture.specs.Boxing.{EndsBy, HasLast}
+use Rattle.ir_picture.specs.Boxing.{EndsBy, HasLastBox}
 use Rattle.ir_picture.specs.declared.event_box.EventBox.{EventBox}
-use Rattle.ir_picture.proofs.CallerLemmas.{slice_get_after_set, slice_get_after_set_elsewhere, slice_get_after_set_cases, length_of_slice_set}
+use Rattle.ir_picture.proofs.CallerLemmas.{slice_get_after_set, slice_get_set_elsewhere, slice_get_set_split, length_of_slice_set, box_ends_by_next}
 use Rattle.ir_run_picture.specs.Brief.{AreFoldedIn, IsRunBox, AreRunBoxes}
 use Rattle.ir_run_picture.specs.Boxing.{IsFoldIn, RunBoxedBefore}
+use Rattle.ir_past.proofs.CallerLemmas.{nothing_before_first, before_next_event_cases}
 
-suc_is_plus_one : (n : ℕ) → suc n ≡ n + 1
-suc_is_plus_one n = omega arith
-
-before_next_event_cases : (u j t n : ℕ) → IsBefore u j t (n + 1) → IsBefore u j t n ⊎ ((u ≡ t) × (j ≡ n))
-before_next_event_cases u j t n (inl less) = inl (inl less)
-before_next_event_cases u j t n (inr here) = elim (cases_lt j n) [
-  | inl less ↦ inl (inr (here.0, less))
-  | inr not ↦ inr (here.0, omega (arith, here.1, not))
-]
-
-box_still_ends_by_next_event : (b : EventBox) (t n : ℕ) → EndsBy b t n → EndsBy b t (n + 1)
-box_still_ends_by_next_event b t n (inl less) = inl less
-box_still_ends_by_next_event b t n (inr here) = inr (here.0, omega (arith, here.1))
-
-nothing_before_first_event : (u j : ℕ) → IsBefore u j 0 0 → ⊥
-nothing_before_first_event u j (inl less) = omega (arith, less)
-nothing_before_first_event u j (inr here) = omega (arith, here.1)
-
-pub run_boxed_before_first_event : (f : FittedTrace) → RunBoxedBefore f 0 0 []
-run_boxed_before_first_event f = record {
+pub run_boxed_before_first : (f : FittedTrace) → RunBoxedBefore f 0 0 []
+run_boxed_before_first f = record {
   each = λ k b is. absurd (none-some b is);
   before = λ k b is. absurd (none-some b is);
-  all = λ u i within b. absurd (nothing_before_first_event u i b);
+  all = λ u i within b. absurd (nothing_before_first u i b);
   apart = λ k m a b less is other. absurd (none-some a is);
   joined = λ k u i b is. absurd (none-some b is);
   last = tt;
 }
 
 -- an event that is in a box of its own
-pub run_boxed_before_step_for_new_box : (f : FittedTrace) (t n : ℕ) (boxes : List EventBox) (new : EventBox) → new.thread ≡ t → new.event ≡ n → new.count ≡ 1 → t < length f.recorded.threads
+pub run_boxed_new_box : (f : FittedTrace) (t n : ℕ) (boxes : List EventBox) (new : EventBox) → new.thread ≡ t → new.event ≡ n → new.count ≡ 1 → t < length f.recorded.threads
     → n < length (recorded_thread f.recorded t).events → IsFoldIn f t n false → RunBoxedBefore f t n boxes
     → RunBoxedBefore f t (n + 1) (boxes ++ new ∷ [])
-run_boxed_before_step_for_new_box f t n boxes new thread event count there within fold h = record {
-  each = λ k b is. elim (slice_get_after_push_cases boxes new k b is) [
+run_boxed_new_box f t n boxes new thread event count there within fold h = record {
+  each = λ k b is. elim (slice_get-push_cases boxes new k b is) [
     | inl old ↦ h.each k b old
     | inr now ↦ subst (IsRunBox f) now.1 (record {
       thread = omega (arith, thread, there);
@@ -58,8 +41,8 @@ run_boxed_before_step_for_new_box f t n boxes new thread event count there withi
       folds = λ i from below. absurd (omega (arith, from, below, event, count));
     })
   ];
-  before = λ k b is. elim (slice_get_after_push_cases boxes new k b is) [
-    | inl old ↦ box_still_ends_by_next_event b t n (h.before k b old)
+  before = λ k b is. elim (slice_get-push_cases boxes new k b is) [
+    | inl old ↦ box_ends_by_next b t n (h.before k b old)
     | inr now ↦ subst (λ (x : EventBox). EndsBy x t (n + 1)) now.1 (inr (thread, omega (arith, event, count)))
   ];
   all = λ u i inside b. elim (before_next_event_cases u i t n b) [
@@ -75,18 +58,18 @@ run_boxed_before_step_for_new_box f t n boxes new thread event count there withi
       };
     }
   ];
-  apart = λ k m a b less first second. elim (slice_get_after_push_cases boxes new m b second) [
-    | inl old ↦ elim (slice_get_after_push_cases boxes new k a first) [
+  apart = λ k m a b less first second. elim (slice_get-push_cases boxes new m b second) [
+    | inl old ↦ elim (slice_get-push_cases boxes new k a first) [
       | inl both ↦ h.apart k m a b less both old
       | inr now ↦ absurd (omega (arith, less, now.0, slice_get_within boxes m b old))
     ]
-    | inr now ↦ elim (slice_get_after_push_cases boxes new k a first) [
+    | inr now ↦ elim (slice_get-push_cases boxes new k a first) [
       | inl old ↦ subst (λ (x : EventBox). EndsBy a x.thread x.event) now.1
           (subst (λ z. EndsBy a z new.event) (sym thread) (subst (EndsBy a t) (sym event) (h.before k a old)))
       | inr same ↦ absurd (omega (arith, less, same.0, now.0))
     ]
   ];
-  joined = λ k u i b is has folded b4. elim (slice_get_after_push_cases boxes new k b is) [
+  joined = λ k u i b is has folded b4. elim (slice_get-push_cases boxes new k b is) [
     | inl old ↦ elim (before_next_event_cases u (suc i) t n b4) [
       | inl less ↦ h.joined k u i b old has folded less
       | inr here ↦ absurd (fold i (sym here.1)
@@ -97,13 +80,13 @@ run_boxed_before_step_for_new_box f t n boxes new thread event count there withi
       | inr here ↦ omega (arith, here.1, has.from, event, ap (λ (x : EventBox). x.event) now.1)
     ])
   ];
-  last = subst (HasLast (boxes ++ new ∷ []) t) (suc_is_plus_one n) last_new;
+  last = subst (HasLastBox (boxes ++ new ∷ []) t) (suc_is_plus_one n) last_new;
 }
   where
     has_more : (u i : ℕ) → HasBox boxes u i → HasBox (boxes ++ new ∷ []) u i
-    has_more u i has = record { number = has.number; box = has.box; there = slice_get_after_push_earlier boxes new has.box has.number has.there; has = has.has }
+    has_more u i has = record { number = has.number; box = has.box; there = slice_get_push_earlier boxes new has.box has.number has.there; has = has.has }
 
-    last_new : HasLast (boxes ++ new ∷ []) t (suc n)
+    last_new : HasLastBox (boxes ++ new ∷ []) t (suc n)
     last_new = (
       length boxes,
       new,
@@ -113,10 +96,10 @@ run_boxed_before_step_for_new_box f t n boxes new thread event count there withi
     )
 
 -- the last box, where an event is folded with the one before
-pub last_box_ends_at_folded_event : (f : FittedTrace) (t n : ℕ) (boxes : List EventBox) → IsFoldIn f t n true → RunBoxedBefore f t n boxes
+pub last_run_box_at_folded : (f : FittedTrace) (t n : ℕ) (boxes : List EventBox) → IsFoldIn f t n true → RunBoxedBefore f t n boxes
     → (k : ℕ) × (b : EventBox) × (length boxes ≡ suc k) × (slice_get boxes k ≡ Some b) × (b.thread ≡ t) × (b.event + b.count ≡ n) × (1 ≤ b.count)
-last_box_ends_at_folded_event f t n boxes fold h =
-    let last : HasLast boxes t (suc fold.0) = subst (HasLast boxes t) fold.1 h.last in
+last_run_box_at_folded f t n boxes fold h =
+    let last : HasLastBox boxes t (suc fold.0) = subst (HasLastBox boxes t) fold.1 h.last in
     let has = last.4 in
     (last.0, last.1, last.2, last.3, has.thread, ends last.1 has (h.before last.0 last.1 last.3), (h.each last.0 last.1 last.3).some)
   where
@@ -125,12 +108,12 @@ last_box_ends_at_folded_event f t n boxes fold h =
     ends b has (inr by) = omega (arith, by.1, has.below, fold.1)
 
 -- an event that joins the last box
-pub run_boxed_before_step_for_joined_box : (f : FittedTrace) (t n k : ℕ) (boxes : List EventBox) (b new : EventBox) → length boxes ≡ suc k → slice_get boxes k ≡ Some b
+pub run_boxed_joined : (f : FittedTrace) (t n k : ℕ) (boxes : List EventBox) (b new : EventBox) → length boxes ≡ suc k → slice_get boxes k ≡ Some b
     → b.thread ≡ t → b.event + b.count ≡ n → new.thread ≡ b.thread → new.event ≡ b.event → new.count ≡ b.count + 1
     → n < length (recorded_thread f.recorded t).events → IsFoldIn f t n true → RunBoxedBefore f t n boxes
     → RunBoxedBefore f t (n + 1) (slice_set boxes k new)
-run_boxed_before_step_for_joined_box f t n k boxes b new long at thread ends thread_new event_new count_new within fold h = record {
-  each = λ m a is. elim (slice_get_after_set_cases boxes k m new a inside is) [
+run_boxed_joined f t n k boxes b new long at thread ends thread_new event_new count_new within fold h = record {
+  each = λ m a is. elim (slice_get_set_split boxes k m new a inside is) [
     | inl now ↦ subst (IsRunBox f) now.1 (record {
       thread = omega (arith, thread_new, box.thread);
       some = omega (arith, count_new);
@@ -154,9 +137,9 @@ run_boxed_before_step_for_joined_box f t n k boxes b new long at thread ends thr
     })
     | inr old ↦ h.each m a old.1
   ];
-  before = λ m a is. elim (slice_get_after_set_cases boxes k m new a inside is) [
+  before = λ m a is. elim (slice_get_set_split boxes k m new a inside is) [
     | inl now ↦ subst (λ (x : EventBox). EndsBy x t (n + 1)) now.1 (inr (thread_new ∙ thread, omega (arith, event_new, count_new, ends)))
-    | inr old ↦ box_still_ends_by_next_event a t n (h.before m a old.1)
+    | inr old ↦ box_ends_by_next a t n (h.before m a old.1)
   ];
   all = λ u i there b4. elim (before_next_event_cases u i t n b4) [
     | inl less ↦ has_more u i (h.all u i there less)
@@ -171,19 +154,19 @@ run_boxed_before_step_for_joined_box f t n k boxes b new long at thread ends thr
       };
     }
   ];
-  apart = λ m p x y less first second. elim (slice_get_after_set_cases boxes k p new y inside second) [
-    | inl now ↦ elim (slice_get_after_set_cases boxes k m new x inside first) [
+  apart = λ m p x y less first second. elim (slice_get_set_split boxes k p new y inside second) [
+    | inl now ↦ elim (slice_get_set_split boxes k m new x inside first) [
       | inl same ↦ absurd (omega (arith, less, now.0, same.0))
       | inr old ↦ subst (λ (z : EventBox). EndsBy x z.thread z.event) now.1
           (subst (λ z. EndsBy x z new.event) (sym thread_new) (subst (EndsBy x b.thread) (sym event_new)
           (h.apart m k x b (omega (arith, less, now.0)) old.1 at)))
     ]
-    | inr other ↦ elim (slice_get_after_set_cases boxes k m new x inside first) [
+    | inr other ↦ elim (slice_get_set_split boxes k m new x inside first) [
       | inl same ↦ absurd (omega (arith, less, same.0, slice_get_within boxes p y other.1, long))
       | inr old ↦ h.apart m p x y less old.1 other.1
     ]
   ];
-  joined = λ m u i a is has folded b4. elim (slice_get_after_set_cases boxes k m new a inside is) [
+  joined = λ m u i a is has folded b4. elim (slice_get_set_split boxes k m new a inside is) [
     | inl now ↦ subst (λ (x : EventBox). IsInBox x u (suc i)) now.1 (elim b4 [
       | inl less ↦ absurd (omega (arith, less, has.thread, thread_new, thread, ap (λ (x : EventBox). x.thread) now.1))
       | inr here ↦ record {
@@ -200,7 +183,7 @@ run_boxed_before_step_for_joined_box f t n k boxes b new long at thread ends thr
       ])
     ]
   ];
-  last = subst (HasLast (slice_set boxes k new) t) (suc_is_plus_one n) last_new;
+  last = subst (HasLastBox (slice_set boxes k new) t) (suc_is_plus_one n) last_new;
 }
   where
     inside : k < length boxes
@@ -223,10 +206,10 @@ run_boxed_before_step_for_joined_box f t n k boxes b new long at thread ends thr
               below = omega (arith, event_new, count_new, has.has.below, ap (λ (x : EventBox). x.event) same, ap (λ (x : EventBox). x.count) same);
             };
           }
-      | inr ne ↦ record { number = has.number; box = has.box; there = slice_get_after_set_elsewhere boxes k has.number new ne ∙ has.there; has = has.has }
+      | inr ne ↦ record { number = has.number; box = has.box; there = slice_get_set_elsewhere boxes k has.number new ne ∙ has.there; has = has.has }
     ]
 
-    last_new : HasLast (slice_set boxes k new) t (suc n)
+    last_new : HasLastBox (slice_set boxes k new) t (suc n)
     last_new = (
       k,
       new,
@@ -236,9 +219,9 @@ run_boxed_before_step_for_joined_box f t n k boxes b new long at thread ends thr
     )
 
 -- all events of a thread
-pub run_boxed_before_next_thread : (f : FittedTrace) (t n : ℕ) (boxes : List EventBox) → length (recorded_thread f.recorded t).events ≤ n → RunBoxedBefore f t n boxes
+pub run_boxed_next_thread : (f : FittedTrace) (t n : ℕ) (boxes : List EventBox) → length (recorded_thread f.recorded t).events ≤ n → RunBoxedBefore f t n boxes
     → RunBoxedBefore f (t + 1) 0 boxes
-run_boxed_before_next_thread f t n boxes all h = record {
+run_boxed_next_thread f t n boxes all h = record {
   each = h.each;
   before = λ k b is. elim (h.before k b is) [
     | inl less ↦ inl (omega (arith, less))
@@ -267,8 +250,8 @@ run_boxed_before_next_thread f t n boxes all h = record {
     ]
 
 -- all threads
-pub run_are_boxes_if_boxed_to_end : (f : FittedTrace) (n : ℕ) (boxes : List EventBox) → n ≡ length f.recorded.threads → RunBoxedBefore f n 0 boxes → AreRunBoxes f boxes
-run_are_boxes_if_boxed_to_end f n boxes all h = record {
+pub run_boxed_to_end : (f : FittedTrace) (n : ℕ) (boxes : List EventBox) → n ≡ length f.recorded.threads → RunBoxedBefore f n 0 boxes → AreRunBoxes f boxes
+run_boxed_to_end f n boxes all h = record {
   each = h.each;
   all = λ t i within. h.all t i within (inl (thread_there t i within));
   one = λ k m t i a b at_k at_m in_a in_b. elim (cases_lt k m) [
@@ -298,14 +281,14 @@ run_are_boxes_if_boxed_to_end f n boxes all h = record {
     ]
 
 -- the same by the length of the list
-pub run_boxed_before_step_for_joined_last_box : (f : FittedTrace) (t n long : ℕ) (boxes : List EventBox) (own : EventBox) → long ≡ length boxes → own ≡ get_or boxes (long - 1) own
+pub run_boxed_last_join : (f : FittedTrace) (t n long : ℕ) (boxes : List EventBox) (own : EventBox) → long ≡ length boxes → own ≡ get_or boxes (long - 1) own
     → n < length (recorded_thread f.recorded t).events → IsFoldIn f t n true → RunBoxedBefore f t n boxes
     → RunBoxedBefore f t (n + 1) (slice_set boxes (long - 1) (record { thread = own.thread; event = own.event; count = own.count + 1 }))
-run_boxed_before_step_for_joined_last_box f t n long boxes own all is within fold h =
-    let last = last_box_ends_at_folded_event f t n boxes fold h in
+run_boxed_last_join f t n long boxes own all is within fold h =
+    let last = last_run_box_at_folded f t n boxes fold h in
     let place : last.0 ≡ long - 1 = omega (arith, all, last.2) in
     let at : slice_get boxes (long - 1) ≡ Some own = slice_get_read boxes long (long - 1) own all (omega (arith, all, last.2)) is in
     let same : last.1 ≡ own = same_Some last.1 own (sym last.3 ∙ subst (λ k. slice_get boxes k ≡ Some own) (sym place) at) in
-    run_boxed_before_step_for_joined_box f t n (long - 1) boxes own (record { thread = own.thread; event = own.event; count = own.count + 1 }) (omega (arith, all, last.2)) at
+    run_boxed_joined f t n (long - 1) boxes own (record { thread = own.thread; event = own.event; count = own.count + 1 }) (omega (arith, all, last.2)) at
     (ap (λ (x : EventBox). x.thread) (sym same) ∙ last.4)
     (omega (arith, last.5, ap (λ (x : EventBox). x.event) same, ap (λ (x : EventBox). x.count) same)) refl refl refl within fold h

@@ -1,64 +1,33 @@
 -- What a thread leaves it entered: the event of a step that leaves.
-use Rattle.std.proofs.Common.{◌≡◌, ◌≢◌, ℕ, suc, zero, ◌+◌, ◌<◌, ◌≤◌, ◌⊎◌, inl, inr, length, Bool, true, false, cond, eqb, ne_eqb, List, [], ◌∷◌, Some, None, get_or, refl, sym, ap, ◌∙◌, subst, arith}
+use Rattle.std.proofs.Common.{◌≡◌, ◌≢◌, ℕ, suc, zero, ◌+◌, ◌<◌, ◌≤◌, ◌⊎◌, inl, inr, length, Bool, true, false, cond, eqb, ne_eqb, List, [], ◌∷◌, Some, get_or, refl, sym, ap, ◌∙◌, subst, arith}
 use Rattle.std.proofs.lemmas.Bool.{cases_eq, cases_lt}
 use Rattle.std.proofs.lemmas.Option.{same_Some, none-some, slice_get-get_or}
 use Rattle.ir_runs.specs.Machine.{Act, Silent, Replied, Entered, TryFailed, Left, Got, Stored, Never, Machine, upd, Object, target, acted, emitted, Label, Quiet, Answer, EnteredAt, FailedTry, LeftAt}
 use Rattle.ir_runs.specs.Lawful.{IsLawful}
 use Rattle.ir_runs.specs.declared.access.Access.{Access}
 use Rattle.ir_runs.specs.declared.access.Access.TheVariants.{Reading, Writing}
-use Rattle.ir_runs.specs.Run.{act, State, Step, after, label, trail, IsRun, At, Emits}
-use Rattle.ir_runs.proofs.CallerLemmas.{upd_at_own_place, StateInvariant, state_invariant_after_step, state_invariant_at_start, trail_of_cons_own_thread, trail_of_cons_other_thread}
+use Rattle.ir_runs.specs.Run.{act, State, Step, after, label, IsRun, Emits}
+use Rattle.ir_runs.proofs.CallerLemmas.{upd_at_own_place, StateInvariant, state_invariant_step, state_invariant_start}
 use Rattle.ir_thread.specs.State as thread
-use Rattle.ir_thread.proofs.CallerLemmas.{thread_machine_is_lawful}
+use Rattle.ir_thread.proofs.CallerLemmas.{thread_machine_lawful}
 use Rattle.ir_log.specs.Logging.{label_of}
 use Rattle.ir_log.specs.declared.event.Event.{Event}
 use Rattle.ir_log.specs.declared.event.Event.TheVariants as logged
 use Rattle.ir_trace.specs.Recorded.{Recorded, recorded_thread}
 use Rattle.ir_fit.specs.Fit.{FittedTrace, HasRun}
 use Rattle.ir_fit.proofs.CallerLemmas.{guest_start_is_start, entry_step_is_of_event}
-use Rattle.ir_cut.specs.Positions.{EachRun, machine_of, start_of}
-use Rattle.ir_cut.proofs.CallerLemmas.{trail_same_in_runs_of_trace}
+use Rattle.ir_cut.specs.Positions.{machine_of, start_of}
 use Rattle.ir_past.specs.Past.{IsReadAt, IsWriteAt}
 use Rattle.ir_past.specs.Returning.{leaves_one}
-use Rattle.ir_past.proofs.CallerLemmas.{Enters, target_object_after_step, IsEntering, act_emitting_entry_is_entering, exiting_thread_is_inside, own_step_not_entering_keeps_object_or_exits, other_step_adds_leaves_one_to_version_and_keeps_inside}
-use Rattle.ir_events.specs.Events.{entry_of}
+use Rattle.ir_past.proofs.CallerLemmas.{Enters, target_after_step, IsEntering, entry_label_is_entering, exiting_is_inside}
+use Rattle.ir_past.proofs.CallerLemmas.{own_step_keeps_or_exits, other_step_adds_leaves, rest_emits_own, emits_cons_other, rest_emits_other}
+use Rattle.ir_past.proofs.CallerLemmas.{emits_cons_own, first_label_is_own, emits_own_first_label, write_label_write_event}
+use Rattle.ir_past.proofs.CallerLemmas.{outside_after_exit}
+use Rattle.ir_events.specs.Events.{event_entry}
 use Rattle.ir_opened.specs.Positions.{EntryLeaves, IsLeaveOf}
+use Rattle.ir_opened.proofs.CallerLemmas.{emits_in_each_run}
 
 -- ---- the steps of a thread
-
-trail_of_own_step : {T : Type 0} (m : Machine T) (s : State T) (e : Step) (run : List Step) (t : ℕ) → e.0 ≡ t
-    → trail m s (e ∷ run) t ≡ (s.now t, label m s e) ∷ trail m (after m s e) run t
-trail_of_own_step m s e run t own = subst (λ z. trail m s (e ∷ run) z ≡ (s.now z, label m s e) ∷ trail m (after m s e) run z) own (trail_of_cons_own_thread m s e run)
-
-own_step_emits_later : {T : Type 0} (m : Machine T) (s : State T) (e : Step) (run : List Step) (t k : ℕ) (b : Label) → e.0 ≡ t
-    → Emits m (after m s e) run t k b → Emits m s (e ∷ run) t (suc k) b
-own_step_emits_later {T} m s e run t k b own x = (x.0, subst (λ (ks : List (T × Label)). At ks (suc k) (x.0, b)) (sym (trail_of_own_step m s e run t own)) x.1)
-
-rest_emits_earlier : {T : Type 0} (m : Machine T) (s : State T) (e : Step) (run : List Step) (t k : ℕ) (b : Label) → e.0 ≡ t
-    → Emits m s (e ∷ run) t (suc k) b → Emits m (after m s e) run t k b
-rest_emits_earlier {T} m s e run t k b own x = (x.0, subst (λ (ks : List (T × Label)). At ks (suc k) (x.0, b)) (trail_of_own_step m s e run t own) x.1)
-
-own_step_emits_first : {T : Type 0} (m : Machine T) (s : State T) (e : Step) (run : List Step) (t : ℕ) (b : Label) → e.0 ≡ t
-    → label m s e ≡ b → Emits m s (e ∷ run) t 0 b
-own_step_emits_first {T} m s e run t b own is = (
-  s.now t,
-  subst (λ (ks : List (T × Label)). At ks 0 (s.now t, b)) (sym (trail_of_own_step m s e run t own))
-      (let same : (s.now t, label m s e) ≡ (s.now t, b) = ap (λ (z : Label). (s.now t, z)) is in same),
-)
-
-first_label_is_own : {T : Type 0} (m : Machine T) (s : State T) (e : Step) (run : List Step) (t : ℕ) (b : Label) → e.0 ≡ t
-    → Emits m s (e ∷ run) t 0 b → label m s e ≡ b
-first_label_is_own {T} m s e run t b own x =
-    let same : (s.now t, label m s e) ≡ (x.0, b) = subst (λ (ks : List (T × Label)). At ks 0 (x.0, b)) (trail_of_own_step m s e run t own) x.1 in
-    ap (λ (p : T × Label). p.1) same
-
-other_step_emits_same : {T : Type 0} (m : Machine T) (s : State T) (e : Step) (run : List Step) (t k : ℕ) (b : Label) → t ≢ e.0
-    → Emits m (after m s e) run t k b → Emits m s (e ∷ run) t k b
-other_step_emits_same {T} m s e run t k b ne x = (x.0, subst (λ (ks : List (T × Label)). At ks k (x.0, b)) (sym (trail_of_cons_other_thread m s e run t ne)) x.1)
-
-rest_emits_same : {T : Type 0} (m : Machine T) (s : State T) (e : Step) (run : List Step) (t k : ℕ) (b : Label) → t ≢ e.0
-    → Emits m s (e ∷ run) t k b → Emits m (after m s e) run t k b
-rest_emits_same {T} m s e run t k b ne x = (x.0, subst (λ (ks : List (T × Label)). At ks k (x.0, b)) (trail_of_cons_other_thread m s e run t ne) x.1)
 
 -- ---- a single step
 
@@ -114,46 +83,35 @@ label_counts_or_leaves t o u (LeftAt p Writing v) = elim (cases_eq p o) [
     same_either_way true n = refl
     same_either_way false n = refl
 
-thread_is_outside_after_exit : {T : Type 0} (m : Machine T) (s : State T) (e : Step) (t o : ℕ) (a : Access) → e.0 ≡ t → act m s e ≡ Left o a
-    → ((after m s e).objects o).inside t ≡ None
-thread_is_outside_after_exit m s e t o a own does = ap (λ z. z.inside t) object ∙ gone a
-  where
-    object : (after m s e).objects o ≡ acted (Left o a) e.0 (s.objects o)
-    object = subst (λ q. (after m s e).objects (target q) ≡ acted q e.0 (s.objects (target q))) does (target_object_after_step m s e)
-
-    gone : (c : Access) → (acted (Left o c) e.0 (s.objects o)).inside t ≡ None
-    gone Reading = subst (λ z. upd (s.objects o).inside e.0 None z ≡ None) own (upd_at_own_place (s.objects o).inside e.0 None)
-    gone Writing = subst (λ z. upd (s.objects o).inside e.0 None z ≡ None) own (upd_at_own_place (s.objects o).inside e.0 None)
-
 -- behind an entry the thread is inside, at the version that it found
 record IsInsideAt {T : Type 0} (m : Machine T) (s : State T) (e : Step) (t o : ℕ) (a : Access) (v : ℕ) : Type 0 where
   inside : ((after m s e).objects o).inside t ≡ Some a
   version : ((after m s e).objects o).version ≡ v
 
-thread_is_inside_after_entry : {T : Type 0} (m : Machine T) (s : State T) (e : Step) (t o : ℕ) (a : Access) (v l : ℕ) → e.0 ≡ t → label m s e ≡ EnteredAt o a v l
+entered_is_inside : {T : Type 0} (m : Machine T) (s : State T) (e : Step) (t o : ℕ) (a : Access) (v l : ℕ) → e.0 ≡ t → label m s e ≡ EnteredAt o a v l
     → IsInsideAt m s e t o a v
-thread_is_inside_after_entry m s e t o a v l own enters = record {
+entered_is_inside m s e t o a v l own enters = record {
   inside = ap (λ z. z.inside t) object
       ∙ subst (λ z. upd (s.objects o).inside e.0 (Some a) z ≡ Some a) own (upd_at_own_place (s.objects o).inside e.0 (Some a));
   version = ap (λ z. z.version) object ∙ ap (λ z. (s.objects (target z)).version) (sym entry.does) ∙ entry.version;
 }
   where
     entry : IsEntering (act m s e) (s.objects (target (act m s e))) o a v
-    entry = act_emitting_entry_is_entering (act m s e) (s.objects (target (act m s e))) o a v l enters
+    entry = entry_label_is_entering (act m s e) (s.objects (target (act m s e))) o a v l enters
 
     object : (after m s e).objects o ≡ acted (Entered o a entry.answer) e.0 (s.objects o)
-    object = subst (λ q. (after m s e).objects (target q) ≡ acted q e.0 (s.objects (target q))) entry.does (target_object_after_step m s e)
+    object = subst (λ q. (after m s e).objects (target q) ≡ acted q e.0 (s.objects (target q))) entry.does (target_after_step m s e)
 
 -- while a thread is inside, no other makes a version
-inside_version_stays : {T : Type 0} (m : Machine T) → IsLawful m → (s : State T) → StateInvariant m s → (e : Step) (t o : ℕ) (a : Access) → (e.0 ≡ t → ⊥)
+inside_keeps_version : {T : Type 0} (m : Machine T) → IsLawful m → (s : State T) → StateInvariant m s → (e : Step) (t o : ℕ) (a : Access) → (e.0 ≡ t → ⊥)
     → (s.objects o).inside t ≡ Some a → ((after m s e).objects o).version ≡ (s.objects o).version
-inside_version_stays m law s good e t o a other inside =
-    let step = (other_step_adds_leaves_one_to_version_and_keeps_inside m s e t o other).0 in
+inside_keeps_version m law s good e t o a other inside =
+    let step = (other_step_adds_leaves m s e t o other).0 in
     elim (label_counts_or_leaves t o e.0 (label m s e)) [
       | inl none ↦ omega (arith, step, none)
       | inr h ↦
           let exit = label_out_is_exit (act m s e) (s.objects (target (act m s e))) o Writing h.0 h.1 in
-          absurd (none-some a (sym (good.exclusive o e.0 t other (exiting_thread_is_inside m law s good e o Writing exit.does)) ∙ inside))
+          absurd (none-some a (sym (good.exclusive o e.0 t other (exiting_is_inside m law s good e o Writing exit.does)) ∙ inside))
     ]
 
 -- ---- a thread that leaves
@@ -172,12 +130,12 @@ pub record IsEnteredTo {T : Type 0} (m : Machine T) (s : State T) (run : List St
   pub enters : Emits m s run t entry (EnteredAt o a v readers)
   pub none : (k : ℕ) → entry < k → k < j → Emits m s run t k (LeftAt o a v) → ⊥
 
-first_step_leaves_if_inside : {T : Type 0} (m : Machine T) → IsLawful m → (s : State T) → StateInvariant m s → (e : Step) (run : List Step) (t o : ℕ) (a : Access) (v : ℕ)
+inside_first_step_leaves : {T : Type 0} (m : Machine T) → IsLawful m → (s : State T) → StateInvariant m s → (e : Step) (run : List Step) (t o : ℕ) (a : Access) (v : ℕ)
     → e.0 ≡ t → Emits m s (e ∷ run) t 0 (LeftAt o a v) → IsInsideTo m s (e ∷ run) t 0 o a v
-first_step_leaves_if_inside m law s good e run t o a v own x =
+inside_first_step_leaves m law s good e run t o a v own x =
     let exit = label_out_is_exit (act m s e) (s.objects (target (act m s e))) o a v (first_label_is_own m s e run t (LeftAt o a v) own x) in
     record {
-      inside = subst (λ z. (s.objects o).inside z ≡ Some a) own (exiting_thread_is_inside m law s good e o a exit.does);
+      inside = subst (λ z. (s.objects o).inside z ≡ Some a) own (exiting_is_inside m law s good e o a exit.does);
       version = ap (λ z. (s.objects (target z)).version) (sym exit.does) ∙ exit.version;
       none = λ k less. absurd (omega (arith, less));
     }
@@ -189,82 +147,82 @@ entered_before_own_step m s e run t j o a v own x = record {
   entry = suc x.entry;
   readers = x.readers;
   before = (let less = x.before in omega (arith, less));
-  enters = own_step_emits_later m s e run t x.entry (EnteredAt o a v x.readers) own x.enters;
+  enters = emits_cons_own m s e run t x.entry (EnteredAt o a v x.readers) own x.enters;
   none = between;
 }
   where
     between : (k : ℕ) → suc x.entry < k → k < suc j → Emits m s (e ∷ run) t k (LeftAt o a v) → ⊥
     between zero low high y = omega (arith, low)
-    between (suc k) low high y = x.none k (omega (arith, low)) (omega (arith, high)) (rest_emits_earlier m s e run t k (LeftAt o a v) own y)
+    between (suc k) low high y = x.none k (omega (arith, low)) (omega (arith, high)) (rest_emits_own m s e run t k (LeftAt o a v) own y)
 
 entered_by_own_step : {T : Type 0} (m : Machine T) (s : State T) (e : Step) (run : List Step) (t j o : ℕ) (a : Access) (v : ℕ) → e.0 ≡ t
     → IsIn o (label m s e) → IsInsideTo m (after m s e) run t j o a v → IsEnteredTo m s (e ∷ run) t (suc j) o a v
 entered_by_own_step m s e run t j o a v own enters x =
-    let found = thread_is_inside_after_entry m s e t o enters.access enters.version enters.readers own enters.is in
+    let found = entered_is_inside m s e t o enters.access enters.version enters.readers own enters.is in
     let access : enters.access ≡ a = same_Some enters.access a (sym found.inside ∙ x.inside) in
     let version : enters.version ≡ v = sym found.version ∙ x.version in
     record {
       entry = 0;
       readers = enters.readers;
       before = omega arith;
-      enters = own_step_emits_first m s e run t (EnteredAt o a v enters.readers) own (enters.is ∙ (λ i. EnteredAt o (access i) (version i) enters.readers));
+      enters = emits_own_first_label m s e run t (EnteredAt o a v enters.readers) own (enters.is ∙ (λ i. EnteredAt o (access i) (version i) enters.readers));
       none = between;
     }
   where
     between : (k : ℕ) → 0 < k → k < suc j → Emits m s (e ∷ run) t k (LeftAt o a v) → ⊥
     between zero low high y = omega (arith, low)
-    between (suc k) low high y = x.none k (omega (arith, high)) (rest_emits_earlier m s e run t k (LeftAt o a v) own y)
+    between (suc k) low high y = x.none k (omega (arith, high)) (rest_emits_own m s e run t k (LeftAt o a v) own y)
 
 inside_before_own_step : {T : Type 0} (m : Machine T) (s : State T) (e : Step) (run : List Step) (t j o : ℕ) (a : Access) (v : ℕ) → e.0 ≡ t
     → (Enters o (label m s e) → ⊥) → IsInsideTo m (after m s e) run t j o a v → IsInsideTo m s (e ∷ run) t (suc j) o a v
-inside_before_own_step m s e run t j o a v own free x = elim (own_step_not_entering_keeps_object_or_exits m s e t o own free) [
+inside_before_own_step m s e run t j o a v own free x = elim (own_step_keeps_or_exits m s e t o own free) [
   | inl same ↦ record { inside = sym same.1 ∙ x.inside; version = sym same.0 ∙ x.version; none = between }
-  | inr exit ↦ absurd (none-some a (sym (thread_is_outside_after_exit m s e t o exit.0 own exit.1) ∙ x.inside))
+  | inr exit ↦ absurd (none-some a (sym (outside_after_exit m s e t o exit.0 own exit.1) ∙ x.inside))
 ]
   where
     between : (k : ℕ) → k < suc j → Emits m s (e ∷ run) t k (LeftAt o a v) → ⊥
     between zero high y =
         let exit = label_out_is_exit (act m s e) (s.objects (target (act m s e))) o a v (first_label_is_own m s e run t (LeftAt o a v) own y) in
-        none-some a (sym (thread_is_outside_after_exit m s e t o a own exit.does) ∙ x.inside)
-    between (suc k) high y = x.none k (omega (arith, high)) (rest_emits_earlier m s e run t k (LeftAt o a v) own y)
+        none-some a (sym (outside_after_exit m s e t o a own exit.does) ∙ x.inside)
+    between (suc k) high y = x.none k (omega (arith, high)) (rest_emits_own m s e run t k (LeftAt o a v) own y)
 
 -- with a step of another thread before
-entered_before_other_step : {T : Type 0} (m : Machine T) (s : State T) (e : Step) (run : List Step) (t j o : ℕ) (a : Access) (v : ℕ) → t ≢ e.0
+entered_to_cons_other : {T : Type 0} (m : Machine T) (s : State T) (e : Step) (run : List Step) (t j o : ℕ) (a : Access) (v : ℕ) → t ≢ e.0
     → IsEnteredTo m (after m s e) run t j o a v → IsEnteredTo m s (e ∷ run) t j o a v
-entered_before_other_step m s e run t j o a v other x = record {
+entered_to_cons_other m s e run t j o a v other x = record {
   entry = x.entry;
   readers = x.readers;
   before = x.before;
-  enters = other_step_emits_same m s e run t x.entry (EnteredAt o a v x.readers) other x.enters;
-  none = λ k low high y. x.none k low high (rest_emits_same m s e run t k (LeftAt o a v) other y);
+  enters = emits_cons_other m s e run t x.entry (EnteredAt o a v x.readers) other x.enters;
+  none = λ k low high y. x.none k low high (rest_emits_other m s e run t k (LeftAt o a v) other y);
 }
 
-inside_before_other_step : {T : Type 0} (m : Machine T) → IsLawful m → (s : State T) → StateInvariant m s → (e : Step) (run : List Step) (t j o : ℕ) (a : Access) (v : ℕ)
+inside_to_cons_other : {T : Type 0} (m : Machine T) → IsLawful m → (s : State T) → StateInvariant m s → (e : Step) (run : List Step) (t j o : ℕ) (a : Access) (v : ℕ)
     → (e.0 ≡ t → ⊥) → IsInsideTo m (after m s e) run t j o a v → IsInsideTo m s (e ∷ run) t j o a v
-inside_before_other_step m law s good e run t j o a v other x =
-    let inside : (s.objects o).inside t ≡ Some a = sym (other_step_adds_leaves_one_to_version_and_keeps_inside m s e t o other).1 ∙ x.inside in
+inside_to_cons_other m law s good e run t j o a v other x =
+    let inside : (s.objects o).inside t ≡ Some a = sym (other_step_adds_leaves m s e t o other).1 ∙ x.inside in
     record {
       inside = inside;
-      version = sym (inside_version_stays m law s good e t o a other inside) ∙ x.version;
-      none = λ k high y. x.none k high (rest_emits_same m s e run t k (LeftAt o a v) (λ same. other (sym same)) y);
+      version = sym (inside_keeps_version m law s good e t o a other inside) ∙ x.version;
+      none = λ k high y. x.none k high (rest_emits_other m s e run t k (LeftAt o a v) (λ same. other (sym same)) y);
     }
 
 left_object_was_entered : {T : Type 0} (m : Machine T) → IsLawful m → (s : State T) → StateInvariant m s → (run : List Step) → IsRun m s run
     → (t j o : ℕ) (a : Access) (v : ℕ) → Emits m s run t j (LeftAt o a v) → IsInsideTo m s run t j o a v ⊎ IsEnteredTo m s run t j o a v
 left_object_was_entered m law s good [] ok t j o a v x = absurd x.1
 left_object_was_entered m law s good (e ∷ run) ok t j o a v x = elim (cases_eq e.0 t) [
-  | inl own ↦ by own (λ k y. left_object_was_entered m law (after m s e) (state_invariant_after_step m law s good e ok.0) run ok.1 t k o a v y) j x
-  | inr other ↦ elim (left_object_was_entered m law (after m s e) (state_invariant_after_step m law s good e ok.0) run ok.1 t j o a v
-      (rest_emits_same m s e run t j (LeftAt o a v) (λ same. other (sym same)) x)) [
-        | inl inside ↦ inl (inside_before_other_step m law s good e run t j o a v other inside)
-        | inr entered ↦ inr (entered_before_other_step m s e run t j o a v (λ same. other (sym same)) entered)
+  | inl own ↦ by own (λ k y. left_object_was_entered m law (after m s e) (state_invariant_step m law s good e ok.0) run ok.1 t k o a v y) j x
+  | inr other ↦ elim (left_object_was_entered m law (after m s e) (state_invariant_step m law s good e ok.0) run ok.1 t j o a v
+      (rest_emits_other m s e run t j (LeftAt o a v) (λ same. other (sym same)) x)) [
+        | inl inside ↦ inl (inside_to_cons_other m law s good e run t j o a v other inside)
+        | inr entered ↦ inr (entered_to_cons_other m s e run t j o a v (λ same. other (sym same)) entered)
       ]
 ]
   where
     by : e.0 ≡ t → ((k : ℕ) → Emits m (after m s e) run t k (LeftAt o a v) → IsInsideTo m (after m s e) run t k o a v ⊎ IsEnteredTo m (after m s e) run t k o a v)
         → (j : ℕ) → Emits m s (e ∷ run) t j (LeftAt o a v) → IsInsideTo m s (e ∷ run) t j o a v ⊎ IsEnteredTo m s (e ∷ run) t j o a v
-    by own again zero y = inl (first_step_leaves_if_inside m law s good e run t o a v own y)
-    by own again (suc j) y = elim (again j (rest_emits_earlier m s e run t j (LeftAt o a v) own y)) [
+    by own again zero y = inl (inside_first_step_leaves m law s good e run t o a v own y)
+    by own again (suc j) y = elim (again j (rest_emits_own m s e run t j (LeftAt o a v) own y)) [
       | inl inside ↦ elim (label_enters_or_not o (label m s e)) [
         | inl enters ↦ inr (entered_by_own_step m s e run t j o a v own enters inside)
         | inr free ↦ inl (inside_before_own_step m s e run t j o a v own free inside)
@@ -274,12 +232,6 @@ left_object_was_entered m law s good (e ∷ run) ok t j o a v x = elim (cases_eq
 
 -- ---- in the runs of a trace
 
--- a step of a run with the trace is a step of each
-step_is_of_each_run : (f : FittedTrace) (h : HasRun f) (t k : ℕ) (a : Label) → Emits (machine_of f) (start_of f) h.run t k a
-    → EachRun f (λ run. Emits (machine_of f) (start_of f) run t k a)
-step_is_of_each_run f h t k a x run of =
-    (x.0, subst (λ (steps : List (thread.ThreadState × Label)). At steps k (x.0, a)) (trail_same_in_runs_of_trace f h.run run h.whole of t) x.1)
-
 read_label_is_of_read : (e : Event) (o v l : ℕ) → label_of e ≡ EnteredAt o Reading v l → e ≡ logged.Read o v
 read_label_is_of_read (logged.Answer kind value) o v l x = absurd (cc x)
 read_label_is_of_read (logged.Read p w) o v l x =
@@ -287,15 +239,6 @@ read_label_is_of_read (logged.Read p w) o v l x =
     let version : w ≡ v = cc x in λ i. logged.Read (object i) (version i)
 read_label_is_of_read (logged.Write p w n) o v l x = absurd (cc x)
 read_label_is_of_read (logged.Try p) o v l x = absurd (cc x)
-
-write_label_is_of_write : (e : Event) (o v l : ℕ) → label_of e ≡ EnteredAt o Writing v l → e ≡ logged.Write o v l
-write_label_is_of_write (logged.Answer kind value) o v l x = absurd (cc x)
-write_label_is_of_write (logged.Read p w) o v l x = absurd (cc x)
-write_label_is_of_write (logged.Write p w n) o v l x =
-    let object : p ≡ o = cc x in
-    let version : w ≡ v = cc x in
-    let readers : n ≡ l = cc x in λ i. logged.Write (object i) (version i) (readers i)
-write_label_is_of_write (logged.Try p) o v l x = absurd (cc x)
 
 -- event i of thread t is an entry of object o for such access at version v, by such readers
 abbrev pub IsEntryFor : Recorded → ℕ → ℕ → ℕ → Access → ℕ → ℕ → Type 0
@@ -306,7 +249,7 @@ IsEntryFor r t i o Writing v l = IsWriteAt r t i o v l
 pub record IsEventOf (f : FittedTrace) (t k o : ℕ) (a : Access) (v l : ℕ) : Type 0 where
   pub event : ℕ
   pub entry : IsEntryFor f.recorded t event o a v l
-  pub step : entry_of f t event ≡ k
+  pub step : event_entry f t event ≡ k
 
 pub entering_step_has_event : (f : FittedTrace) (h : HasRun f) (t k o : ℕ) (a : Access) (v l : ℕ) → Emits (machine_of f) (start_of f) h.run t k (EnteredAt o a v l)
     → IsEventOf f t k o a v l
@@ -317,7 +260,7 @@ entering_step_has_event f h t k o a v l x =
     entry : (c : Access) (i : ℕ) → i < length (recorded_thread f.recorded t).events
         → label_of (get_or (recorded_thread f.recorded t).events i (logged.Try 0)) ≡ EnteredAt o c v l → IsEntryFor f.recorded t i o c v l
     entry Reading i within is = slice_get-get_or (recorded_thread f.recorded t).events i (logged.Try 0) within ∙ ap Some (read_label_is_of_read _ o v l is)
-    entry Writing i within is = slice_get-get_or (recorded_thread f.recorded t).events i (logged.Try 0) within ∙ ap Some (write_label_is_of_write _ o v l is)
+    entry Writing i within is = slice_get-get_or (recorded_thread f.recorded t).events i (logged.Try 0) within ∙ ap Some (write_label_write_event _ o v l is)
 
 -- the event of a step that leaves: the step is its leave
 pub record HasEntry (f : FittedTrace) (t k o : ℕ) (a : Access) (v : ℕ) : Type 0 where
@@ -326,25 +269,25 @@ pub record HasEntry (f : FittedTrace) (t k o : ℕ) (a : Access) (v : ℕ) : Typ
   pub entry : IsEntryFor f.recorded t event o a v readers
   pub leave : IsLeaveOf f t event k
 
-first_leave_is_of_entry : (f : FittedTrace) (h : HasRun f) (t i k o : ℕ) (a : Access) (v l : ℕ) → IsEntryFor f.recorded t i o a v l → entry_of f t i < k
+first_leave_is_of_entry : (f : FittedTrace) (h : HasRun f) (t i k o : ℕ) (a : Access) (v l : ℕ) → IsEntryFor f.recorded t i o a v l → event_entry f t i < k
     → Emits (machine_of f) (start_of f) h.run t k (LeftAt o a v)
-    → ((n : ℕ) → entry_of f t i < n → n < k → Emits (machine_of f) (start_of f) h.run t n (LeftAt o a v) → ⊥) → IsLeaveOf f t i k
+    → ((n : ℕ) → event_entry f t i < n → n < k → Emits (machine_of f) (start_of f) h.run t n (LeftAt o a v) → ⊥) → IsLeaveOf f t i k
 first_leave_is_of_entry f h t i k o Reading v l there past x none = record {
-  leaves = subst (λ z. EntryLeaves f t (entry_of f t i + 1) z k) (sym there) (omega (arith, past), step_is_of_each_run f h t k (LeftAt o Reading v) x);
-  first = λ n at. let y = subst (λ z. EntryLeaves f t (entry_of f t i + 1) z n) there at in not_before n y.0 (y.1 h.run h.whole);
+  leaves = subst (λ z. EntryLeaves f t (event_entry f t i + 1) z k) (sym there) (omega (arith, past), emits_in_each_run f h t k (LeftAt o Reading v) x);
+  first = λ n at. let y = subst (λ z. EntryLeaves f t (event_entry f t i + 1) z n) there at in not_before n y.0 (y.1 h.run h.whole);
 }
   where
-    not_before : (n : ℕ) → entry_of f t i + 1 ≤ n → Emits (machine_of f) (start_of f) h.run t n (LeftAt o Reading v) → k ≤ n
+    not_before : (n : ℕ) → event_entry f t i + 1 ≤ n → Emits (machine_of f) (start_of f) h.run t n (LeftAt o Reading v) → k ≤ n
     not_before n from y = elim (cases_lt n k) [
       | inl less ↦ absurd (none n (omega (arith, from)) less y)
       | inr not ↦ omega (arith, not)
     ]
 first_leave_is_of_entry f h t i k o Writing v l there past x none = record {
-  leaves = subst (λ z. EntryLeaves f t (entry_of f t i + 1) z k) (sym there) (omega (arith, past), step_is_of_each_run f h t k (LeftAt o Writing v) x);
-  first = λ n at. let y = subst (λ z. EntryLeaves f t (entry_of f t i + 1) z n) there at in not_before n y.0 (y.1 h.run h.whole);
+  leaves = subst (λ z. EntryLeaves f t (event_entry f t i + 1) z k) (sym there) (omega (arith, past), emits_in_each_run f h t k (LeftAt o Writing v) x);
+  first = λ n at. let y = subst (λ z. EntryLeaves f t (event_entry f t i + 1) z n) there at in not_before n y.0 (y.1 h.run h.whole);
 }
   where
-    not_before : (n : ℕ) → entry_of f t i + 1 ≤ n → Emits (machine_of f) (start_of f) h.run t n (LeftAt o Writing v) → k ≤ n
+    not_before : (n : ℕ) → event_entry f t i + 1 ≤ n → Emits (machine_of f) (start_of f) h.run t n (LeftAt o Writing v) → k ≤ n
     not_before n from y = elim (cases_lt n k) [
       | inl less ↦ absurd (none n (omega (arith, from)) less y)
       | inr not ↦ omega (arith, not)
@@ -354,7 +297,7 @@ pub leaving_step_has_entry : (f : FittedTrace) (h : HasRun f) (t k o : ℕ) (a :
     → HasEntry f t k o a v
 leaving_step_has_entry f h t k o a v x =
     let start = guest_start_is_start f.guest f.recorded.budget f.recorded.profile in
-    elim (left_object_was_entered (machine_of f) (thread_machine_is_lawful f.guest.code) (start_of f) (state_invariant_at_start (machine_of f) (start_of f) start) h.run h.whole.1.runs t k o a v x) [
+    elim (left_object_was_entered (machine_of f) (thread_machine_lawful f.guest.code) (start_of f) (state_invariant_start (machine_of f) (start_of f) start) h.run h.whole.1.runs t k o a v x) [
       | inl inside ↦ absurd (none-some a (sym (start.inside o t) ∙ inside.inside))
       | inr entered ↦
           let event = entering_step_has_event f h t entered.entry o a v entered.readers entered.enters in

@@ -5,21 +5,21 @@ use Rattle.std.proofs.lemmas.Bool.{cases_lt}
 use Rattle.std.proofs.lemmas.Option.{same_Some}
 use Rattle.ir_runs.specs.Machine.{Machine}
 use Rattle.ir_runs.specs.Run.{State, Step, IsRun, end, trail, count, log, Cut, Consistent}
-use Rattle.ir_runs.proofs.CallerLemmas.{state_invariant_at_start, trail_append, log_append, prefix_of_run_is_run, run_with_beginning_logs_is_prefix}
+use Rattle.ir_runs.proofs.CallerLemmas.{state_invariant_start, trail_append, log_append, prefix_of_run_is_run, beginning_is_prefix}
 use Rattle.ir_thread.specs.State.{ThreadState}
-use Rattle.ir_thread.proofs.CallerLemmas.{thread_machine_is_lawful}
+use Rattle.ir_thread.proofs.CallerLemmas.{thread_machine_lawful}
 use Rattle.ir_fit.specs.Fit.{FittedTrace, HasRun}
 use Rattle.ir_fit.proofs.CallerLemmas.{guest_start_is_start}
 use Rattle.ir_cut.specs.Positions.{machine_of, start_of}
 use Rattle.ir_run_picture.specs.Laws.{BehindComesFirst}
-use Rattle.ir_run_picture.proofs.InCut.{needed_event_is_left_before}
-use Rattle.ir_run_picture.proofs.Walk.{number_of_more_is_no_less, number_of_own_step, steps_are_of_thread}
+use Rattle.ir_run_picture.proofs.InCut.{needed_is_left_in_cut}
+use Rattle.ir_run_picture.proofs.Walk.{number_of_monotone, number_of_own_step, steps_of_thread_counted}
 
 -- where the threads are after the first n steps of a run is a consistent cut of it
-first_steps_are_consistent : (f : FittedTrace) (h : HasRun f) (n : ℕ)
+first_steps_consistent : (f : FittedTrace) (h : HasRun f) (n : ℕ)
     → Consistent (machine_of f) (start_of f) h.run (count (machine_of f) (start_of f) (take n h.run))
-first_steps_are_consistent f h n = (run_with_beginning_logs_is_prefix m (thread_machine_is_lawful f.guest.code) s
-    (state_invariant_at_start m s (guest_start_is_start f.guest f.recorded.budget f.recorded.profile)) h.run first h.whole.1.runs
+first_steps_consistent f h n = (beginning_is_prefix m (thread_machine_lawful f.guest.code) s
+    (state_invariant_start m s (guest_start_is_start f.guest f.recorded.budget f.recorded.profile)) h.run first h.whole.1.runs
     (prefix_of_run_is_run m s first rest (subst (IsRun m s) (sym whole) h.whole.1.runs)) (λ t. log m (end m s first) rest t)
     (λ t. sym (log_append m s first rest t) ∙ ap (λ run. log m s run t) whole)
     (λ t.
@@ -50,15 +50,15 @@ behind_is_earlier f some t i u k behind run of m n early late = elim (cases_lt m
       let h : HasRun f = record { run = run; whole = of } in
       let cut : Cut = count (machine_of f) (start_of f) (take (n + 1) run) in
       let own = number_of_own_step t late.result n run late.there in
-      let same = steps_are_of_thread (machine_of f) (start_of f) (take (n + 1) run) t in
+      let same = steps_of_thread_counted (machine_of f) (start_of f) (take (n + 1) run) t in
       let at = late.before in
-      let left = needed_event_is_left_before f h t i u behind.needs.needed behind.leave behind.needs.needs behind.needs.left cut
-      (first_steps_are_consistent f h (n + 1)) (omega (arith, own, same, at)) in
+      let left = needed_is_left_in_cut f h t i u behind.needs.needed behind.leave behind.needs.needs behind.needs.left cut
+      (first_steps_consistent f h (n + 1)) (omega (arith, own, same, at)) in
       let before = behind.before in
-      let other = steps_are_of_thread (machine_of f) (start_of f) (take (n + 1) run) u in
+      let other = steps_of_thread_counted (machine_of f) (start_of f) (take (n + 1) run) u in
       elim (cases_lt n m) [
         | inl more ↦
-            let low = number_of_more_is_no_less u (n + 1) m run (omega (arith, more)) in
+            let low = number_of_monotone u (n + 1) m run (omega (arith, more)) in
             let first = early.before in omega (arith, left, before, other, low, first)
         | inr equal ↦
             let one : n ≡ m = omega (arith, not, equal) in

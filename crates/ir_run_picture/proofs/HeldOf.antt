@@ -1,7 +1,6 @@
 -- Boxes of a run with their places.
-use Rattle.std.proofs.Common.{◌≡◌, Some, Result, Ok, Err, List, length, sym, ap, ◌∙◌, subst}
+use Rattle.std.proofs.Common.{◌≡◌, Some, List, length, sym, ap, ◌∙◌, subst}
 use Rattle.std.specs.List.{slice_get}
-use Rattle.std.specs.Prelude.{IfOk}
 use Rattle.ir_trace.specs.Recorded.{Recorded}
 use Rattle.ir_fit.specs.Fit.{FittedTrace}
 use Rattle.ir_opened.specs.Paired.{ArePaired}
@@ -33,11 +32,7 @@ held_boxes_are_of_run f events spans h are go hold = (
   },
 )
 
-pub held_boxes_are_of_run_of_trace : (f : FittedTrace) (r : Recorded) (events : List EventBox) (spans : List Span) (h : HeldBoxes) → r ≡ f.recorded
+pub held_boxes_of_run : (f : FittedTrace) (r : Recorded) (events : List EventBox) (spans : List Span) (h : HeldBoxes) → r ≡ f.recorded
     → AreRunBoxes f events → ArePaired (IsSpan f) events spans → HoldAll r events spans h → HaveHeld f h.boxes.items h.ends.items
-held_boxes_are_of_run_of_trace f r events spans h same are go hold =
+held_boxes_of_run f r events spans h same are go hold =
     held_boxes_are_of_run f events spans h are go (subst (λ (q : Recorded). HoldAll q events spans h) same hold)
-
-pub if_ok_of_weaker : {T E : Type 0} (P Q : T → Type 0) (r : Result T E) → ((x : T) → P x → Q x) → IfOk r P → IfOk r Q
-if_ok_of_weaker P Q (Ok x) to h = to x h
-if_ok_of_weaker P Q (Err e) to h = h

@@ -13,9 +13,9 @@ use Rattle.ir_trace.specs.Recorded.{Recorded, RecordedThread, recorded_thread}
 use Rattle.ir_trace.specs.Absent.{absent}
 use Rattle.ir_fit.specs.Fit.{FittedTrace, HasRun}
 use Rattle.ir_cut.specs.Positions.{EachRun, cut_of, last_of, threads_of, machine_of, start_of}
-use Rattle.ir_events.specs.Events.{entry_of}
+use Rattle.ir_events.specs.Events.{event_entry}
 use Rattle.ir_opened.specs.Positions.{IsLeaveOf}
-use Rattle.ir_opened.proofs.CallerLemmas.{leave_is_past_event}
+use Rattle.ir_opened.proofs.CallerLemmas.{leave_is_past_event, earlier_entry_step_le}
 use Rattle.ir_picture.specs.Needs.{Needs}
 use Rattle.ir_picture.specs.Boxes.{IsInBox, HasBox}
 use Rattle.ir_picture.specs.Places.{EndsNeeded}
@@ -27,7 +27,7 @@ use Rattle.ir_holds.specs.declared.span.Span.{Span}
 use Rattle.ir_run_picture.specs.Held.{AreHeld}
 use Rattle.ir_run_picture.specs.Laws.{IsMoment, LeftIsConsistent}
 use Rattle.ir_run_picture.specs.Spans.{IsSpan}
-use Rattle.ir_run_picture.proofs.Behind.{event_below_length_is_inside, entry_step_is_no_later, leave_is_by_end_of_box, placed_box_is_at, span_is_at, box_is_of_run}
+use Rattle.ir_run_picture.proofs.Behind.{below_length_is_inside, leave_within_box_end, placed_box_of_events, box_has_span_of_run, held_box_is_of_run}
 use Rattle.ir_run_picture.proofs.Entered.{IsEntryFor, entering_step_has_event, leaving_step_has_entry}
 
 -- ---- what needs and what is needed
@@ -44,8 +44,8 @@ pub record AreNeed (emitted needed : Label) : Type 0 where
   pub leaves : needed ≡ LeftAt object kind left
   pub needs : IsNeededBy (LeftAt object kind left) (EnteredAt object access version readers)
 
-needed_label_is_leave : (b a : Label) → IsNeededBy b a → AreNeed a b
-needed_label_is_leave (LeftAt o Writing w) (EnteredAt p c v l) h = record {
+needed_labels_are_need : (b a : Label) → IsNeededBy b a → AreNeed a b
+needed_labels_are_need (LeftAt o Writing w) (EnteredAt p c v l) h = record {
   object = p;
   access = c;
   version = v;
@@ -56,11 +56,11 @@ needed_label_is_leave (LeftAt o Writing w) (EnteredAt p c v l) h = record {
   leaves = ap (λ z. LeftAt z Writing w) h.0;
   needs = (refl, h.1);
 }
-needed_label_is_leave (LeftAt o Writing w) Quiet h = absurd h
-needed_label_is_leave (LeftAt o Writing w) (Answer k x) h = absurd h
-needed_label_is_leave (LeftAt o Writing w) (FailedTry p) h = absurd h
-needed_label_is_leave (LeftAt o Writing w) (LeftAt p c v) h = absurd h
-needed_label_is_leave (LeftAt o Reading w) (EnteredAt p Writing v l) h = record {
+needed_labels_are_need (LeftAt o Writing w) Quiet h = absurd h
+needed_labels_are_need (LeftAt o Writing w) (Answer k x) h = absurd h
+needed_labels_are_need (LeftAt o Writing w) (FailedTry p) h = absurd h
+needed_labels_are_need (LeftAt o Writing w) (LeftAt p c v) h = absurd h
+needed_labels_are_need (LeftAt o Reading w) (EnteredAt p Writing v l) h = record {
   object = p;
   access = Writing;
   version = v;
@@ -71,35 +71,35 @@ needed_label_is_leave (LeftAt o Reading w) (EnteredAt p Writing v l) h = record 
   leaves = ap (λ z. LeftAt z Reading w) h.0;
   needs = (refl, h.1);
 }
-needed_label_is_leave (LeftAt o Reading w) (EnteredAt p Reading v l) h = absurd h
-needed_label_is_leave (LeftAt o Reading w) Quiet h = absurd h
-needed_label_is_leave (LeftAt o Reading w) (Answer k x) h = absurd h
-needed_label_is_leave (LeftAt o Reading w) (FailedTry p) h = absurd h
-needed_label_is_leave (LeftAt o Reading w) (LeftAt p c v) h = absurd h
-needed_label_is_leave Quiet a h = absurd h
-needed_label_is_leave (Answer k x) a h = absurd h
-needed_label_is_leave (EnteredAt p c v l) a h = absurd h
-needed_label_is_leave (FailedTry p) a h = absurd h
+needed_labels_are_need (LeftAt o Reading w) (EnteredAt p Reading v l) h = absurd h
+needed_labels_are_need (LeftAt o Reading w) Quiet h = absurd h
+needed_labels_are_need (LeftAt o Reading w) (Answer k x) h = absurd h
+needed_labels_are_need (LeftAt o Reading w) (FailedTry p) h = absurd h
+needed_labels_are_need (LeftAt o Reading w) (LeftAt p c v) h = absurd h
+needed_labels_are_need Quiet a h = absurd h
+needed_labels_are_need (Answer k x) a h = absurd h
+needed_labels_are_need (EnteredAt p c v l) a h = absurd h
+needed_labels_are_need (FailedTry p) a h = absurd h
 
 -- an event needs the event that entered what has to be left
-event_needs_entry : (r : Recorded) (t i u j o : ℕ) (a : Access) (v l : ℕ) (c : Access) (w n : ℕ) → IsNeededBy (LeftAt o c w) (EnteredAt o a v l) → IsEntryFor r t i o a v l
+needing_labels_need_events : (r : Recorded) (t i u j o : ℕ) (a : Access) (v l : ℕ) (c : Access) (w n : ℕ) → IsNeededBy (LeftAt o c w) (EnteredAt o a v l) → IsEntryFor r t i o a v l
     → IsEntryFor r u j o c w n → Needs r t i u j
-event_needs_entry r t i u j o Reading v l Writing w n needs own other = inl (record {
+needing_labels_need_events r t i u j o Reading v l Writing w n needs own other = inl (record {
   object = o;
   version = w;
   readers = n;
   entry = inl (own ∙ ap (λ z. Some (Read o z)) needs.1);
   made = other;
 })
-event_needs_entry r t i u j o Writing v l Writing w n needs own other = inl (record {
+needing_labels_need_events r t i u j o Writing v l Writing w n needs own other = inl (record {
   object = o;
   version = w;
   readers = n;
   entry = inr (l, own ∙ ap (λ z. Some (Write o z l)) needs.1);
   made = other;
 })
-event_needs_entry r t i u j o Reading v l Reading w n needs own other = absurd needs
-event_needs_entry r t i u j o Writing v l Reading w n needs own other = inr (record {
+needing_labels_need_events r t i u j o Reading v l Reading w n needs own other = absurd needs
+needing_labels_need_events r t i u j o Writing v l Reading w n needs own other = inr (record {
   object = o;
   version = v;
   readers = l;
@@ -108,9 +108,9 @@ event_needs_entry r t i u j o Writing v l Reading w n needs own other = inr (rec
 })
 
 -- the event of a step that needs a leave
-entry_exists : (r : Recorded) (t i o : ℕ) (a : Access) (v l : ℕ) → IsEntryFor r t i o a v l → i < length (recorded_thread r t).events
-entry_exists r t i o Reading v l there = slice_get_within (recorded_thread r t).events i (Read o v) there
-entry_exists r t i o Writing v l there = slice_get_within (recorded_thread r t).events i (Write o v l) there
+entry_is_recorded : (r : Recorded) (t i o : ℕ) (a : Access) (v l : ℕ) → IsEntryFor r t i o a v l → i < length (recorded_thread r t).events
+entry_is_recorded r t i o Reading v l there = slice_get_within (recorded_thread r t).events i (Read o v) there
+entry_is_recorded r t i o Writing v l there = slice_get_within (recorded_thread r t).events i (Write o v l) there
 
 -- ---- the cut
 
@@ -131,13 +131,13 @@ record HasPlace (f : FittedTrace) (boxes : List PlacedBox) (spans : List Span) (
   span : IsSpan f box.events own
   thread : own.thread ≡ t
 
-event_has_place : (f : FittedTrace) (boxes : List PlacedBox) (spans : List Span) (ends : List Point) → AreHeld f boxes spans ends → (t i : ℕ)
+event_has_box_and_place : (f : FittedTrace) (boxes : List PlacedBox) (spans : List Span) (ends : List Point) → AreHeld f boxes spans ends → (t i : ℕ)
     → i < length (recorded_thread f.recorded t).events → HasPlace f boxes spans t i
-event_has_place f boxes spans ends h t i within =
+event_has_box_and_place f boxes spans ends h t i within =
     let own : HasBox (events_of_all boxes) t i = h.all.all t i within in
-    let found = placed_box_is_at boxes own.number own.box own.there in
+    let found = placed_box_of_events boxes own.number own.box own.there in
     let has : IsInBox found.0.events t i = subst (λ (y : EventBox). IsInBox y t i) (sym found.2) own.has in
-    let go = span_is_at f boxes spans ends h own.number found.0 found.1 in
+    let go = box_has_span_of_run f boxes spans ends h own.number found.0 found.1 in
     record {
       number = own.number;
       box = found.0;
@@ -171,7 +171,7 @@ needed_box_ends_left f boxes spans ends h t i u j needs b a =
 -- the box of a step of the cut starts left of x
 step_in_cut_starts_left : (f : FittedTrace) → HasRun f → (boxes : List PlacedBox) (spans : List Span) (ends : List Point) → AreHeld f boxes spans ends
     → (x : ℕ) (c : Cut) → IsLeftCut f boxes spans x c → (t i : ℕ) → i < length (recorded_thread f.recorded t).events → (b : HasPlace f boxes spans t i)
-    → entry_of f t i < c t → b.box.start.x < x
+    → event_entry f t i < c t → b.box.start.x < x
 step_in_cut_starts_left f run boxes spans ends h x c cut t i within b inside = elim (cases_lt b.box.start.x x) [
   | inl less ↦ less
   | inr not ↦
@@ -185,8 +185,8 @@ step_in_cut_starts_left f run boxes spans ends h x c cut t i within b inside = e
         is = inl (refl, refl);
       } in
       let out = cut.rest t b.own.first b.box.start.x moment not in
-      let first : b.own.first ≡ entry_of f t b.box.events.event = b.span.first ∙ ap (λ y. entry_of f y b.box.events.event) b.has.thread in
-      let early = entry_step_is_no_later f run t i b.box.events.event (event_below_length_is_inside f run t i within) b.has.from in
+      let first : b.own.first ≡ event_entry f t b.box.events.event = b.span.first ∙ ap (λ y. event_entry f y b.box.events.event) b.has.thread in
+      let early = earlier_entry_step_le f run t i b.box.events.event (below_length_is_inside f run t i within) b.has.from in
       absurd (omega (arith, out, first, early, inside))
 ]
 
@@ -196,10 +196,10 @@ leave_is_in_cut : (f : FittedTrace) → HasRun f → (boxes : List PlacedBox) (s
     → IsLeaveOf f u j k → a.box.end.x < x → k < c u
 leave_is_in_cut f run boxes spans ends h x c cut u j k within a leave left =
     let own : IsInBox a.box.events a.box.events.thread j = subst (λ y. IsInBox a.box.events y j) (sym a.has.thread) a.has in
-    let by = leave_is_by_end_of_box f run a.box.events a.own (box_is_of_run f boxes spans ends h a.number a.box a.there) a.span j k own
+    let by = leave_within_box_end f run a.box.events a.own (held_box_is_of_run f boxes spans ends h a.number a.box a.there) a.span j k own
     (subst (λ y. IsLeaveOf f y j k) (sym a.has.thread) leave) in
-    let first : a.own.first ≡ entry_of f u a.box.events.event = a.span.first ∙ ap (λ y. entry_of f y a.box.events.event) a.has.thread in
-    let early = entry_step_is_no_later f run u j a.box.events.event (event_below_length_is_inside f run u j within) a.has.from in
+    let first : a.own.first ≡ event_entry f u a.box.events.event = a.span.first ∙ ap (λ y. event_entry f y a.box.events.event) a.has.thread in
+    let early = earlier_entry_step_le f run u j a.box.events.event (below_length_is_inside f run u j within) a.has.from in
     let past = leave_is_past_event f u j k leave.leaves in
     let moment : IsMoment boxes spans u a.own.last a.box.end.x = record {
       number = a.number;
@@ -214,39 +214,39 @@ leave_is_in_cut f run boxes spans ends h x c cut u j k within a leave left =
     omega (arith, by, inside)
 
 -- a thread that there isn't has no last position
-pub missing_thread_has_no_step : (f : FittedTrace) → HasRun f → (t : ℕ) → threads_of f ≤ t → last_of f t ≡ 0
-missing_thread_has_no_step f run t past =
+pub missing_has_last_zero : (f : FittedTrace) → HasRun f → (t : ℕ) → threads_of f ≤ t → last_of f t ≡ 0
+missing_has_last_zero f run t past =
     let threads = run.whole.0.threads in
     ap (λ (z : RecordedThread). z.steps) (get_or_past f.recorded.threads t absent (omega (arith, threads, past)))
 
 -- no position is past the thread's last
-pub positions_within_last_are_cut : (f : FittedTrace) (c : Cut) → ((t : ℕ) → c t ≤ last_of f t) → EachRun f (λ run. IsCut (machine_of f) (start_of f) run c)
-positions_within_last_are_cut f c within run of t = elim (cases_lt t (threads_of f)) [
+pub within_last_is_cut : (f : FittedTrace) (c : Cut) → ((t : ℕ) → c t ≤ last_of f t) → EachRun f (λ run. IsCut (machine_of f) (start_of f) run c)
+within_last_is_cut f c within run of t = elim (cases_lt t (threads_of f)) [
   | inl there ↦ (let steps = of.1.steps t there in let low = within t in omega (arith, steps, low))
-  | inr past ↦ (let none = missing_thread_has_no_step f (record { run = run; whole = of }) t past in let low = within t in omega (arith, none, low))
+  | inr past ↦ (let none = missing_has_last_zero f (record { run = run; whole = of }) t past in let low = within t in omega (arith, none, low))
 ]
 
 pub left_cut_is_consistent : (f : FittedTrace) → HasRun f → (boxes : List PlacedBox) (spans : List Span) (ends : List Point) → AreHeld f boxes spans ends
     → (x : ℕ) (c : Cut) → IsLeftCut f boxes spans x c
     → EachRun f (λ run. IsCut (machine_of f) (start_of f) run c × Consistent (machine_of f) (start_of f) run c)
-left_cut_is_consistent f some boxes spans ends h x c cut run of = (positions_within_last_are_cut f c cut.within run of, consistent)
+left_cut_is_consistent f some boxes spans ends h x c cut run of = (within_last_is_cut f c cut.within run of, consistent)
   where
     own : HasRun f
     own = record { run = run; whole = of }
 
     consistent : Consistent (machine_of f) (start_of f) run c
     consistent t k u j a b emits_a emits_b needs inside =
-        let need = needed_label_is_leave b a needs in
+        let need = needed_labels_are_need b a needs in
         let event = entering_step_has_event f own t k need.object need.access need.version need.readers
         (subst (λ z. Emits (machine_of f) (start_of f) run t k z) need.enters emits_a) in
         let entry = leaving_step_has_entry f own u j need.object need.kind need.left
         (subst (λ z. Emits (machine_of f) (start_of f) run u j z) need.leaves emits_b) in
-        let within_b = entry_exists f.recorded t event.event need.object need.access need.version need.readers event.entry in
-        let within_a = entry_exists f.recorded u entry.event need.object need.kind need.left entry.readers entry.entry in
-        let box_b = event_has_place f boxes spans ends h t event.event within_b in
-        let box_a = event_has_place f boxes spans ends h u entry.event within_a in
+        let within_b = entry_is_recorded f.recorded t event.event need.object need.access need.version need.readers event.entry in
+        let within_a = entry_is_recorded f.recorded u entry.event need.object need.kind need.left entry.readers entry.entry in
+        let box_b = event_has_box_and_place f boxes spans ends h t event.event within_b in
+        let box_a = event_has_box_and_place f boxes spans ends h u entry.event within_a in
         let left = needed_box_ends_left f boxes spans ends h t event.event u entry.event
-        (event_needs_entry f.recorded t event.event u entry.event need.object need.access need.version need.readers need.kind need.left entry.readers need.needs event.entry entry.entry)
+        (needing_labels_need_events f.recorded t event.event u entry.event need.object need.access need.version need.readers need.kind need.left entry.readers need.needs event.entry entry.entry)
         box_b box_a in
         let step = event.step in
         let start = step_in_cut_starts_left f own boxes spans ends h x c cut t event.event within_b box_b (omega (arith, step, inside)) in

@@ -6,20 +6,21 @@ use Rattle.std.proofs.lemmas.Bool.{cases_lt}
 use Rattle.std.proofs.lemmas.Option.{same_Some, none-some}
 use Rattle.ir_runs.specs.Run.{Step, trail, count, events, IsDone, Cut, Consistent}
 use Rattle.ir_runs.specs.Verdicts.{sum_below}
-use Rattle.ir_runs.proofs.CallerLemmas.{StateInvariant, state_invariant_at_start, max_of_cuts_is_consistent, same_logs_give_same_trails}
-use Rattle.ir_thread.proofs.CallerLemmas.{thread_machine_is_lawful}
+use Rattle.ir_runs.proofs.CallerLemmas.{max_is_consistent, same_logs_same_trails}
+use Rattle.ir_thread.proofs.CallerLemmas.{thread_machine_lawful}
 use Rattle.ir_fit.specs.Fit.{FittedTrace, HasRun, IsRunOf}
-use Rattle.ir_fit.proofs.CallerLemmas.{guest_start_is_start, get_or_is_item_if_at_index}
+use Rattle.ir_fit.proofs.CallerLemmas.{at_is_get_or}
 use Rattle.ir_cut.specs.Positions.{last_of, threads_of, machine_of, start_of}
-use Rattle.ir_cut.proofs.CallerLemmas.{no_trail_of_missing_thread}
+use Rattle.ir_cut.proofs.CallerLemmas.{missing_has_no_trail}
 use Rattle.ir_picture.specs.declared.placed_box.Point.{Point}
 use Rattle.ir_picture.specs.declared.placed_box.PlacedBox.{PlacedBox}
 use Rattle.ir_holds.specs.declared.span.Span.{Span}
 use Rattle.ir_run_picture.specs.Held.{AreHeld}
 use Rattle.ir_run_picture.specs.Laws.{IsMoment, GoesRight, RightIsAnOrder}
 use Rattle.ir_run_picture.proofs.FirstRight.{left_cut_exists}
-use Rattle.ir_run_picture.proofs.LeftCut.{IsLeftCut, left_cut_is_consistent, positions_within_last_are_cut, missing_thread_has_no_step}
-use Rattle.ir_run_picture.proofs.Walk.{Passes, step_of_cut_is_before, step_outside_cut_is_behind, longer_run_passes, ComesTo, no_step_comes_to_first_cut, run_passes_own_end, IsTarget, run_comes_to_target}
+use Rattle.ir_run_picture.proofs.LeftCut.{IsLeftCut, left_cut_is_consistent, within_last_is_cut, missing_has_last_zero}
+use Rattle.ir_run_picture.proofs.Walk.{Passes, step_in_cut_is_before, outside_cut_is_behind, longer_run_passes, ComesTo, comes_to_first_cut, run_passes_own_cut, IsTarget, run_comes_to_target}
+use Rattle.ir_weave.proofs.CallerLemmas.{guest_start_invariant}
 
 -- ---- how far right the boxes go
 
@@ -27,16 +28,16 @@ use Rattle.ir_run_picture.proofs.Walk.{Passes, step_of_cut_is_before, step_outsi
 abbrev IsFarRight : List PlacedBox → ℕ → Type 0
 IsFarRight boxes far = (n : ℕ) (b : PlacedBox) → slice_get boxes n ≡ Some b → (b.start.x ≤ far) × (b.end.x ≤ far)
 
-far_right_of_box_and_rest : (b : PlacedBox) (boxes : List PlacedBox) (far : ℕ) → IsFarRight boxes far → IsFarRight (b ∷ boxes) (max far (max b.start.x b.end.x))
-far_right_of_box_and_rest b boxes far h zero c at =
+far_right_cons : (b : PlacedBox) (boxes : List PlacedBox) (far : ℕ) → IsFarRight boxes far → IsFarRight (b ∷ boxes) (max far (max b.start.x b.end.x))
+far_right_cons b boxes far h zero c at =
     let same : b ≡ c = same_Some b c at in
     let start = ap (λ (z : PlacedBox). z.start.x) same in
     let last = ap (λ (z : PlacedBox). z.end.x) same in (omega (arith, start), omega (arith, last))
-far_right_of_box_and_rest b boxes far h (suc n) c at = let low = h n c at in (omega (arith, low.0), omega (arith, low.1))
+far_right_cons b boxes far h (suc n) c at = let low = h n c at in (omega (arith, low.0), omega (arith, low.1))
 
 far_right_exists : (boxes : List PlacedBox) → (far : ℕ) × IsFarRight boxes far
 far_right_exists [] = (0, λ n b at. absurd (none-some b at))
-far_right_exists (b ∷ boxes) = let rest = far_right_exists boxes in (max rest.0 (max b.start.x b.end.x), far_right_of_box_and_rest b boxes rest.0 rest.1)
+far_right_exists (b ∷ boxes) = let rest = far_right_exists boxes in (max rest.0 (max b.start.x b.end.x), far_right_cons b boxes rest.0 rest.1)
 
 moment_is_no_further : (boxes : List PlacedBox) (spans : List Span) (far : ℕ) → IsFarRight boxes far → (t k x : ℕ) → IsMoment boxes spans t k x → x ≤ far
 moment_is_no_further boxes spans far h t k x m = elim m.is [
@@ -64,9 +65,6 @@ record ComesRight (f : FittedTrace) (run : List Step) (boxes : List PlacedBox) (
 abbrev ComesSo : FittedTrace → List Step → List PlacedBox → List Span → ℕ → Type 0
 ComesSo f run boxes spans n = (steps : List Step) × (p : Cut) × ComesRight f run boxes spans n steps p
 
-good_start : (f : FittedTrace) → StateInvariant (machine_of f) (start_of f)
-good_start f = state_invariant_at_start (machine_of f) (start_of f) (guest_start_is_start f.guest f.recorded.budget f.recorded.profile)
-
 -- a run comes from a cut to a later cut
 later_cut_is_reached : (f : FittedTrace) (h : HasRun f) (steps : List Step) (p q : Cut) → ComesTo (machine_of f) (start_of f) h.run steps p
     → Consistent (machine_of f) (start_of f) h.run p → ((t : ℕ) → p t ≤ last_of f t) → Consistent (machine_of f) (start_of f) h.run q
@@ -75,13 +73,13 @@ later_cut_is_reached : (f : FittedTrace) (h : HasRun f) (steps : List Step) (p q
 later_cut_is_reached f h steps p q x at_p within_p at_q within_q above =
     let n = threads_of f in
     let target : IsTarget (machine_of f) (start_of f) h.run n p q = record {
-      cut = positions_within_last_are_cut f q within_q h.run h.whole;
+      cut = within_last_is_cut f q within_q h.run h.whole;
       consistent = at_q;
       above = above;
-      others = λ t past. let none = missing_thread_has_no_step f h t past in let low = within_p t in let high = within_q t in omega (arith, none, low, high);
+      others = λ t past. let none = missing_has_last_zero f h t past in let low = within_p t in let high = within_q t in omega (arith, none, low, high);
     } in
-    run_comes_to_target (machine_of f) (thread_machine_is_lawful f.guest.code) (start_of f) (good_start f) h.run h.whole.1.runs n (sum_below n q) steps p q
-    (positions_within_last_are_cut f p within_p h.run h.whole) at_p target x (omega arith)
+    run_comes_to_target (machine_of f) (thread_machine_lawful f.guest.code) (start_of f) (guest_start_invariant f) h.run h.whole.1.runs n (sum_below n q) steps p q
+    (within_last_is_cut f p within_p h.run h.whole) at_p target x (omega arith)
 
 -- the greater positions of a cut that was reached and of a cut at n are a cut at n
 later_cut_is_left_cut : (f : FittedTrace) (run : List Step) (boxes : List PlacedBox) (spans : List Span) (n : ℕ) (steps : List Step) (p c : Cut)
@@ -97,7 +95,7 @@ first_cut_is_reached f run boxes spans = (
   [],
   λ t. 0,
   record {
-    comes = no_step_comes_to_first_cut (machine_of f) (start_of f) run;
+    comes = comes_to_first_cut (machine_of f) (start_of f) run;
     consistent = λ t k u j a b at_a at_b needs less. absurd (omega (arith, less));
     within = λ t. omega arith;
     rest = λ t k z m far. omega arith;
@@ -111,7 +109,7 @@ next_cut_is_reached f h boxes spans ends held n (steps, p, before) =
     let found = left_cut_exists f h boxes spans ends held n in
     let q : Cut = λ t. max (p t) (found.0 t) in
     let left = later_cut_is_left_cut f h.run boxes spans n steps p found.0 before found.1 in
-    let at_q = max_of_cuts_is_consistent (machine_of f) (start_of f) h.run p found.0 before.consistent
+    let at_q = max_is_consistent (machine_of f) (start_of f) h.run p found.0 before.consistent
     (left_cut_is_consistent f h boxes spans ends held n found.0 found.1 h.run h.whole).1 in
     let more = later_cut_is_reached f h steps p q before.comes before.consistent before.within at_q left.within (λ t. omega arith) in (
       steps ++ more.0,
@@ -134,7 +132,7 @@ next_cut_is_reached f h boxes spans ends held n (steps, p, before) =
           record {
             cut = q;
             left = subst (λ z. IsLeftCut f boxes spans z q) same left;
-            passes = run_passes_own_end (machine_of f) (start_of f) h.run (steps ++ more) q (positions_within_last_are_cut f q left.within h.run h.whole) comes;
+            passes = run_passes_own_cut (machine_of f) (start_of f) h.run (steps ++ more) q (within_last_is_cut f q left.within h.run h.whole) comes;
           }
     ]
 
@@ -146,13 +144,13 @@ each_cut_is_reached f h boxes spans ends held (suc n) = next_cut_is_reached f h 
 -- ---- to the end
 
 -- the last positions are a consistent cut
-last_positions_are_consistent : (f : FittedTrace) (h : HasRun f) → Consistent (machine_of f) (start_of f) h.run (count (machine_of f) (start_of f) h.run)
-last_positions_are_consistent f h t k u j a b at_a at_b needs less = (get_or_is_item_if_at_index (trail (machine_of f) (start_of f) h.run u) j (at_b.0, b) at_b.1).0
+last_cut_consistent : (f : FittedTrace) (h : HasRun f) → Consistent (machine_of f) (start_of f) h.run (count (machine_of f) (start_of f) h.run)
+last_cut_consistent f h t k u j a b at_a at_b needs less = (at_is_get_or (trail (machine_of f) (start_of f) h.run u) j (at_b.0, b) at_b.1).0
 
 counts_are_within_last : (f : FittedTrace) (h : HasRun f) (t : ℕ) → count (machine_of f) (start_of f) h.run t ≤ last_of f t
 counts_are_within_last f h t = elim (cases_lt t (threads_of f)) [
   | inl there ↦ (let same = h.whole.1.steps t there in omega (arith, same))
-  | inr past ↦ (let none = ap length (no_trail_of_missing_thread f h.run h.whole t past) in omega (arith, none))
+  | inr past ↦ (let none = ap length (missing_has_no_trail f h.run h.whole t past) in omega (arith, none))
 ]
 
 -- a run with all steps of the threads has the trace
@@ -162,7 +160,7 @@ run_to_end_has_trace f h steps x =
     let m = machine_of f in
     let s = start_of f in
     let trails : (t : ℕ) → trail m s steps t ≡ trail m s h.run t = λ t. x.trails t ∙ take-length (trail m s h.run t) in
-    let same = (same_logs_give_same_trails m (thread_machine_is_lawful f.guest.code) s (good_start f) steps h.run x.runs h.whole.1.runs
+    let same = (same_logs_same_trails m (thread_machine_lawful f.guest.code) s (guest_start_invariant f) steps h.run x.runs h.whole.1.runs
     (λ t. ap events (trails t)) (λ t. ap length (trails t))).same_end in (
       h.whole.0,
       record {
@@ -181,18 +179,18 @@ moments_go_right : (f : FittedTrace) (boxes : List PlacedBox) (spans : List Span
     → ((t k x : ℕ) → IsMoment boxes spans t k x → PassesLeftOf f boxes spans steps x) → GoesRight boxes spans steps
 moments_go_right f boxes spans steps passed t k x u j y m n first second less at_m at_n =
     let by = passed u j y second in
-    let before = step_of_cut_is_before steps by.cut by.passes m t k at_m (by.left.left t k x first less) in
-    let behind = step_outside_cut_is_behind steps by.cut by.passes n u j at_n (by.left.rest u j y second (omega arith)) in
+    let before = step_in_cut_is_before steps by.cut by.passes m t k at_m (by.left.left t k x first less) in
+    let behind = outside_cut_is_behind steps by.cut by.passes n u j at_n (by.left.rest u j y second (omega arith)) in
     omega (arith, before, behind)
 
-pub left_to_right_is_an_order : RightIsAnOrder
-left_to_right_is_an_order f h boxes spans ends held =
+pub left_to_right_is_order : RightIsAnOrder
+left_to_right_is_order f h boxes spans ends held =
     let far = far_right_exists boxes in
     let come = each_cut_is_reached f h boxes spans ends held (suc far.0) in
     let steps = come.0 in
     let last : Cut = count (machine_of f) (start_of f) h.run in
-    let more = later_cut_is_reached f h steps come.1 last come.2.comes come.2.consistent come.2.within (last_positions_are_consistent f h) (counts_are_within_last f h)
-    (positions_within_last_are_cut f come.1 come.2.within h.run h.whole) in (
+    let more = later_cut_is_reached f h steps come.1 last come.2.comes come.2.consistent come.2.within (last_cut_consistent f h) (counts_are_within_last f h)
+    (within_last_is_cut f come.1 come.2.within h.run h.whole) in (
       steps ++ more.0,
       run_to_end_has_trace f h (steps ++ more.0) more.1,
       moments_go_right f boxes spans (steps ++ more.0) (λ t k x m.

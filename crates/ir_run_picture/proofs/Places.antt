@@ -20,51 +20,51 @@ abbrev pub taken_in : List Step → ℕ → ℕ
 taken_in [] t = 0
 taken_in (e ∷ run) t = cond (eqb t e.0) 1 0 + taken_in run t
 
-taken_is_length : {X : Type 0} (b : Bool) (x : X) (xs : List X) → length (join_if b x xs) ≡ cond b 1 0 + length xs
-taken_is_length true x xs = omega arith
-taken_is_length false x xs = omega arith
+length-join_if : {X : Type 0} (b : Bool) (x : X) (xs : List X) → length (join_if b x xs) ≡ cond b 1 0 + length xs
+length-join_if true x xs = omega arith
+length-join_if false x xs = omega arith
 
-pub count_is_taken : {T : Type 0} (m : Machine T) (s : State T) (run : List Step) (t : ℕ) → count m s run t ≡ taken_in run t
-count_is_taken m s [] t = refl
-count_is_taken m s (e ∷ run) t =
-    let here = taken_is_length (eqb t e.0) (s.now t, label m s e) (trail m (after m s e) run t) in
-    let rest = count_is_taken m (after m s e) run t in
+pub count_is_taken_in : {T : Type 0} (m : Machine T) (s : State T) (run : List Step) (t : ℕ) → count m s run t ≡ taken_in run t
+count_is_taken_in m s [] t = refl
+count_is_taken_in m s (e ∷ run) t =
+    let here = length-join_if (eqb t e.0) (s.now t, label m s e) (trail m (after m s e) run t) in
+    let rest = count_is_taken_in m (after m s e) run t in
     omega (arith, here, rest)
 
 -- ---- a thread's steps come one after the other
 
-rises_behind : (b : Bool) (f : ℕ → ℕ) → ((j k : ℕ) → j < k → f j < f k) → (j k : ℕ) → j < k → place_behind b f j < place_behind b f k
-rises_behind true f up j zero less = absurd (omega (arith, less))
-rises_behind true f up zero (suc k) less = omega arith
-rises_behind true f up (suc j) (suc k) less = let rest = up j k (omega (arith, less)) in omega (arith, rest)
-rises_behind false f up j k less = let rest = up j k less in omega (arith, rest)
+place_behind_rises : (b : Bool) (f : ℕ → ℕ) → ((j k : ℕ) → j < k → f j < f k) → (j k : ℕ) → j < k → place_behind b f j < place_behind b f k
+place_behind_rises true f up j zero less = absurd (omega (arith, less))
+place_behind_rises true f up zero (suc k) less = omega arith
+place_behind_rises true f up (suc j) (suc k) less = let rest = up j k (omega (arith, less)) in omega (arith, rest)
+place_behind_rises false f up j k less = let rest = up j k less in omega (arith, rest)
 
-pub place_rises : (run : List Step) (t j k : ℕ) → j < k → place_in run t j < place_in run t k
-place_rises [] t j k less = less
-place_rises (e ∷ run) t j k less = rises_behind (eqb t e.0) (λ i. place_in run t i) (place_rises run t) j k less
+pub place_in_rises : (run : List Step) (t j k : ℕ) → j < k → place_in run t j < place_in run t k
+place_in_rises [] t j k less = less
+place_in_rises (e ∷ run) t j k less = place_behind_rises (eqb t e.0) (λ i. place_in run t i) (place_in_rises run t) j k less
 
-pub place_keeps_order : (run : List Step) (t j k : ℕ) → j ≤ k → place_in run t j ≤ place_in run t k
-place_keeps_order run t j k low = elim (cases_eq j k) [
+pub place_in_monotone : (run : List Step) (t j k : ℕ) → j ≤ k → place_in run t j ≤ place_in run t k
+place_in_monotone run t j k low = elim (cases_eq j k) [
   | inl same ↦ let equal = ap (place_in run t) same in omega (arith, equal)
-  | inr ne ↦ let rise = place_rises run t j k (omega (arith, low, ne)) in omega (arith, rise)
+  | inr ne ↦ let rise = place_in_rises run t j k (omega (arith, low, ne)) in omega (arith, rise)
 ]
 
 -- ---- steps of different threads have different places
 
-apart_behind : (a b : Bool) (f g : ℕ → ℕ) (m n : ℕ) → (a ≡ true → b ≡ true → ⊥) → ((j k : ℕ) → j < m → k < n → f j ≡ g k → ⊥) → (j k : ℕ)
+place_behind_apart : (a b : Bool) (f g : ℕ → ℕ) (m n : ℕ) → (a ≡ true → b ≡ true → ⊥) → ((j k : ℕ) → j < m → k < n → f j ≡ g k → ⊥) → (j k : ℕ)
     → j < cond a 1 0 + m → k < cond b 1 0 + n → place_behind a f j ≡ place_behind b g k → ⊥
-apart_behind true true f g m n other rest j k jm kn same = other refl refl
-apart_behind true false f g m n other rest zero k jm kn same = omega (arith, same)
-apart_behind true false f g m n other rest (suc j) k jm kn same = rest j k (omega (arith, jm)) (omega (arith, kn)) (omega (arith, same))
-apart_behind false true f g m n other rest j zero jm kn same = omega (arith, same)
-apart_behind false true f g m n other rest j (suc k) jm kn same = rest j k (omega (arith, jm)) (omega (arith, kn)) (omega (arith, same))
-apart_behind false false f g m n other rest j k jm kn same = rest j k (omega (arith, jm)) (omega (arith, kn)) (omega (arith, same))
+place_behind_apart true true f g m n other rest j k jm kn same = other refl refl
+place_behind_apart true false f g m n other rest zero k jm kn same = omega (arith, same)
+place_behind_apart true false f g m n other rest (suc j) k jm kn same = rest j k (omega (arith, jm)) (omega (arith, kn)) (omega (arith, same))
+place_behind_apart false true f g m n other rest j zero jm kn same = omega (arith, same)
+place_behind_apart false true f g m n other rest j (suc k) jm kn same = rest j k (omega (arith, jm)) (omega (arith, kn)) (omega (arith, same))
+place_behind_apart false false f g m n other rest j k jm kn same = rest j k (omega (arith, jm)) (omega (arith, kn)) (omega (arith, same))
 
-pub places_are_apart : (run : List Step) (t u j k : ℕ) → t ≢ u → j < taken_in run t → k < taken_in run u → place_in run t j ≡ place_in run u k → ⊥
-places_are_apart [] t u j k ne jm kn same = omega (arith, jm)
-places_are_apart (e ∷ run) t u j k ne jm kn same =
-    apart_behind (eqb t e.0) (eqb u e.0) (λ i. place_in run t i) (λ i. place_in run u i) (taken_in run t) (taken_in run u)
-    (λ is_t is_u. ne (eqb_is_eq t e.0 is_t ∙ sym (eqb_is_eq u e.0 is_u))) (λ i l. places_are_apart run t u i l ne) j k jm kn same
+pub place_in_apart : (run : List Step) (t u j k : ℕ) → t ≢ u → j < taken_in run t → k < taken_in run u → place_in run t j ≡ place_in run u k → ⊥
+place_in_apart [] t u j k ne jm kn same = omega (arith, jm)
+place_in_apart (e ∷ run) t u j k ne jm kn same =
+    place_behind_apart (eqb t e.0) (eqb u e.0) (λ i. place_in run t i) (λ i. place_in run u i) (taken_in run t) (taken_in run u)
+    (λ is_t is_u. ne (eqb_is_eq t e.0 is_t ∙ sym (eqb_is_eq u e.0 is_u))) (λ i l. place_in_apart run t u i l ne) j k jm kn same
   where
     eqb_is_eq : (a b : ℕ) → eqb a b ≡ true → a ≡ b
     eqb_is_eq a b is = elim (cases_eq a b) [
@@ -74,33 +74,33 @@ places_are_apart (e ∷ run) t u j k ne jm kn same =
 
 -- ---- the first steps of a run
 
-within_behind : (b : Bool) (f : ℕ → ℕ) (n m : ℕ) → ((k : ℕ) → k < m → f k < n) → (k : ℕ) → k < cond b 1 0 + m → place_behind b f k < suc n
-within_behind true f n m rest zero less = omega arith
-within_behind true f n m rest (suc k) less = let low = rest k (omega (arith, less)) in omega (arith, low)
-within_behind false f n m rest k less = let low = rest k (omega (arith, less)) in omega (arith, low)
+place_behind_within : (b : Bool) (f : ℕ → ℕ) (n m : ℕ) → ((k : ℕ) → k < m → f k < n) → (k : ℕ) → k < cond b 1 0 + m → place_behind b f k < suc n
+place_behind_within true f n m rest zero less = omega arith
+place_behind_within true f n m rest (suc k) less = let low = rest k (omega (arith, less)) in omega (arith, low)
+place_behind_within false f n m rest k less = let low = rest k (omega (arith, less)) in omega (arith, low)
 
 pub taken_step_is_within : (run : List Step) (n t k : ℕ) → k < taken_in (take n run) t → place_in run t k < n
 taken_step_is_within [] zero t k less = absurd (omega (arith, less))
 taken_step_is_within [] (suc n) t k less = absurd (omega (arith, less))
 taken_step_is_within (e ∷ run) zero t k less = absurd (omega (arith, less))
 taken_step_is_within (e ∷ run) (suc n) t k less =
-    within_behind (eqb t e.0) (λ i. place_in run t i) n (taken_in (take n run) t) (λ i. taken_step_is_within run n t i) k less
+    place_behind_within (eqb t e.0) (λ i. place_in run t i) n (taken_in (take n run) t) (λ i. taken_step_is_within run n t i) k less
 
-taken_behind : (b : Bool) (f : ℕ → ℕ) (n m l : ℕ) → ((k : ℕ) → k < l → f k < n → k < m) → (k : ℕ) → k < cond b 1 0 + l → place_behind b f k < suc n
+taken_behind_within : (b : Bool) (f : ℕ → ℕ) (n m l : ℕ) → ((k : ℕ) → k < l → f k < n → k < m) → (k : ℕ) → k < cond b 1 0 + l → place_behind b f k < suc n
     → k < cond b 1 0 + m
-taken_behind true f n m l rest zero within less = omega arith
-taken_behind true f n m l rest (suc k) within less = let low = rest k (omega (arith, within)) (omega (arith, less)) in omega (arith, low)
-taken_behind false f n m l rest k within less = let low = rest k (omega (arith, within)) (omega (arith, less)) in omega (arith, low)
+taken_behind_within true f n m l rest zero within less = omega arith
+taken_behind_within true f n m l rest (suc k) within less = let low = rest k (omega (arith, within)) (omega (arith, less)) in omega (arith, low)
+taken_behind_within false f n m l rest k within less = let low = rest k (omega (arith, within)) (omega (arith, less)) in omega (arith, low)
 
 pub step_within_is_taken : (run : List Step) (n t k : ℕ) → k < taken_in run t → place_in run t k < n → k < taken_in (take n run) t
 step_within_is_taken [] n t k within less = absurd (omega (arith, within))
 step_within_is_taken (e ∷ run) zero t k within less = absurd (omega (arith, less))
 step_within_is_taken (e ∷ run) (suc n) t k within less =
-    taken_behind (eqb t e.0) (λ i. place_in run t i) n (taken_in (take n run) t) (taken_in run t) (λ i. step_within_is_taken run n t i) k within less
+    taken_behind_within (eqb t e.0) (λ i. place_in run t i) n (taken_in (take n run) t) (taken_in run t) (λ i. step_within_is_taken run n t i) k within less
 
 -- a run is its first steps, and the rest
-pub run_is_parted : {X : Type 0} (run : List X) (n : ℕ) → take n run ++ drop n run ≡ run
-run_is_parted [] zero = refl
-run_is_parted [] (suc n) = refl
-run_is_parted (x ∷ run) zero = refl
-run_is_parted (x ∷ run) (suc n) = ap (λ z. x ∷ z) (run_is_parted run n)
+pub run_is_take_and_drop : {X : Type 0} (run : List X) (n : ℕ) → take n run ++ drop n run ≡ run
+run_is_take_and_drop [] zero = refl
+run_is_take_and_drop [] (suc n) = refl
+run_is_take_and_drop (x ∷ run) zero = refl
+run_is_take_and_drop (x ∷ run) (suc n) = ap (λ z. x ∷ z) (run_is_take_and_drop run n)

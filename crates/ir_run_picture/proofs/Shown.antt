@@ -13,45 +13,45 @@ use Rattle.ir_picture.specs.Boxing.{AreSomeBoxes}
 use Rattle.ir_picture.specs.Placing.{events_of_all}
 use Rattle.ir_picture.specs.Boxes.{IsInBox, IsBox}
 use Rattle.ir_picture.specs.Shown.{StartsAt, AreShown}
-use Rattle.ir_picture.specs.Progress.{data_head, stale_head, IsOf}
+use Rattle.ir_picture.specs.Progress.{data_head, stale_head, IsOfPicture}
 use Rattle.ir_picture.specs.declared.asked.Around.{Around}
 use Rattle.ir_picture.specs.declared.event_box.EventBox.{EventBox}
 use Rattle.ir_picture.specs.declared.placed_box.Point.{Point}
 use Rattle.ir_picture.specs.declared.placed_box.PlacedBox.{PlacedBox}
-use Rattle.ir_picture.proofs.CallerLemmas.{four_parts_are_framed_text, data_parts_regroup_with_end, data_parts_regroup_before_last_text, shown_of_some_boxes_are_some_boxes, slice_get_of_map, slice_get_of_map_inverse}
+use Rattle.ir_picture.proofs.CallerLemmas.{four_parts_framed, data_parts_with_end, data_parts_before_last, shown_of_some_boxes, slice_get_of_map, slice_get_map_inverse}
 use Rattle.ir_run_picture.specs.Brief.{IsRunBox, AreRunBoxes}
 use Rattle.ir_run_picture.specs.Held.{AreHeld, HaveHeld}
 use Rattle.ir_run_picture.specs.Resting.{resting_writes, stale_of_rests}
 use Rattle.ir_run_picture.proofs.Kept.{kept_writes_are_rising}
-use Rattle.ir_picture.specs.Answers.{page_head, page_tail, IsThere, most_boxes}
+use Rattle.ir_picture.specs.Answers.{page_head, page_tail, IsThereIn, most_boxes}
 use Rattle.ir_picture.specs.Numbers.{rows_from, named_list, data_start, thread_list}
 use Rattle.ir_picture.specs.declared.asked.Form.TheVariants as form
 use Rattle.ir_files.specs.declared.exit_status.ExitStatus.TheVariants as status
 use Rattle.ir_picture.specs.declared.asked.Asked.{Asked}
 use Rattle.ir_picture.specs.declared.picture.Picture.{Picture}
-use Rattle.ir_run_picture.specs.Numbers.{drawn_row, resting_row, data_rows, run_data_text}
+use Rattle.ir_run_picture.specs.Numbers.{drawn_row, resting_row, run_data_rows, run_data_text}
 use Rattle.ir_run_picture.specs.Steps.{AreDrawn}
 use Rattle.ir_run_picture.specs.declared.drawn.Drawn.{Drawn}
 use Rattle.ir_run_picture.specs.Answers.{IsRunPicture, IsFormOfRun, IsRunAnswer, IsRunViewAnswer}
 use Rattle.ir_run_picture.specs.declared.resting.Resting.{Resting}
 
 -- the answer about a run is one about its bytes
-pub run_answer_is_view_answer : (asked : Asked) (f : FittedTrace) (s : ExitStatus) (text image trace : List ℕ) → IsFit image trace f → IsThere f.recorded asked.around
+pub run_answer_is_view : (asked : Asked) (f : FittedTrace) (s : ExitStatus) (text image trace : List ℕ) → IsFit image trace f → IsThereIn f.recorded asked.around
     → IsRunAnswer asked f s text → IsRunViewAnswer asked image trace s text
-run_answer_is_view_answer asked f s text image trace fits there answer = inl (record { fitted = f; fits = fits; there = there; answer = answer })
+run_answer_is_view asked f s text image trace fits there answer = inl (record { fitted = f; fits = fits; there = there; answer = answer })
 
 -- a form of its picture is one
-pub picture_form_is_run_answer : (asked : Asked) (f : FittedTrace) (s : ExitStatus) (text : List ℕ) (p : Picture) (kept : List Resting)
+pub picture_form_is_answer : (asked : Asked) (f : FittedTrace) (s : ExitStatus) (text : List ℕ) (p : Picture) (kept : List Resting)
     → IsRunPicture f asked.around p kept → IsFormOfRun asked.form f asked.around p kept s text → IsRunAnswer asked f s text
-picture_form_is_run_answer asked f s text p kept drawn is = record { picture = p; kept = kept; drawn = drawn; form = is }
+picture_form_is_answer asked f s text p kept drawn is = record { picture = p; kept = kept; drawn = drawn; form = is }
 
 -- a box of a run is one of its trace
 pub run_box_is_box : (f : FittedTrace) (b : EventBox) → IsRunBox f b → IsBox f.recorded b
 run_box_is_box f b is = record { thread = is.thread; some = is.some; within = is.within; folds = λ i from below. (is.folds i from below).folded }
 
 -- the boxes of a run are boxes of its trace in their order
-pub run_boxes_are_some_boxes : (f : FittedTrace) (boxes : List EventBox) → AreRunBoxes f boxes → AreSomeBoxes f.recorded boxes
-run_boxes_are_some_boxes f boxes are = record {
+pub run_has_some_boxes : (f : FittedTrace) (boxes : List EventBox) → AreRunBoxes f boxes → AreSomeBoxes f.recorded boxes
+run_has_some_boxes f boxes are = record {
   each = λ k b at. run_box_is_box f b (are.each k b at);
   apart = λ k m a b less at_k at_m. elim (are.rising k m a b less at_k at_m) [
     | inl thread ↦ inl thread
@@ -68,11 +68,11 @@ run_boxes_are_some_boxes f boxes are = record {
 }
 
 -- an event of a run that is there is in a box, which starts somewhere
-pub start_of_run_event_exists : (f : FittedTrace) (boxes : List PlacedBox) (t i : ℕ) → AreRunBoxes f (events_of_all boxes)
+pub run_event_start_exists : (f : FittedTrace) (boxes : List PlacedBox) (t i : ℕ) → AreRunBoxes f (events_of_all boxes)
     → i < length (recorded_thread f.recorded t).events → (x : ℕ) × StartsAt boxes t i x
-start_of_run_event_exists f boxes t i are within =
+run_event_start_exists f boxes t i are within =
     let h = are.all t i within in
-    let back = slice_get_of_map_inverse (λ (z : PlacedBox). z.events) boxes h.number h.box h.there in (
+    let back = slice_get_map_inverse (λ (z : PlacedBox). z.events) boxes h.number h.box h.there in (
       back.0.start.x,
       record {
         number = h.number;
@@ -84,12 +84,12 @@ start_of_run_event_exists f boxes t i are within =
     )
 
 -- the boxes of a run with the stale writes that rest on their reads
-pub held_picture_is_run_picture : (f : FittedTrace) (near : Option Around) (all : List PlacedBox) (ends : List Point) (q : Picture) (rows : List StaleWrite)
+pub held_is_run_picture : (f : FittedTrace) (near : Option Around) (all : List PlacedBox) (ends : List Point) (q : Picture) (rows : List StaleWrite)
     (rests : List (Option Rest)) (kept : List Resting) → HaveHeld f all ends → AreShown all near q.boxes.items → q.ends.items ≡ ends → AreStaleWrites f.recorded rows
-    → AreRests f rows rests → kept ≡ resting_writes q.boxes.items rows rests → q.stale.items ≡ stale_of_rests kept → IsRunPicture f near q kept × IsOf f.recorded q
-held_picture_is_run_picture f near all ends q rows rests kept have shown last are found same stale =
+    → AreRests f rows rests → kept ≡ resting_writes q.boxes.items rows rests → q.stale.items ≡ stale_of_rests kept → IsRunPicture f near q kept × IsOfPicture f.recorded q
+held_is_run_picture f near all ends q rows rests kept have shown last are found same stale =
     let held = have.1 in
-    let some = shown_of_some_boxes_are_some_boxes f.recorded all q.boxes.items near (run_boxes_are_some_boxes f (events_of_all all) held.all) shown in (
+    let some = shown_of_some_boxes f.recorded all q.boxes.items near (run_has_some_boxes f (events_of_all all) held.all) shown in (
       record {
         all = all;
         spans = have.0;
@@ -113,48 +113,48 @@ held_picture_is_run_picture f near all ends q rows rests kept have shown last ar
 -- ---- data in a frame
 
 -- its four parts
-pub framed_parts_are_data_rows : (f : FittedTrace) (near : Option Around) (p : Picture) (drawn : List Drawn) (kept : List Resting) (first a d before after : List ℕ)
+pub framed_parts_are_rows : (f : FittedTrace) (near : Option Around) (p : Picture) (drawn : List Drawn) (kept : List Resting) (first a d before after : List ℕ)
     (r : Recorded) (ends : List Point) → a ≡ first ++ data_head true r near ends → first ≡ before → r ≡ f.recorded → ends ≡ p.ends.items → d ≡ after
-    → ((a ++ rows_from (drawn_row f) 0 drawn) ++ (stale_head ++ rows_from resting_row 0 kept)) ++ d ≡ before ++ (data_rows f near p drawn kept ++ after)
-framed_parts_are_data_rows f near p drawn kept first a d before after r ends begins same_first same same_ends closes =
-    four_parts_are_framed_text a (rows_from (drawn_row f) 0 drawn) (stale_head ++ rows_from resting_row 0 kept) d before (data_head true f.recorded near p.ends.items) after
+    → ((a ++ rows_from (drawn_row f) 0 drawn) ++ (stale_head ++ rows_from resting_row 0 kept)) ++ d ≡ before ++ (run_data_rows f near p drawn kept ++ after)
+framed_parts_are_rows f near p drawn kept first a d before after r ends begins same_first same same_ends closes =
+    four_parts_framed a (rows_from (drawn_row f) 0 drawn) (stale_head ++ rows_from resting_row 0 kept) d before (data_head true f.recorded near p.ends.items) after
     (begins ∙ (λ i. same_first i ++ data_head true (same i) near (same_ends i))) closes
 
 -- the data with its end, and a text after it
-pub ended_data_rows_are_text : (f : FittedTrace) (near : Option Around) (p : Picture) (drawn : List Drawn) (kept : List Resting) (last : List ℕ)
-    → data_rows f near p drawn kept ++ (codes "\n]}" ++ last) ≡ run_data_text f near p drawn kept ++ last
-ended_data_rows_are_text f near p drawn kept last =
-    data_parts_regroup_with_end (data_start true f.recorded near) (thread_list f.recorded p.ends.items) (codes ",\"boxes\":[") (rows_from (drawn_row f) 0 drawn)
+pub ended_rows_are_text : (f : FittedTrace) (near : Option Around) (p : Picture) (drawn : List Drawn) (kept : List Resting) (last : List ℕ)
+    → run_data_rows f near p drawn kept ++ (codes "\n]}" ++ last) ≡ run_data_text f near p drawn kept ++ last
+ended_rows_are_text f near p drawn kept last =
+    data_parts_with_end (data_start true f.recorded near) (thread_list f.recorded p.ends.items) (codes ",\"boxes\":[") (rows_from (drawn_row f) 0 drawn)
     (codes "\n]") (codes ",\"stale\":[") (rows_from resting_row 0 kept) (codes "}" ++ last)
-    ∙ data_parts_regroup_before_last_text (data_start true f.recorded near) (thread_list f.recorded p.ends.items) (named_list (codes ",\"boxes\":[") (drawn_row f) drawn)
+    ∙ data_parts_before_last (data_start true f.recorded near) (thread_list f.recorded p.ends.items) (named_list (codes ",\"boxes\":[") (drawn_row f) drawn)
     (named_list (codes ",\"stale\":[") resting_row kept) (codes "}") last
 
 -- in a frame of its own it is the data of the picture
-pub framed_rows_are_data_form : (f : FittedTrace) (near : Option Around) (p : Picture) (drawn : List Drawn) (kept : List Resting) (before after : List ℕ)
+pub framed_run_rows_data : (f : FittedTrace) (near : Option Around) (p : Picture) (drawn : List Drawn) (kept : List Resting) (before after : List ℕ)
     → AreDrawn f p.boxes.items drawn → before ≡ [] → after ≡ codes "\n]}\n"
-    → IsFormOfRun form.Data f near p kept status.Done (before ++ (data_rows f near p drawn kept ++ after))
-framed_rows_are_data_form f near p drawn kept before after are none ends = (
+    → IsFormOfRun form.Data f near p kept status.Done (before ++ (run_data_rows f near p drawn kept ++ after))
+framed_run_rows_data f near p drawn kept before after are none ends = (
   refl,
   (
     run_data_text f near p drawn kept,
     record { drawn = drawn; are = are; lines = refl },
-    ap (λ (x : List ℕ). x ++ (data_rows f near p drawn kept ++ after)) none ∙ ap (λ (x : List ℕ). data_rows f near p drawn kept ++ x) ends
-        ∙ ended_data_rows_are_text f near p drawn kept (10 ∷ []),
+    ap (λ (x : List ℕ). x ++ (run_data_rows f near p drawn kept ++ after)) none ∙ ap (λ (x : List ℕ). run_data_rows f near p drawn kept ++ x) ends
+        ∙ ended_rows_are_text f near p drawn kept (10 ∷ []),
   ),
 )
 
 -- in that of a page it is the page of the picture
-pub framed_rows_are_page_form : (f : FittedTrace) (near : Option Around) (p : Picture) (drawn : List Drawn) (kept : List Resting) (before after : List ℕ)
+pub framed_run_rows_page : (f : FittedTrace) (near : Option Around) (p : Picture) (drawn : List Drawn) (kept : List Resting) (before after : List ℕ)
     → AreDrawn f p.boxes.items drawn → length p.boxes.items ≤ most_boxes → before ≡ page_head → after ≡ codes "\n]}" ++ page_tail
-    → IsFormOfRun form.Page f near p kept status.Done (before ++ (data_rows f near p drawn kept ++ after))
-framed_rows_are_page_form f near p drawn kept before after are fits begins ends = inl (
+    → IsFormOfRun form.Page f near p kept status.Done (before ++ (run_data_rows f near p drawn kept ++ after))
+framed_run_rows_page f near p drawn kept before after are fits begins ends = inl (
   fits,
   refl,
   record {
     text = run_data_text f near p drawn kept;
     is = record { drawn = drawn; are = are; lines = refl };
-    lines = ap (λ (x : List ℕ). x ++ (data_rows f near p drawn kept ++ after)) begins
-        ∙ ap (λ (x : List ℕ). page_head ++ (data_rows f near p drawn kept ++ x)) ends
-        ∙ ap (λ (x : List ℕ). page_head ++ x) (ended_data_rows_are_text f near p drawn kept page_tail);
+    lines = ap (λ (x : List ℕ). x ++ (run_data_rows f near p drawn kept ++ after)) begins
+        ∙ ap (λ (x : List ℕ). page_head ++ (run_data_rows f near p drawn kept ++ x)) ends
+        ∙ ap (λ (x : List ℕ). page_head ++ x) (ended_rows_are_text f near p drawn kept page_tail);
   },
 )

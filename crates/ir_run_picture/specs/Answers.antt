@@ -15,7 +15,7 @@ use Rattle.ir_stale_run.specs.Rests.{AreRests}
 use Rattle.ir_stale_run.specs.declared.rest.Rest.{Rest}
 use Rattle.ir_picture.specs.Shown.{AreShown}
 use Rattle.ir_picture.specs.Chrome.{IsChromeAnswer}
-use Rattle.ir_picture.specs.Answers.{IsThere, IsAbsent, page_of, many_line, most_boxes}
+use Rattle.ir_picture.specs.Answers.{IsThereIn, IsAbsent, page_of_picture, many_line, most_boxes}
 use Rattle.ir_picture.specs.declared.asked.Around.{Around}
 use Rattle.ir_picture.specs.declared.asked.Form.{Form}
 use Rattle.ir_picture.specs.declared.asked.Form.TheVariants as form
@@ -54,15 +54,15 @@ pub record IsData (f : FittedTrace) (near : Option Around) (p : Picture) (kept :
   pub lines : text ≡ run_data_text f near p drawn kept
 
 -- the page of a picture
-pub record IsPage (f : FittedTrace) (near : Option Around) (p : Picture) (kept : List Resting) (whole : List ℕ) : Type 0 where
+pub record IsRunPage (f : FittedTrace) (near : Option Around) (p : Picture) (kept : List Resting) (whole : List ℕ) : Type 0 where
   pub text : List ℕ
   pub is : IsData f near p kept text
-  pub lines : whole ≡ page_of text
+  pub lines : whole ≡ page_of_picture text
 
 -- a picture in a form
 abbrev pub IsFormOfRun : Form → FittedTrace → Option Around → Picture → List Resting → ExitStatus → List ℕ → Type 0
 IsFormOfRun form.Page f near p kept answered text =
-    ((length p.boxes.items ≤ most_boxes) × (answered ≡ status.Done) × IsPage f near p kept text)
+    ((length p.boxes.items ≤ most_boxes) × (answered ≡ status.Done) × IsRunPage f near p kept text)
     ⊎ ((most_boxes < length p.boxes.items) × (answered ≡ status.NotFit) × (text ≡ many_line (length p.boxes.items)))
 IsFormOfRun form.Data f near p kept answered text =
     (answered ≡ status.Done) × ((lines : List ℕ) × IsData f near p kept lines × (text ≡ lines ++ 10 ∷ []))
@@ -79,7 +79,7 @@ pub record IsRunAnswer (asked : Asked) (f : FittedTrace) (answered : ExitStatus)
 pub record IsPictureOfFit (asked : Asked) (image trace : List ℕ) (answered : ExitStatus) (text : List ℕ) : Type 0 where
   pub fitted : FittedTrace
   pub fits : IsFit image trace fitted
-  pub there : IsThere fitted.recorded asked.around
+  pub there : IsThereIn fitted.recorded asked.around
   pub answer : IsRunAnswer asked fitted answered text
 
 -- the answer about the bytes of an image and of a trace

@@ -5,7 +5,7 @@ use Rattle.ir_fit.specs.Fit.{FittedTrace}
 use Rattle.ir_trace.specs.Recorded.{recorded_thread}
 use Rattle.ir_coherence.specs.Before.{IsBefore}
 use Rattle.ir_picture.specs.Boxes.{IsInBox, HasBox}
-use Rattle.ir_picture.specs.Boxing.{EndsBy, AreApart, HasLast}
+use Rattle.ir_picture.specs.Boxing.{EndsBy, AreBoxesApart, HasLastBox}
 use Rattle.ir_picture.specs.declared.event_box.EventBox.{EventBox}
 use Rattle.ir_run_picture.specs.Brief.{AreFoldedIn, IsRunBox}
 
@@ -19,7 +19,7 @@ pub record RunBoxedBefore (f : FittedTrace) (t n : ℕ) (boxes : List EventBox) 
   pub each : (k : ℕ) (b : EventBox) → slice_get boxes k ≡ Some b → IsRunBox f b
   pub before : (k : ℕ) (b : EventBox) → slice_get boxes k ≡ Some b → EndsBy b t n
   pub all : (u i : ℕ) → i < length (recorded_thread f.recorded u).events → IsBefore u i t n → HasBox boxes u i
-  pub apart : AreApart boxes
+  pub apart : AreBoxesApart boxes
   pub joined : (k u i : ℕ) (b : EventBox) → slice_get boxes k ≡ Some b → IsInBox b u i → AreFoldedIn f u i (suc i) → IsBefore u (suc i) t n
       → IsInBox b u (suc i)
-  pub last : HasLast boxes t n
+  pub last : HasLastBox boxes t n

@@ -4,14 +4,14 @@ use Rattle.std.specs.List.{slice_get}
 use Rattle.ir_fit.specs.Fit.{FittedTrace}
 use Rattle.ir_trace.specs.Recorded.{recorded_thread}
 use Rattle.ir_coherence.specs.Before.{IsBefore}
-use Rattle.ir_events.specs.Events.{entries_of, entry_of}
+use Rattle.ir_events.specs.Events.{entries_of, event_entry}
 use Rattle.ir_opened.specs.Positions.{IsLeaveOf}
 use Rattle.ir_picture.specs.Boxes.{AreFolded, IsInBox, HasBox}
 use Rattle.ir_picture.specs.declared.event_box.EventBox.{EventBox}
 
 -- thread t leaves what its event i entered, if that is an entry, before it logs another event
 abbrev pub IsBrief : FittedTrace → ℕ → ℕ → Type 0
-IsBrief f t i = (k : ℕ) → IsLeaveOf f t i k → suc i < length (entries_of f t) → k < entry_of f t (suc i)
+IsBrief f t i = (k : ℕ) → IsLeaveOf f t i k → suc i < length (entries_of f t) → k < event_entry f t (suc i)
 
 -- these two events of thread t belong into one box of a run: they are folded, and nothing is held over another event
 pub record AreFoldedIn (f : FittedTrace) (t i j : ℕ) : Type 0 where

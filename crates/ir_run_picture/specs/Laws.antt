@@ -4,13 +4,13 @@ use Rattle.std.specs.List.{slice_get}
 use Rattle.ir_runs.specs.Run.{Step}
 use Rattle.ir_fit.specs.Fit.{FittedTrace, HasRun, IsRunOf}
 use Rattle.ir_cut.specs.Positions.{EachRun, cut_of, last_of, threads_of, IsConsistentCut}
-use Rattle.ir_events.specs.Events.{entry_of}
+use Rattle.ir_events.specs.Events.{event_entry}
 use Rattle.ir_opened.specs.Positions.{IsInside, IsLeaveOf}
 use Rattle.ir_picture.specs.Needs.{Needs}
 use Rattle.ir_picture.specs.Shown.{StartsAt}
 use Rattle.ir_picture.specs.declared.placed_box.Point.{Point}
 use Rattle.ir_picture.specs.declared.placed_box.PlacedBox.{PlacedBox}
-use Rattle.ir_holds.specs.Spans.{IsOver, AreRows}
+use Rattle.ir_holds.specs.Spans.{IsOverSpan, AreRows}
 use Rattle.ir_run_picture.specs.Held.{AreHeld}
 use Rattle.ir_holds.specs.declared.span.Span.{Span}
 
@@ -26,7 +26,7 @@ pub record NeedsBehind (f : FittedTrace) (t i u k : ℕ) : Type 0 where
   pub needs : NeedsLeave f t i u leave
   pub other : u ≢ t
   pub inside : IsInside f u k
-  pub before : entry_of f u k < leave
+  pub before : event_entry f u k < leave
 
 -- number n of a run is step k of thread t
 pub record IsStepAt (run : List Step) (n t k : ℕ) : Type 0 where
@@ -54,12 +54,12 @@ pub record IsCutAt (f : FittedTrace) (boxes : List PlacedBox) (spans : List Span
 -- the law: in each run with the trace what an event needs behind a leave comes before the event
 abbrev pub BehindComesFirst : Type 0
 BehindComesFirst = (f : FittedTrace) → HasRun f → (t i u k : ℕ) → NeedsBehind f t i u k
-    → EachRun f (λ run. (m n : ℕ) → IsStepAt run m u (entry_of f u k) → IsStepAt run n t (entry_of f t i) → m < n)
+    → EachRun f (λ run. (m n : ℕ) → IsStepAt run m u (event_entry f u k) → IsStepAt run n t (event_entry f t i) → m < n)
 
 -- the law: a consistent cut that has the step of an event has what the event needs behind a leave
 abbrev pub BehindIsInCut : Type 0
 BehindIsInCut = (f : FittedTrace) → HasRun f → (t i u k : ℕ) → NeedsBehind f t i u k → (cut : List ℕ) → IsConsistentCut f cut
-    → entry_of f t i < cut_of cut t → entry_of f u k < cut_of cut u
+    → event_entry f t i < cut_of cut t → event_entry f u k < cut_of cut u
 
 -- the law: what an event needs behind a leave is drawn further left than the event
 abbrev pub BehindIsLeft : Type 0
@@ -89,4 +89,4 @@ RightIsAnOrder = (f : FittedTrace) → HasRun f → (boxes : List PlacedBox) (sp
 -- the law: two boxes of a thread that have the same row don't overlap
 abbrev pub RowsDontOverlap : Type 0
 RowsDontOverlap = (spans : List Span) (rows : List ℕ) → AreRows spans rows → (m n y : ℕ) (a b : Span) → m < n → slice_get spans m ≡ Some a → slice_get spans n ≡ Some b
-    → slice_get rows m ≡ Some y → slice_get rows n ≡ Some y → IsOver a b → ⊥
+    → slice_get rows m ≡ Some y → slice_get rows n ≡ Some y → IsOverSpan a b → ⊥

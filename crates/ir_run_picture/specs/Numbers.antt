@@ -2,7 +2,7 @@
 use Rattle.std.specs.Prelude.{ℕ, true, nat_lt, if◌then◌else◌, List, ◌++◌, codes, decimal, length, Option, Some, None}
 use Rattle.ir_log.specs.declared.event.Event.{Event}
 use Rattle.ir_fit.specs.Fit.{FittedTrace}
-use Rattle.ir_events.specs.Events.{entry_of}
+use Rattle.ir_events.specs.Events.{event_entry}
 use Rattle.ir_stale_run.specs.declared.reason.Reason.{Reason}
 use Rattle.ir_stale_run.specs.declared.reason.Reason.TheVariants.{Value, Way}
 use Rattle.ir_stale_run.specs.declared.rest.Rest.{Rest}
@@ -20,7 +20,7 @@ last_number (Some k) = comma k
 
 -- the steps of a box that begins with event i of thread t
 abbrev pub step_numbers : FittedTrace → ℕ → ℕ → Option ℕ → List ℕ
-step_numbers f t i last = comma (entry_of f t i) ++ last_number last
+step_numbers f t i last = comma (event_entry f t i) ++ last_number last
 
 -- what a row ends with: the steps of a box of one event; of a fold that it has none, and what it reads
 abbrev pub row_end : FittedTrace → List Event → Drawn → List ℕ
@@ -51,6 +51,6 @@ run_data_text f near p drawn kept =
     ++ (named_list (codes ",\"stale\":[") resting_row kept ++ codes "}")))
 
 -- the data up to its end, after the rows of the stale writes
-abbrev pub data_rows : FittedTrace → Option Around → Picture → List Drawn → List Resting → List ℕ
-data_rows f near p drawn kept =
+abbrev pub run_data_rows : FittedTrace → Option Around → Picture → List Drawn → List Resting → List ℕ
+run_data_rows f near p drawn kept =
     data_head true f.recorded near p.ends.items ++ (rows_from (drawn_row f) 0 drawn ++ (stale_head ++ rows_from resting_row 0 kept))

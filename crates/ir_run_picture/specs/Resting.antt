@@ -14,13 +14,13 @@ kept_if shown (Some x) None = []
 kept_if shown (Some x) (Some r) = if is_shown shown x then (record { write = x; rest = r }) ∷ [] else []
 
 -- of the first n stale writes those
-unfoldable pub first_kept : List PlacedBox → List StaleWrite → List (Option Rest) → ℕ → List Resting
-first_kept shown rows rests zero = []
-first_kept shown rows rests (suc n) = first_kept shown rows rests n ++ kept_if shown (slice_get rows n) (slice_index_or rests n None)
+unfoldable pub first_resting : List PlacedBox → List StaleWrite → List (Option Rest) → ℕ → List Resting
+first_resting shown rows rests zero = []
+first_resting shown rows rests (suc n) = first_resting shown rows rests n ++ kept_if shown (slice_get rows n) (slice_index_or rests n None)
 
 -- the stale writes that rest on their reads and are shown where these boxes are, with how they rest
 abbrev pub resting_writes : List PlacedBox → List StaleWrite → List (Option Rest) → List Resting
-resting_writes shown rows rests = first_kept shown rows rests (length rows)
+resting_writes shown rows rests = first_resting shown rows rests (length rows)
 
 -- the stale writes alone
 abbrev pub stale_of_rests : List Resting → List StaleWrite

@@ -2,7 +2,7 @@
 use Rattle.std.specs.Prelude.{◌≡◌, ℕ, ◌+◌, ◌-◌, Some}
 use Rattle.ir_fit.specs.Fit.{FittedTrace}
 use Rattle.ir_past.specs.Past.{event_at}
-use Rattle.ir_events.specs.Events.{entry_of}
+use Rattle.ir_events.specs.Events.{event_entry}
 use Rattle.ir_picture.specs.declared.event_box.EventBox.{EventBox}
 use Rattle.ir_run_picture.specs.Steps.{IsLastStep}
 use Rattle.ir_holds.specs.declared.span.Span.{Span}
@@ -14,5 +14,5 @@ last_event b = b.event + (b.count - 1)
 -- a box goes from the step that logs its first event to the last step of its last event
 pub record IsSpan (f : FittedTrace) (b : EventBox) (s : Span) : Type 0 where
   pub thread : s.thread ≡ b.thread
-  pub first : s.first ≡ entry_of f b.thread b.event
+  pub first : s.first ≡ event_entry f b.thread b.event
   pub last : IsLastStep f b.thread (last_event b) (event_at f.recorded b.thread (last_event b)) (Some s.last)

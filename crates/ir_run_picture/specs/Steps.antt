@@ -5,7 +5,7 @@ use Rattle.ir_log.specs.declared.event.Event.{Event}
 use Rattle.ir_log.specs.declared.event.Event.TheVariants.{Answer, Read, Write, Try}
 use Rattle.ir_fit.specs.Fit.{FittedTrace}
 use Rattle.ir_past.specs.Past.{event_at}
-use Rattle.ir_events.specs.Events.{entry_of}
+use Rattle.ir_events.specs.Events.{event_entry}
 use Rattle.ir_opened.specs.Positions.{IsLeft}
 use Rattle.ir_picture.specs.declared.placed_box.PlacedBox.{PlacedBox}
 use Rattle.ir_run_picture.specs.declared.drawn.Drawn.{Drawn}
@@ -13,10 +13,10 @@ use Rattle.ir_run_picture.specs.declared.drawn.Drawn.{Drawn}
 -- the position before the last step of event i of thread t, which is this event: of an entry the step that leaves, of another event its own
 abbrev pub IsLastStep : FittedTrace → ℕ → ℕ → Option Event → Option ℕ → Type 0
 IsLastStep f t i None last = ⊥
-IsLastStep f t i (Some (Answer kind value)) last = last ≡ Some (entry_of f t i)
+IsLastStep f t i (Some (Answer kind value)) last = last ≡ Some (event_entry f t i)
 IsLastStep f t i (Some (Read o v)) last = IsLeft f t i last
 IsLastStep f t i (Some (Write o v readers)) last = IsLeft f t i last
-IsLastStep f t i (Some (Try o)) last = last ≡ Some (entry_of f t i)
+IsLastStep f t i (Some (Try o)) last = last ≡ Some (event_entry f t i)
 
 -- a box with its last step, which is only looked at where the box has one event
 pub record IsDrawn (f : FittedTrace) (b : PlacedBox) (d : Drawn) : Type 0 where

@@ -8,9 +8,9 @@ ghost use Rattle.ir_text.specs.Buffered.{Buffered};
 ghost use Rattle.ir_past.specs.Answers.{Stops};
 ghost use Rattle.ir_picture.specs.Boxes.{IsBox};
 ghost use Rattle.ir_picture.specs.Numbers.{rows_from};
-ghost use Rattle.ir_picture.specs.Progress.{stale_head, IsOf};
+ghost use Rattle.ir_picture.specs.Progress.{stale_head, IsOfPicture};
 ghost use Rattle.ir_run_picture.specs.Steps.{AreDrawn};
-ghost use Rattle.ir_run_picture.specs.Numbers.{drawn_row, resting_row, data_rows};
+ghost use Rattle.ir_run_picture.specs.Numbers.{drawn_row, resting_row, run_data_rows};
 ghost use Rattle.ir_run_picture.specs.declared.drawn.Drawn.{Drawn};
 
 use crate::drawn::Drawn;
@@ -84,11 +84,19 @@ pub fn write_data<O: Sink>(
     out: &mut O,
 ) -> Result<(), PastErr>
     requires works { O.broken out.old ≡ false }
-    requires of_trace { IsOf view.fitted.now.recorded view.picture.now }
+    requires of_trace { IsOfPicture view.fitted.now.recorded view.picture.now }
     requires drawn { AreDrawn view.fitted.now (view.picture.now).boxes.items view.drawn.now }
-    ensures ok { OnOk result (Appends (O.written out.old) (O.written out.new) ((frame.now).before.items ++ (data_rows view.entry.fitted.now view.entry.near.now view.entry.picture.now view.entry.drawn.now view.entry.kept.now ++ (frame.now).after.items))) }
+    ensures ok { OnOk result
+        (Appends (O.written out.old) (O.written out.new)
+        ((frame.now).before.items
+        ++ (run_data_rows view.entry.fitted.now view.entry.near.now view.entry.picture.now view.entry.drawn.now view.entry.kept.now
+        ++ (frame.now).after.items))) }
     ensures works { OnOk result (O.broken out.new ≡ false) }
-    ensures fails { IfErr result (λ e. Stops e (writer_of (O.written out.old) (O.written out.new) (O.broken out.new)) ((frame.now).before.items ++ (data_rows view.entry.fitted.now view.entry.near.now view.entry.picture.now view.entry.drawn.now view.entry.kept.now ++ (frame.now).after.items))) }
+    ensures fails { IfErr result
+        (λ e. Stops e (writer_of (O.written out.old) (O.written out.new) (O.broken out.new))
+        ((frame.now).before.items
+        ++ (run_data_rows view.entry.fitted.now view.entry.near.now view.entry.picture.now view.entry.drawn.now view.entry.kept.now
+        ++ (frame.now).after.items))) }
 {
     let trace = view.fitted.trace();
     let mut text = data_head(

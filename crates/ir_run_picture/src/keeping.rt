@@ -1,9 +1,9 @@
 //! The stale writes that are shown: those that rest on what was read.
 
 ghost use Rattle.std.specs.Prelude.{◌≡◌, ◌++◌, Some, length, IfOk, OnOk};
-ghost use Rattle.ir_picture.specs.Boxing.{AreApart};
+ghost use Rattle.ir_picture.specs.Boxing.{AreBoxesApart};
 ghost use Rattle.ir_picture.specs.Placing.{events_of_all};
-ghost use Rattle.ir_run_picture.specs.Resting.{kept_if, first_kept, resting_writes, stale_of_rests};
+ghost use Rattle.ir_run_picture.specs.Resting.{kept_if, first_resting, resting_writes, stale_of_rests};
 
 use crate::resting::Resting;
 use ir_past::StaleWrite;
@@ -18,7 +18,7 @@ fn keep(
     row: &StaleWrite,
     rest: &Option<Rest>,
 ) -> Result<(), AllocError>
-    requires apart { AreApart (events_of_all boxes.now) }
+    requires apart { AreBoxesApart (events_of_all boxes.now) }
     ensures { OnOk result (kept.new.items ≡ kept.old.items ++ kept_if boxes.now (Some row.now) rest.now) }
 {
     let Some(rest) = rest else {
@@ -43,7 +43,7 @@ pub fn resting_writes(
     rows: &[StaleWrite],
     rests: &[Option<Rest>],
 ) -> Result<Vec<Resting>, AllocError>
-    requires apart { AreApart (events_of_all boxes.now) }
+    requires apart { AreBoxesApart (events_of_all boxes.now) }
     requires size { length rests.now ≡ length rows.now }
     ensures { IfOk result (λ v. v.items ≡ resting_writes boxes.now rows.now rests.now) }
 {

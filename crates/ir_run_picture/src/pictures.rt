@@ -3,8 +3,8 @@
 ghost use Rattle.std.specs.Prelude.{IfOk, IfErr, OnOk};
 ghost use Rattle.ir_past.specs.Answers.{AreCoherent};
 ghost use Rattle.ir_opened.specs.Paired.{ArePaired};
-ghost use Rattle.ir_picture.specs.Progress.{IsOf};
-ghost use Rattle.ir_picture.specs.Answers.{IsThere};
+ghost use Rattle.ir_picture.specs.Progress.{IsOfPicture};
+ghost use Rattle.ir_picture.specs.Answers.{IsThereIn};
 ghost use Rattle.ir_run_picture.specs.Answers.{IsRunPicture, IsRunViewUnsaid};
 ghost use Rattle.ir_run_picture.specs.Brief.{AreRunBoxes};
 ghost use Rattle.ir_run_picture.specs.Spans.{IsSpan};
@@ -66,10 +66,10 @@ fn picture_of_held(
     held: HeldBoxes,
 ) -> Result<RunPicture, AllocError>
     requires coherent { AreCoherent fitted.now.recorded }
-    requires there { IsThere fitted.now.recorded near.now }
+    requires there { IsThereIn fitted.now.recorded near.now }
     requires held { HaveHeld fitted.now held.boxes.items held.ends.items }
     ensures drawn { IfOk result (λ x. IsRunPicture fitted.now near.now x.picture x.kept.items) }
-    ensures of_trace { IfOk result (λ x. IsOf fitted.now.recorded x.picture) }
+    ensures of_trace { IfOk result (λ x. IsOfPicture fitted.now.recorded x.picture) }
 {
     fitted.known();
     let HeldBoxes { boxes, ends } = held;
@@ -92,8 +92,8 @@ fn picture_of_held(
 /// The run has no such event that the part could be around, or out of memory.
 pub fn run_picture_of(alloc: Global, fitted: &Fitted, asked: &Asked) -> Result<RunPicture, ViewErr>
     ensures drawn { IfOk result (λ x. IsRunPicture fitted.now (asked.now).around x.picture x.kept.items) }
-    ensures of_trace { IfOk result (λ x. IsOf fitted.now.recorded x.picture) }
-    ensures there { OnOk result (IsThere fitted.now.recorded (asked.now).around) }
+    ensures of_trace { IfOk result (λ x. IsOfPicture fitted.now.recorded x.picture) }
+    ensures there { OnOk result (IsThereIn fitted.now.recorded (asked.now).around) }
     ensures fails { IfErr result (IsRunViewUnsaid asked.now fitted.now) }
 {
     fitted.known();

@@ -5,7 +5,7 @@ ghost use Rattle.ir_files.specs.Writers.{writer_of, Reports, fault_text};
 ghost use Rattle.ir_files.specs.declared.exit_status.ExitStatus.TheVariants as status;
 ghost use Rattle.ir_past.specs.Answers.{AreCoherent, Answered, NotAnswered};
 ghost use Rattle.ir_opened.specs.Opened.{IsFit};
-ghost use Rattle.ir_picture.specs.Progress.{IsOf};
+ghost use Rattle.ir_picture.specs.Progress.{IsOfPicture};
 ghost use Rattle.ir_picture.specs.Answers.{view_status, view_fault_words};
 ghost use Rattle.ir_picture.specs.declared.asked.Form.TheVariants as form;
 ghost use Rattle.ir_picture.specs.declared.view_err.ViewErr.{ViewErr};
@@ -35,9 +35,13 @@ fn write_page<O: Sink>(
     out: &mut O,
 ) -> Result<ExitStatus, PastErr>
     requires works { O.broken out.old ≡ false }
-    requires of_trace { IsOf fitted.now.recorded (shown.now).picture }
-    ensures ok { IfOk result (λ s. Answered (IsFormOfRun form.Page fitted.now near.now (shown.now).picture (shown.now).kept.items) s (writer_of (O.written out.old) (O.written out.new) (O.broken out.new))) }
-    ensures fails { IfErr result (λ e. NotAnswered (IsFormOfRun form.Page fitted.now near.now (shown.now).picture (shown.now).kept.items) e (writer_of (O.written out.old) (O.written out.new) (O.broken out.new))) }
+    requires of_trace { IsOfPicture fitted.now.recorded (shown.now).picture }
+    ensures ok { IfOk result
+        (λ s. Answered (IsFormOfRun form.Page fitted.now near.now (shown.now).picture (shown.now).kept.items) s
+        (writer_of (O.written out.old) (O.written out.new) (O.broken out.new))) }
+    ensures fails { IfErr result
+        (λ e. NotAnswered (IsFormOfRun form.Page fitted.now near.now (shown.now).picture (shown.now).kept.items) e
+        (writer_of (O.written out.old) (O.written out.new) (O.broken out.new))) }
 {
     let RunPicture { picture, kept } = shown;
     if picture.boxes.len() > MOST_BOXES {
@@ -65,9 +69,13 @@ fn write_plain<O: Sink>(
     out: &mut O,
 ) -> Result<ExitStatus, PastErr>
     requires works { O.broken out.old ≡ false }
-    requires of_trace { IsOf fitted.now.recorded (shown.now).picture }
-    ensures ok { IfOk result (λ s. Answered (IsFormOfRun form.Data fitted.now near.now (shown.now).picture (shown.now).kept.items) s (writer_of (O.written out.old) (O.written out.new) (O.broken out.new))) }
-    ensures fails { IfErr result (λ e. NotAnswered (IsFormOfRun form.Data fitted.now near.now (shown.now).picture (shown.now).kept.items) e (writer_of (O.written out.old) (O.written out.new) (O.broken out.new))) }
+    requires of_trace { IsOfPicture fitted.now.recorded (shown.now).picture }
+    ensures ok { IfOk result
+        (λ s. Answered (IsFormOfRun form.Data fitted.now near.now (shown.now).picture (shown.now).kept.items) s
+        (writer_of (O.written out.old) (O.written out.new) (O.broken out.new))) }
+    ensures fails { IfErr result
+        (λ e. NotAnswered (IsFormOfRun form.Data fitted.now near.now (shown.now).picture (shown.now).kept.items) e
+        (writer_of (O.written out.old) (O.written out.new) (O.broken out.new))) }
 {
     let RunPicture { picture, kept } = shown;
     let drawn = all_drawn(alloc, fitted, &picture.boxes)?;
@@ -93,9 +101,13 @@ fn show_picture<O: Sink>(
 ) -> Result<ExitStatus, PastErr>
     requires works { O.broken out.old ≡ false }
     requires coherent { AreCoherent fitted.now.recorded }
-    requires of_trace { IsOf fitted.now.recorded (shown.now).picture }
-    ensures ok { IfOk result (λ s. Answered (IsFormOfRun (asked.now).form fitted.now (asked.now).around (shown.now).picture (shown.now).kept.items) s (writer_of (O.written out.old) (O.written out.new) (O.broken out.new))) }
-    ensures fails { IfErr result (λ e. NotAnswered (IsFormOfRun (asked.now).form fitted.now (asked.now).around (shown.now).picture (shown.now).kept.items) e (writer_of (O.written out.old) (O.written out.new) (O.broken out.new))) }
+    requires of_trace { IsOfPicture fitted.now.recorded (shown.now).picture }
+    ensures ok { IfOk result
+        (λ s. Answered (IsFormOfRun (asked.now).form fitted.now (asked.now).around (shown.now).picture (shown.now).kept.items) s
+        (writer_of (O.written out.old) (O.written out.new) (O.broken out.new))) }
+    ensures fails { IfErr result
+        (λ e. NotAnswered (IsFormOfRun (asked.now).form fitted.now (asked.now).around (shown.now).picture (shown.now).kept.items) e
+        (writer_of (O.written out.old) (O.written out.new) (O.broken out.new))) }
 {
     match asked.form {
         Form::Page => write_page(alloc, fitted, &asked.around, shown, out),

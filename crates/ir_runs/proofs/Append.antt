@@ -3,15 +3,15 @@ use Rattle.std.proofs.Common.{◌≡◌, ℕ, Bool, true, false, eqb, List, [], 
 use Rattle.ir_runs.specs.Machine.{Machine, Label, Quiet, Answer, EnteredAt, FailedTry, LeftAt, logged}
 use Rattle.ir_runs.specs.Run.{State, Step, after, label, IsRun, end, join_if, trail, events, log}
 
-pub conditional_cons_join_if_of_append : {A : Type 0} (b : Bool) (x : A) (xs ys : List A) → join_if b x (xs ++ ys) ≡ join_if b x xs ++ ys
-conditional_cons_join_if_of_append true x xs ys = refl
-conditional_cons_join_if_of_append false x xs ys = refl
+pub join_if-append : {A : Type 0} (b : Bool) (x : A) (xs ys : List A) → join_if b x (xs ++ ys) ≡ join_if b x xs ++ ys
+join_if-append true x xs ys = refl
+join_if-append false x xs ys = refl
 
 pub trail_append : {T : Type 0} (m : Machine T) (s : State T) (run more : List Step) (t : ℕ)
     → trail m s (run ++ more) t ≡ trail m s run t ++ trail m (end m s run) more t
 trail_append m s [] more t = refl
 trail_append m s (e ∷ run) more t = ap (join_if (eqb t e.0) (s.now t, label m s e)) (trail_append m (after m s e) run more t)
-    ∙ conditional_cons_join_if_of_append (eqb t e.0) (s.now t, label m s e) (trail m (after m s e) run t) (trail m (end m (after m s e) run) more t)
+    ∙ join_if-append (eqb t e.0) (s.now t, label m s e) (trail m (after m s e) run t) (trail m (end m (after m s e) run) more t)
 
 pub append_of_runs_is_run : {T : Type 0} (m : Machine T) (s : State T) (run more : List Step) → IsRun m s run → IsRun m (end m s run) more
     → IsRun m s (run ++ more)

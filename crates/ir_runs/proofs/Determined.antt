@@ -1,5 +1,7 @@
 -- The state at a consistent cut, and that the trace determines it.
-use Rattle.std.proofs.Common.{◌≡◌, ◌≢◌, ℕ, suc, zero, min, ◌+◌, ◌≤◌, Bool, true, false, cond, eqb, List, [], ◌∷◌, ◌++◌, length, take, drop, refl, sym, ap, ◌∙◌, subst, arith, inl, inr, eq-eqb, ne_eqb, le_refl, length-append, length-take, take-append-drop}
+use Rattle.std.proofs.Common.{◌≡◌, ◌≢◌, ℕ, suc, zero, min, ◌+◌, ◌≤◌, Bool, true, false, cond, eqb, List, [], ◌∷◌, ◌++◌, length, take, drop}
+use Rattle.std.proofs.Common.{refl, sym, ap, ◌∙◌, subst, arith, inl, inr, eq-eqb, ne_eqb, le_refl, length-append, length-take}
+use Rattle.std.proofs.Common.{take-append-drop}
 use Rattle.std.proofs.lemmas.Bool.{cases_eq}
 use Rattle.ir_runs.specs.Machine.{Machine, Label}
 use Rattle.ir_runs.specs.Lawful.{IsLawful}
@@ -7,22 +9,22 @@ use Rattle.ir_runs.specs.Run.{State, Step, Can, after, label, IsRun, end, join_i
 use Rattle.ir_runs.specs.Bounds.{IsStart}
 use Rattle.ir_runs.proofs.Good.{StateInvariant}
 use Rattle.ir_runs.proofs.Append.{events_append}
-use Rattle.ir_runs.proofs.Same.{BeginsRun, run_with_beginning_logs_begins_run, SameTrailsAndEnd, same_logs_give_same_trails, thread_after_step_of_other, run_without_counts_is_empty}
-use Rattle.ir_runs.proofs.Sort.{PartIsRun, part_in_consistent_cut_is_run}
+use Rattle.ir_runs.proofs.Same.{BeginsRun, beginning_logs_begin_run, SameTrailsAndEnd, same_logs_same_trails, thread_after_other, no_counts_empty_run}
+use Rattle.ir_runs.proofs.Sort.{PartIsRun, consistent_part_is_run}
 use Rattle.ir_runs.specs.Alike.{SameTrace, SameRun}
 use Rattle.ir_runs.specs.Admitted.{AtCut, further, Admitted}
 
 -- the cuts of two runs with the same trails
-pub consistent_cut_if_same_trails : {T : Type 0} (m : Machine T) (s : State T) (run run' : List Step) → ((u : ℕ) → trail m s run u ≡ trail m s run' u)
+pub same_trails_consistent : {T : Type 0} (m : Machine T) (s : State T) (run run' : List Step) → ((u : ℕ) → trail m s run u ≡ trail m s run' u)
     → (p : Cut) → Consistent m s run p → Consistent m s run' p
-consistent_cut_if_same_trails m s run run' same p c = λ t k u j a b h g n l. c t k u j a b (h.0, subst (λ z. At z k (h.0, a)) (sym (same t)) h.1)
+same_trails_consistent m s run run' same p c = λ t k u j a b h g n l. c t k u j a b (h.0, subst (λ z. At z k (h.0, a)) (sym (same t)) h.1)
     (g.0, subst (λ z. At z j (g.0, b)) (sym (same u)) g.1) n l
 
 -- what the first steps log is a prefix of the log
 -- a part of the run, and then the rest
-pub run_with_taken_trails_begins_run : {T : Type 0} (m : Machine T) → IsLawful m → (s : State T) → StateInvariant m s → (prefix run : List Step) → IsRun m s prefix
+pub taken_trails_begin_run : {T : Type 0} (m : Machine T) → IsLawful m → (s : State T) → StateInvariant m s → (prefix run : List Step) → IsRun m s prefix
     → IsRun m s run → (n : ℕ → ℕ) → ((t : ℕ) → trail m s prefix t ≡ take (n t) (trail m s run t)) → BeginsRun m s prefix run
-run_with_taken_trails_begins_run m law s good prefix run ok ok' n same = run_with_beginning_logs_begins_run m law s good prefix run ok ok' (λ t. events (drop (n t) (trail m s run t)))
+taken_trails_begin_run m law s good prefix run ok ok' n same = beginning_logs_begin_run m law s good prefix run ok ok' (λ t. events (drop (n t) (trail m s run t)))
     (λ t. ap (λ z. events z ++ events (drop (n t) (trail m s run t))) (same t)
     ∙ sym (events_append (take (n t) (trail m s run t)) (drop (n t) (trail m s run t)))
     ∙ ap events (take-append-drop (n t) (trail m s run t)))
@@ -35,22 +37,22 @@ thread_at_position_zero m s (e ∷ run) t = elim (cases_eq t e.0) [
   | inl same ↦ subst (λ b. thread_in (join_if b (s.now t, label m s e) (trail m (after m s e) run t)) 0 ((end m (after m s e) run).now t) ≡
       s.now t) (sym (eq-eqb t e.0 same)) refl
   | inr other ↦ subst (λ b. thread_in (join_if b (s.now t, label m s e) (trail m (after m s e) run t)) 0 ((end m (after m s e) run).now t) ≡
-      s.now t) (sym (ne_eqb t e.0 other)) (thread_at_position_zero m (after m s e) run t ∙ thread_after_step_of_other m s e t other)
+      s.now t) (sym (ne_eqb t e.0 other)) (thread_at_position_zero m (after m s e) run t ∙ thread_after_other m s e t other)
 ]
 
-thread_in_append_at_length : {T : Type 0} (xs ys : List (T × Label)) (k : ℕ) (last : T) → length xs ≡ k
+thread_in_append_at_end : {T : Type 0} (xs ys : List (T × Label)) (k : ℕ) (last : T) → length xs ≡ k
     → thread_in (xs ++ ys) k last ≡ thread_in ys 0 last
-thread_in_append_at_length [] ys zero last h = refl
-thread_in_append_at_length [] ys (suc k) last h = absurd (omega arith)
-thread_in_append_at_length (x ∷ xs) ys zero last h = absurd (omega arith)
-thread_in_append_at_length (x ∷ xs) ys (suc k) last h = thread_in_append_at_length xs ys k last (omega arith)
+thread_in_append_at_end [] ys zero last h = refl
+thread_in_append_at_end [] ys (suc k) last h = absurd (omega arith)
+thread_in_append_at_end (x ∷ xs) ys zero last h = absurd (omega arith)
+thread_in_append_at_end (x ∷ xs) ys (suc k) last h = thread_in_append_at_end xs ys k last (omega arith)
 
 -- the thread at a cut
-thread_at_end_of_beginning : {T : Type 0} (m : Machine T) (s : State T) (prefix run : List Step) → BeginsRun m s prefix run → (t k : ℕ) → count m s prefix t ≡ k
+thread_at_prefix_end : {T : Type 0} (m : Machine T) (s : State T) (prefix run : List Step) → BeginsRun m s prefix run → (t k : ℕ) → count m s prefix t ≡ k
     → (end m s prefix).now t ≡ th m s run t k
-thread_at_end_of_beginning m s prefix run g t k h =
+thread_at_prefix_end m s prefix run g t k h =
     sym (thread_at_position_zero m (end m s prefix) g.rest t)
-    ∙ sym (thread_in_append_at_length (trail m s prefix t) (trail m (end m s prefix) g.rest t) k ((end m (end m s prefix) g.rest).now t) h)
+    ∙ sym (thread_in_append_at_end (trail m s prefix t) (trail m (end m s prefix) g.rest t) k ((end m (end m s prefix) g.rest).now t) h)
     ∙ ap (λ z. thread_in z k ((end m (end m s prefix) g.rest).now t)) (g.same_trail t)
     ∙ ap (λ z. thread_in (trail m s run t) k (z.now t)) g.same_end
 
@@ -69,14 +71,14 @@ count_of_cons m s e run u = lengthen (eqb u e.0) (s.now u, label m s e) (trail m
     lengthen true x xs = refl
     lengthen false x xs = refl
 
-run_with_one_step_is_single : {T : Type 0} (m : Machine T) (s : State T) (run : List Step) → IsRun m s run → (t : ℕ) → count m s run t ≡ 1
+one_step_run_is_single : {T : Type 0} (m : Machine T) (s : State T) (run : List Step) → IsRun m s run → (t : ℕ) → count m s run t ≡ 1
     → ((u : ℕ) → u ≢ t → count m s run u ≡ 0) → SingleStep m s run t
-run_with_one_step_is_single m s [] ok t one none = absurd (omega arith)
-run_with_one_step_is_single m s (e ∷ run) ok t one none = elim (cases_eq e.0 t) [
+one_step_run_is_single m s [] ok t one none = absurd (omega arith)
+one_step_run_is_single m s (e ∷ run) ok t one none = elim (cases_eq e.0 t) [
   | inr other ↦ absurd (some_step (eqb e.0 e.0) (eq-eqb e.0 e.0 refl) (count m (after m s e) run e.0)
       (sym (count_of_cons m s e run e.0) ∙ none e.0 other))
   | inl same ↦
-      let empty : run ≡ [] = run_without_counts_is_empty m (after m s e) run (λ u. elim (cases_eq u t) [
+      let empty : run ≡ [] = no_counts_empty_run m (after m s e) run (λ u. elim (cases_eq u t) [
         | inl p ↦ last_step (eqb u e.0) (eq-eqb u e.0 (p ∙ sym same)) (count m (after m s e) run u)
             (sym (count_of_cons m s e run u) ∙ ap (count m s (e ∷ run)) p ∙ one)
         | inr p ↦ no_step (eqb u e.0) (ne_eqb u e.0 (λ q. p (q ∙ same))) (count m (after m s e) run u)
@@ -121,7 +123,7 @@ at_if_at_of_take (suc n) [] k x h = absurd h
 at_if_at_of_take (suc n) (y ∷ xs) zero x h = h
 at_if_at_of_take (suc n) (y ∷ xs) (suc k) x h = at_if_at_of_take n xs k x h
 
-cut_below_further : (p : Cut) (t u : ℕ) → p u ≤ further p t u
+pub cut_below_further : (p : Cut) (t u : ℕ) → p u ≤ further p t u
 cut_below_further p t u = more (eqb u t) (p u)
   where
     more : (b : Bool) (n : ℕ) → n ≤ cond b (suc n) n
@@ -137,10 +139,10 @@ further_at_other_thread p t u ne = rw (ne_eqb u t ne) refl
 pub state_at_consistent_cut : {T : Type 0} (m : Machine T) → IsLawful m → (s : State T) → StateInvariant m s → (run : List Step) → IsRun m s run → (p : Cut)
     → IsCut m s run p → Consistent m s run p → AtCut m s run p
 state_at_consistent_cut m law s good run ok p cut c =
-    let z : PartIsRun m s run p = part_in_consistent_cut_is_run m law s good run ok p c in
+    let z : PartIsRun m s run p = consistent_part_is_run m law s good run ok p c in
     record {
       runs = z.ok;
-      threads = λ t. thread_at_end_of_beginning m s (part run p) run (run_with_taken_trails_begins_run m law s good (part run p) run z.ok ok p z.same_trail) t (p t)
+      threads = λ t. thread_at_prefix_end m s (part run p) run (taken_trails_begin_run m law s good (part run p) run z.ok ok p z.same_trail) t (p t)
           (omega (arith, ap length (z.same_trail t), length-take (p t) (trail m s run t), cut t));
       steps = λ t ad. one_step t ad z;
     }
@@ -150,9 +152,9 @@ state_at_consistent_cut m law s good run ok p cut c =
         × Emits m s run t (p t) (label m (end m s (part run p)) (t, r))
     one_step t ad z =
         let q : Cut = further p t in
-        let y : PartIsRun m s run q = part_in_consistent_cut_is_run m law s good run ok q ad.1 in
+        let y : PartIsRun m s run q = consistent_part_is_run m law s good run ok q ad.1 in
         let g : BeginsRun m s (part run p) (part run q) =
-        run_with_taken_trails_begins_run m law s good (part run p) (part run q) z.ok y.ok p
+        taken_trails_begin_run m law s good (part run p) (part run q) z.ok y.ok p
         (λ u. z.same_trail u ∙ sym (take_of_longer_take (p u) (q u) (trail m s run u) (cut_below_further p t u))
         ∙ ap (take (p u)) (sym (y.same_trail u))) in
         let lengths : (u : ℕ) → p u + count m (end m s (part run p)) g.rest u ≡ min (q u) (count m s run u) =
@@ -168,7 +170,7 @@ state_at_consistent_cut m law s good run ok p cut c =
               (trail m (end m s (part run p)) g.rest u),
         ) in
         let k : SingleStep m (end m s (part run p)) g.rest t =
-        run_with_one_step_is_single m (end m s (part run p)) g.rest g.ok t (omega (arith, lengths t, further_at_own_thread p t, ad.0))
+        one_step_run_is_single m (end m s (part run p)) g.rest g.ok t (omega (arith, lengths t, further_at_own_thread p t, ad.0))
         (λ u ne. omega (arith, lengths u, further_at_other_thread p t u ne, cut u)) in (
           k.result,
           k.can,
@@ -188,20 +190,20 @@ state_at_consistent_cut m law s good run ok p cut c =
         add_zero : (n : ℕ) → n + 0 ≡ n
         add_zero n = omega arith
 
-pub same_trace_gives_same_run : {T : Type 0} (m : Machine T) → IsLawful m → (s : State T) → StateInvariant m s → (run run' : List Step) → IsRun m s run
+pub same_trace_same_run : {T : Type 0} (m : Machine T) → IsLawful m → (s : State T) → StateInvariant m s → (run run' : List Step) → IsRun m s run
     → IsRun m s run' → SameTrace m s run run' → SameRun m s run run'
-same_trace_gives_same_run m law s good run run' ok ok' same =
-    let a : SameTrailsAndEnd m s run run' = same_logs_give_same_trails m law s good run run' ok ok' (λ t. (same t).0) (λ t. (same t).1) in
+same_trace_same_run m law s good run run' ok ok' same =
+    let a : SameTrailsAndEnd m s run run' = same_logs_same_trails m law s good run run' ok ok' (λ t. (same t).0) (λ t. (same t).1) in
     record {
       counts = λ t. (same t).1;
       threads = λ t k. ap (λ z. thread_in z k ((end m s run).now t)) (a.same_trail t)
           ∙ ap (λ z. thread_in (trail m s run' t) k (z.now t)) a.same_end;
-      cuts = λ p. (consistent_cut_if_same_trails m s run run' a.same_trail p, consistent_cut_if_same_trails m s run' run (λ u. sym (a.same_trail u)) p);
+      cuts = λ p. (same_trails_consistent m s run run' a.same_trail p, same_trails_consistent m s run' run (λ u. sym (a.same_trail u)) p);
       objects = λ p c o.
-          let z : PartIsRun m s run p = part_in_consistent_cut_is_run m law s good run ok p c in
-          let z' : PartIsRun m s run' p = part_in_consistent_cut_is_run m law s good run' ok' p (consistent_cut_if_same_trails m s run run' a.same_trail p c) in
+          let z : PartIsRun m s run p = consistent_part_is_run m law s good run ok p c in
+          let z' : PartIsRun m s run' p = consistent_part_is_run m law s good run' ok' p (same_trails_consistent m s run run' a.same_trail p c) in
           let e : (u : ℕ) → trail m s (part run p) u ≡ trail m s (part run' p) u = λ u. z.same_trail u ∙ ap (take (p u)) (a.same_trail u)
           ∙ sym (z'.same_trail u) in
-          ap (λ y. y.objects o) (same_logs_give_same_trails m law s good (part run p) (part run' p) z.ok z'.ok (λ u. ap events (e u))
+          ap (λ y. y.objects o) (same_logs_same_trails m law s good (part run p) (part run' p) z.ok z'.ok (λ u. ap events (e u))
           (λ u. ap length (e u))).same_end;
     }

@@ -6,10 +6,10 @@ use Rattle.ir_runs.specs.Lawful.{IsLawful}
 use Rattle.ir_runs.specs.declared.access.Access.TheVariants.{Reading, Writing}
 use Rattle.ir_runs.specs.Run.{act, State, Step, after, label, IsRun, count, IsLeast, Emits, IsNeededBy, Cut, IsCut, Consistent}
 use Rattle.ir_runs.specs.Bounds.{lower}
-use Rattle.ir_runs.proofs.Good.{StateInvariant, state_invariant_after_step}
+use Rattle.ir_runs.proofs.Good.{StateInvariant, state_invariant_step}
 use Rattle.ir_runs.proofs.Determined.{count_of_cons}
-use Rattle.ir_runs.proofs.Early.{emits_of_cons_cases, needed_step_is_not_later}
-use Rattle.ir_runs.proofs.Sort.{emits_of_cons_if_emits_later, first_step_emits_own_label, consistent_cut_after_first_step, raised_place_below_if_place_below_lowered}
+use Rattle.ir_runs.proofs.Early.{emits_of_cons_cases, needed_is_not_later}
+use Rattle.ir_runs.proofs.Sort.{emits_cons_later, emits_first_label, consistent_after_first, raised_place_below}
 use Rattle.ir_runs.specs.Admitted.{further}
 
 pub needs_is_decidable : (a b : Label) → IsNeededBy a b ⊎ (IsNeededBy a b → ⊥)
@@ -39,8 +39,8 @@ needing_step_or_none m s (e ∷ run) q k = elim (needing_step_or_none m (after m
     place = cond (eqb w.thread e.0) (suc w.place) w.place;
     emitted = w.emitted;
     emits =
-        emits_of_cons_if_emits_later m s e run w.thread w.place w.emitted w.emits;
-    inside = raised_place_below_if_place_below_lowered (eqb w.thread e.0) w.place (q w.thread) w.inside;
+        emits_cons_later m s e run w.thread w.place w.emitted w.emits;
+    inside = raised_place_below (eqb w.thread e.0) w.place (q w.thread) w.inside;
     needs =
         w.needs;
   })
@@ -50,7 +50,7 @@ needing_step_or_none m s (e ∷ run) q k = elim (needing_step_or_none m (after m
       | inr p ↦ none t p.place a p.emits (down (eqb t e.0) p.place (q t) (subst (λ z. z < q t) p.is l)) n
     ])
     | inl inside ↦ elim (needs_is_decidable k (label m s e)) [
-      | inl n ↦ inl (record { thread = e.0; place = 0; emitted = label m s e; emits = first_step_emits_own_label m s e run; inside = inside; needs = n })
+      | inl n ↦ inl (record { thread = e.0; place = 0; emitted = label m s e; emits = emits_first_label m s e run; inside = inside; needs = n })
       | inr free ↦ inr (λ t j a h l n. elim (emits_of_cons_cases m s e run t j a h) [
         | inl p ↦ free (subst (IsNeededBy k) p.2 n)
         | inr p ↦ none t p.place a p.emits (down (eqb t e.0) p.place (q t) (subst (λ z. z < q t) p.is l)) n
@@ -75,16 +75,16 @@ pred_if_keeps_order true x y h = let g : pred x ≤ pred y = omega arith in g
 pred_if_keeps_order false x y h = h
 
 -- with the first step
-least_above_with_first_step : {T : Type 0} (m : Machine T) → IsLawful m → (s : State T) → StateInvariant m s → (e : Step) (run : List Step) → IsRun m s (e ∷ run)
+least_with_first_step : {T : Type 0} (m : Machine T) → IsLawful m → (s : State T) → StateInvariant m s → (e : Step) (run : List Step) → IsRun m s (e ∷ run)
     → (b q : Cut) → LeastAbove m (after m s e) run (lower b e.0) q
     → ((c : Cut) → Consistent m s (e ∷ run) c → ((u : ℕ) → b u ≤ c u) → ((u : ℕ) → q u ≤ lower c e.0 u) → 0 < c e.0)
     → LeastAbove m s (e ∷ run) b (further q e.0)
-least_above_with_first_step m law s good e run ok b q k must = record {
+least_with_first_step m law s good e run ok b q k must = record {
   cut = λ u. omega (arith, count_of_cons m s e run u, up (eqb u e.0) (q u) (count m (after m s e) run u) (k.cut u));
   consistent = λ t i u j a d h g n l. elim (emits_of_cons_cases m s e run u j d g) [
     | inl p ↦ subst (λ z. z < further q e.0 u) (sym p.1) (subst (λ z. 0 < cond z (suc (q u)) (q u)) (sym (eq-eqb u e.0 p.0)) (first (q u)))
     | inr p ↦ elim (emits_of_cons_cases m s e run t i a h) [
-      | inl c ↦ absurd (needed_step_is_not_later m law s good e ok.0 run ok.1 u p.place p.emits.0 d (act m s e) refl p.emits.1 (subst (IsNeededBy d) c.2 n))
+      | inl c ↦ absurd (needed_is_not_later m law s good e ok.0 run ok.1 u p.place p.emits.0 d (act m s e) refl p.emits.1 (subst (IsNeededBy d) c.2 n))
       | inr c ↦ subst (λ z. z < further q e.0 u) (sym p.is)
           (both_up (eqb u e.0) p.place (q u) (k.consistent t c.place u p.place a d c.emits p.emits n
           (both_down (eqb t e.0) c.place (q t) (subst (λ z. z < further q e.0 t) c.is l))))
@@ -92,7 +92,7 @@ least_above_with_first_step m law s good e run ok b q k must = record {
   ];
   above = λ u. over (eqb u e.0) (b u) (q u) (k.above u);
   least = λ c con up'. let low : (u : ℕ) → q u ≤ lower c e.0 u =
-      k.least (lower c e.0) (consistent_cut_after_first_step m s e run c con) (λ u. pred_if_keeps_order (eqb u e.0) (b u) (c u) (up' u)) in
+      k.least (lower c e.0) (consistent_after_first m s e run c con) (λ u. pred_if_keeps_order (eqb u e.0) (b u) (c u) (up' u)) in
       λ u. fill (eqb u e.0) (q u) (c u) (low u) (λ p. subst (λ z. 0 < c z) (sym (eqb-true u e.0 p)) (must c con up' low));
 }
   where
@@ -120,10 +120,10 @@ least_above_with_first_step m law s good e run ok b q k must = record {
     fill false x y h f = h
 
 -- without the first step
-least_above_without_first_step : {T : Type 0} (m : Machine T) (s : State T) (e : Step) (run : List Step) (b q : Cut)
+least_without_first : {T : Type 0} (m : Machine T) (s : State T) (e : Step) (run : List Step) (b q : Cut)
     → LeastAbove m (after m s e) run (lower b e.0) q → b e.0 ≡ 0 → q e.0 ≡ 0
     → ((t j : ℕ) (a : Label) → Emits m (after m s e) run t j a → j < q t → IsNeededBy (label m s e) a → ⊥) → LeastAbove m s (e ∷ run) b q
-least_above_without_first_step m s e run b q k none zero' free = record {
+least_without_first m s e run b q k none zero' free = record {
   cut = λ u. omega (arith, count_of_cons m s e run u, more (eqb u e.0) (count m (after m s e) run u), k.cut u);
   consistent = λ t i u j a d h g n l. elim (emits_of_cons_cases m s e run t i a h) [
     | inl c ↦ absurd (omega (arith, l, c.1, ap q c.0, zero'))
@@ -148,7 +148,7 @@ least_above_without_first_step m s e run b q k none zero' free = record {
         (ne_eqb u e.0 other) (k.above u)
   ];
   least = λ c con up u. lower_le (eqb u e.0) (q u) (c u)
-      (k.least (lower c e.0) (consistent_cut_after_first_step m s e run c con) (λ u. pred_if_keeps_order (eqb u e.0) (b u) (c u) (up u)) u);
+      (k.least (lower c e.0) (consistent_after_first m s e run c con) (λ u. pred_if_keeps_order (eqb u e.0) (b u) (c u) (up u)) u);
 }
   where
     more : (b : Bool) (n : ℕ) → n ≤ cond b (suc n) n
@@ -172,25 +172,25 @@ least_above_exists m law s good [] ok b cut = (
   },
 )
 least_above_exists m law s good (e ∷ run) ok b cut =
-    let k = least_above_exists m law (after m s e) (state_invariant_after_step m law s good e ok.0) run ok.1 (lower b e.0)
+    let k = least_above_exists m law (after m s e) (state_invariant_step m law s good e ok.0) run ok.1 (lower b e.0)
     (λ u. shorter (eqb u e.0) (b u) (count m (after m s e) run u) (subst (λ z. b u ≤ z) (count_of_cons m s e run u) (cut u))) in
     elim (cases_lt 0 (b e.0)) [
-      | inl h ↦ (further k.0 e.0, least_above_with_first_step m law s good e run ok b k.0 k.1 (λ c con up low. omega (arith, h, up e.0)))
+      | inl h ↦ (further k.0 e.0, least_with_first_step m law s good e run ok b k.0 k.1 (λ c con up low. omega (arith, h, up e.0)))
       | inr h ↦ elim (cases_lt 0 (k.0 e.0)) [
         | inl g ↦ (
           further k.0 e.0,
-          least_above_with_first_step m law s good e run ok b k.0 k.1
+          least_with_first_step m law s good e run ok b k.0 k.1
               (λ c con up low. omega (arith, g, lower_le (eqb e.0 e.0) (k.0 e.0) (c e.0) (low e.0))),
         )
         | inr g ↦ elim (needing_step_or_none m (after m s e) run k.0 (label m s e)) [
           | inl w ↦ (
             further k.0 e.0,
-            least_above_with_first_step m law s good e run ok b k.0 k.1 (λ c con up low.
+            least_with_first_step m law s good e run ok b k.0 k.1 (λ c con up low.
                 con w.thread (cond (eqb w.thread e.0) (suc w.place) w.place) e.0 0 w.emitted (label m s e)
-                (emits_of_cons_if_emits_later m s e run w.thread w.place w.emitted w.emits) (first_step_emits_own_label m s e run) w.needs
-                (raised_place_below_if_place_below_lowered (eqb w.thread e.0) w.place (c w.thread) (omega (arith, w.inside, low w.thread)))),
+                (emits_cons_later m s e run w.thread w.place w.emitted w.emits) (emits_first_label m s e run) w.needs
+                (raised_place_below (eqb w.thread e.0) w.place (c w.thread) (omega (arith, w.inside, low w.thread)))),
           )
-          | inr free ↦ (k.0, least_above_without_first_step m s e run b k.0 k.1 (omega arith) (omega arith) free)
+          | inr free ↦ (k.0, least_without_first m s e run b k.0 k.1 (omega arith) (omega arith) free)
         ]
       ]
     ]

@@ -6,22 +6,22 @@ use Rattle.ir_runs.specs.Machine.{Machine, Label}
 use Rattle.ir_runs.specs.Lawful.{IsLawful}
 use Rattle.ir_runs.specs.Run.{act, State, Step, after, label, IsRun, count, IsGreatest, Emits, IsNeededBy, Cut, IsCut, Consistent}
 use Rattle.ir_runs.specs.Bounds.{lower}
-use Rattle.ir_runs.proofs.Good.{StateInvariant, state_invariant_after_step}
+use Rattle.ir_runs.proofs.Good.{StateInvariant, state_invariant_step}
 use Rattle.ir_runs.proofs.Determined.{count_of_cons}
-use Rattle.ir_runs.proofs.Early.{emits_of_cons_cases, needed_step_is_not_later, suc_if_keeps_less, suc_if_reflects_less}
+use Rattle.ir_runs.proofs.Early.{emits_of_cons_cases, needed_is_not_later, suc_if_keeps_less, suc_if_reflects_less}
 use Rattle.ir_runs.proofs.Exist.{needs_is_decidable}
-use Rattle.ir_runs.proofs.Sort.{emits_of_cons_if_emits_later, first_step_emits_own_label, consistent_cut_after_first_step, raised_place_below_if_place_below_lowered}
+use Rattle.ir_runs.proofs.Sort.{emits_cons_later, emits_first_label, consistent_after_first, raised_place_below}
 use Rattle.ir_runs.specs.Admitted.{further}
 
 abbrev pub Among : Label → List Label → Type 0
 Among k [] = ⊥
 Among k (x ∷ xs) = (x ≡ k) ⊎ Among k xs
 
-some_label_among_is_needed_or_none : (out : List Label) (a : Label) → ((k : Label) × Among k out × IsNeededBy k a) ⊎ ((k : Label) → Among k out → IsNeededBy k a → ⊥)
-some_label_among_is_needed_or_none [] a = inr (λ k h n. h)
-some_label_among_is_needed_or_none (x ∷ xs) a = elim (needs_is_decidable x a) [
+needed_label_or_none : (out : List Label) (a : Label) → ((k : Label) × Among k out × IsNeededBy k a) ⊎ ((k : Label) → Among k out → IsNeededBy k a → ⊥)
+needed_label_or_none [] a = inr (λ k h n. h)
+needed_label_or_none (x ∷ xs) a = elim (needs_is_decidable x a) [
   | inl n ↦ inl (x, inl (λ i. x), n)
-  | inr free ↦ elim (some_label_among_is_needed_or_none xs a) [
+  | inr free ↦ elim (needed_label_or_none xs a) [
     | inl w ↦ inl (w.0, inr w.1, w.2)
     | inr none ↦ inr (λ k h n. elim h [ inl e ↦ free (subst (λ z. IsNeededBy z a) (sym e) n) | inr g ↦ none k g n ])
   ]
@@ -41,21 +41,21 @@ pub record GreatestAvoiding {T : Type 0} (m : Machine T) (s : State T) (run : Li
 avoids_after_first_step : {T : Type 0} (m : Machine T) (s : State T) (e : Step) (run : List Step) (c : Cut) (out : List Label)
     → Avoids m s (e ∷ run) c out → Avoids m (after m s e) run (lower c e.0) out
 avoids_after_first_step m s e run c out f t i a k h l g n =
-    f t (cond (eqb t e.0) (suc i) i) a k (emits_of_cons_if_emits_later m s e run t i a h) (raised_place_below_if_place_below_lowered (eqb t e.0) i (c t) l) g n
+    f t (cond (eqb t e.0) (suc i) i) a k (emits_cons_later m s e run t i a h) (raised_place_below (eqb t e.0) i (c t) l) g n
 
 zero_below_suc : (n : ℕ) → 0 < suc n
 zero_below_suc n = omega arith
 
 -- with the first step
-greatest_avoiding_with_first_step : {T : Type 0} (m : Machine T) → IsLawful m → (s : State T) → StateInvariant m s → (e : Step) (run : List Step) → IsRun m s (e ∷ run)
+greatest_with_first_step : {T : Type 0} (m : Machine T) → IsLawful m → (s : State T) → StateInvariant m s → (e : Step) (run : List Step) → IsRun m s (e ∷ run)
     → (b q : Cut) (out : List Label) → 0 < b e.0 → ((k : Label) → Among k out → IsNeededBy k (label m s e) → ⊥)
     → GreatestAvoiding m (after m s e) run (lower b e.0) out q → GreatestAvoiding m s (e ∷ run) b out (further q e.0)
-greatest_avoiding_with_first_step m law s good e run ok b q out more free k = record {
+greatest_with_first_step m law s good e run ok b q out more free k = record {
   consistent = λ t i u j a d h g n l. elim (emits_of_cons_cases m s e run u j d g) [
     | inl p ↦ subst (λ z. z < further q e.0 u) (sym p.1)
         (subst (λ z. 0 < cond z (suc (q u)) (q u)) (sym (eq-eqb u e.0 p.0)) (zero_below_suc (q u)))
     | inr p ↦ elim (emits_of_cons_cases m s e run t i a h) [
-      | inl c ↦ absurd (needed_step_is_not_later m law s good e ok.0 run ok.1 u p.place p.emits.0 d (act m s e) refl p.emits.1 (subst (IsNeededBy d) c.2 n))
+      | inl c ↦ absurd (needed_is_not_later m law s good e ok.0 run ok.1 u p.place p.emits.0 d (act m s e) refl p.emits.1 (subst (IsNeededBy d) c.2 n))
       | inr c ↦ subst (λ z. z < further q e.0 u) (sym p.is)
           (suc_if_keeps_less (eqb u e.0) p.place (q u) (k.consistent t c.place u p.place a d c.emits p.emits n
           (suc_if_reflects_less (eqb t e.0) c.place (q t) (subst (λ z. z < further q e.0 t) c.is l))))
@@ -67,7 +67,7 @@ greatest_avoiding_with_first_step m law s good e run ok b q out more free k = re
   ];
   below = λ u. under (eqb u e.0) (q u) (b u) (k.below u) (λ p. subst (λ z. 0 < b z) (sym (eqb-true u e.0 p)) more);
   greatest = λ c con av down u. over (eqb u e.0) (c u) (q u)
-      (k.greatest (lower c e.0) (consistent_cut_after_first_step m s e run c con) (avoids_after_first_step m s e run c out av)
+      (k.greatest (lower c e.0) (consistent_after_first m s e run c con) (avoids_after_first_step m s e run c out av)
       (λ w. below_lower (eqb w e.0) (c w) (b w) (down w)) u);
 }
   where
@@ -88,10 +88,10 @@ abbrev pub with_zero_at : Cut → ℕ → Cut
 with_zero_at b t u = cond (eqb u t) 0 (b u)
 
 -- without the first step
-greatest_avoiding_without_first_step : {T : Type 0} (m : Machine T) (s : State T) (e : Step) (run : List Step) (b q : Cut) (out : List Label)
+greatest_without_first : {T : Type 0} (m : Machine T) (s : State T) (e : Step) (run : List Step) (b q : Cut) (out : List Label)
     → ((c : Cut) → Avoids m s (e ∷ run) c out → ((u : ℕ) → c u ≤ b u) → c e.0 ≡ 0)
     → GreatestAvoiding m (after m s e) run (with_zero_at b e.0) (label m s e ∷ out) q → GreatestAvoiding m s (e ∷ run) b out q
-greatest_avoiding_without_first_step m s e run b q out never k = record {
+greatest_without_first m s e run b q out never k = record {
   consistent = λ t i u j a d h g n l. elim (emits_of_cons_cases m s e run t i a h) [
     | inl c ↦ absurd (omega (arith, l, ap q c.0, none))
     | inr c ↦
@@ -108,16 +108,16 @@ greatest_avoiding_without_first_step m s e run b q out never k = record {
   below = λ u. nothing_less (eqb u e.0) (q u) (b u) (k.below u);
   greatest = λ c con av down u. k.greatest c
       (λ t i w j a d h g n l. from_later c (never c av down) w j
-      (con t (cond (eqb t e.0) (suc i) i) w (cond (eqb w e.0) (suc j) j) a d (emits_of_cons_if_emits_later m s e run t i a h) (emits_of_cons_if_emits_later m s e run w j d g) n
+      (con t (cond (eqb t e.0) (suc i) i) w (cond (eqb w e.0) (suc j) j) a d (emits_cons_later m s e run t i a h) (emits_cons_later m s e run w j d g) n
       (to_later c (never c av down) t i l)))
       (λ t i a x h l g n. elim g [
         | inl same ↦ omega (
           arith,
           never c av down,
-          con t (cond (eqb t e.0) (suc i) i) e.0 0 a x (emits_of_cons_if_emits_later m s e run t i a h)
-              (subst (Emits m s (e ∷ run) e.0 0) same (first_step_emits_own_label m s e run)) n (to_later c (never c av down) t i l),
+          con t (cond (eqb t e.0) (suc i) i) e.0 0 a x (emits_cons_later m s e run t i a h)
+              (subst (Emits m s (e ∷ run) e.0 0) same (emits_first_label m s e run)) n (to_later c (never c av down) t i l),
         )
-        | inr among ↦ av t (cond (eqb t e.0) (suc i) i) a x (emits_of_cons_if_emits_later m s e run t i a h) (to_later c (never c av down) t i l) among n
+        | inr among ↦ av t (cond (eqb t e.0) (suc i) i) a x (emits_cons_later m s e run t i a h) (to_later c (never c av down) t i l) among n
       ])
       (λ w. elim (cases_eq w e.0) [
         | inl same ↦ omega (arith, ap c same, never c av down)
@@ -161,9 +161,9 @@ greatest_avoiding_without_first_step m s e run b q out never k = record {
         below_it true i n h = let h' : suc i < n = h in omega arith
         below_it false i n h = h
 
-pub greatest_avoiding_exists : {T : Type 0} (m : Machine T) → IsLawful m → (s : State T) → StateInvariant m s → (run : List Step) → IsRun m s run
+pub avoiding_greatest_exists : {T : Type 0} (m : Machine T) → IsLawful m → (s : State T) → StateInvariant m s → (run : List Step) → IsRun m s run
     → (b : Cut) (out : List Label) → ((u : ℕ) → b u ≤ count m s run u) → (q : Cut) × GreatestAvoiding m s run b out q
-greatest_avoiding_exists m law s good [] ok b out cut = (
+avoiding_greatest_exists m law s good [] ok b out cut = (
   b,
   record {
     consistent = λ t i u j a d h g n l. absurd h.1;
@@ -173,22 +173,22 @@ greatest_avoiding_exists m law s good [] ok b out cut = (
     greatest = λ c con av down u. down u;
   },
 )
-greatest_avoiding_exists m law s good (e ∷ run) ok b out cut =
-    let good' = state_invariant_after_step m law s good e ok.0 in
-    let gone = greatest_avoiding_exists m law (after m s e) good' run ok.1 (with_zero_at b e.0) (label m s e ∷ out)
+avoiding_greatest_exists m law s good (e ∷ run) ok b out cut =
+    let good' = state_invariant_step m law s good e ok.0 in
+    let gone = avoiding_greatest_exists m law (after m s e) good' run ok.1 (with_zero_at b e.0) (label m s e ∷ out)
     (λ u. cut_without (eqb u e.0) (b u) (count m (after m s e) run u) (subst (λ z. b u ≤ z) (count_of_cons m s e run u) (cut u))) in
-    let kept = greatest_avoiding_exists m law (after m s e) good' run ok.1 (lower b e.0) out
+    let kept = avoiding_greatest_exists m law (after m s e) good' run ok.1 (lower b e.0) out
     (λ u. shorter (eqb u e.0) (b u) (count m (after m s e) run u) (subst (λ z. b u ≤ z) (count_of_cons m s e run u) (cut u))) in
     elim (cases_lt 0 (b e.0)) [
-      | inr h ↦ (gone.0, greatest_avoiding_without_first_step m s e run b gone.0 out (λ c av down. omega (arith, h, down e.0)) gone.1)
-      | inl h ↦ elim (some_label_among_is_needed_or_none out (label m s e)) [
+      | inr h ↦ (gone.0, greatest_without_first m s e run b gone.0 out (λ c av down. omega (arith, h, down e.0)) gone.1)
+      | inl h ↦ elim (needed_label_or_none out (label m s e)) [
         | inl w ↦ (
           gone.0,
-          greatest_avoiding_without_first_step m s e run b gone.0 out
+          greatest_without_first m s e run b gone.0 out
               (λ c av down. elim (cases_lt 0 (c e.0))
-              [ inl l ↦ absurd (av e.0 0 (label m s e) w.0 (first_step_emits_own_label m s e run) l w.1 w.2) | inr l ↦ omega arith ]) gone.1,
+              [ inl l ↦ absurd (av e.0 0 (label m s e) w.0 (emits_first_label m s e run) l w.1 w.2) | inr l ↦ omega arith ]) gone.1,
         )
-        | inr free ↦ (further kept.0 e.0, greatest_avoiding_with_first_step m law s good e run ok b kept.0 out h free kept.1)
+        | inr free ↦ (further kept.0 e.0, greatest_with_first_step m law s good e run ok b kept.0 out h free kept.1)
       ]
     ]
   where
@@ -203,7 +203,7 @@ greatest_avoiding_exists m law s good (e ∷ run) ok b out cut =
 pub greatest_cut_exists : {T : Type 0} (m : Machine T) → IsLawful m → (s : State T) → StateInvariant m s → (run : List Step) → IsRun m s run
     → (p : Cut) (t k : ℕ) → IsCut m s run p → (q : Cut) × IsGreatest m s run p t k q
 greatest_cut_exists m law s good run ok p t k cut =
-    let g = greatest_avoiding_exists m law s good run ok (λ u. min (p u) (cond (eqb u t) k (p u))) [] (λ u. omega (arith, cut u)) in (
+    let g = avoiding_greatest_exists m law s good run ok (λ u. min (p u) (cond (eqb u t) k (p u))) [] (λ u. omega (arith, cut u)) in (
       g.0,
       record {
         cut = λ u. omega (arith, g.1.below u, cut u);

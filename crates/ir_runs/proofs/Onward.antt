@@ -1,36 +1,37 @@
 -- There is a maximal run that follows a trace.
 use Rattle.std.proofs.Common.{◌≡◌, ◌≢◌, ℕ, suc, zero, pred, ◌<◌, ◌≤◌, Bool, true, false, cond, eqb, List, [], ◌∷◌, ◌++◌, Some, None, refl, sym, subst, arith, inl, inr, ◌⊎◌, eq-eqb}
 use Rattle.std.proofs.lemmas.Bool.{cases_eq, cases_lt, eqb-true}
-use Rattle.ir_runs.specs.Machine.{Done, Act, Silent, Replied, Entered, TryFailed, Left, Got, Stored, Never, Machine, target, Admits, emitted, Label, Quiet, Answer, EnteredAt, FailedTry, LeftAt, logged, Trace}
+use Rattle.ir_runs.specs.Machine.{Done, Act, Silent, Replied, Entered, TryFailed, Left, Got, Stored, Never, Machine, target, Admits}
+use Rattle.ir_runs.specs.Machine.{emitted, Label, Quiet, Answer, EnteredAt, FailedTry, LeftAt, logged, Trace}
 use Rattle.ir_runs.specs.Lawful.{IsLawful}
 use Rattle.ir_runs.specs.declared.access.Access.TheVariants.{Reading, Writing}
 use Rattle.ir_runs.specs.Run.{act, State, Step, asked, Can, after, label, trail}
-use Rattle.ir_runs.proofs.Good.{StateInvariant, state_invariant_after_step}
-use Rattle.ir_runs.proofs.Stuck.{some_value_has_first_or_all_below_have_second, access_is_writing_or_not, access_is_some_or_none, done_thread_is_not_inside}
-use Rattle.ir_runs.proofs.Confluent.{steps_left, log_left, FollowsRemainder, first_step_follows_remainder, later_steps_follow_remainder, join_if_fits, stepping_thread_is_below_idle}
-use Rattle.ir_runs.proofs.Judge.{env_kind_equality_is_decidable, conjunction_of_two_is_decidable, conjunction_of_three_is_decidable, meets_is_decidable, access_equality_is_decidable}
-use Rattle.ir_runs.proofs.OneResult.{following_act_is_of_logged_result}
-use Rattle.ir_runs.proofs.Own.{step_below_idle_keeps_idle}
-use Rattle.ir_runs.proofs.Tally.{sum_below_less_if_one_less}
+use Rattle.ir_runs.proofs.Good.{StateInvariant, state_invariant_step}
+use Rattle.ir_runs.proofs.Stuck.{some_first_or_all_second, writing_or_not, access_is_some_or_none, done_is_not_inside}
+use Rattle.ir_runs.proofs.Confluent.{steps_left, log_left, FollowsRemainder, first_step_follows, later_steps_follow, join_if_fits, stepping_below_idle}
+use Rattle.ir_runs.proofs.Judge.{env_kind_decidable, both_decidable, all_three_decidable, meets_is_decidable, access_decidable}
+use Rattle.ir_runs.proofs.OneResult.{act_of_result_in_log}
+use Rattle.ir_runs.proofs.Own.{idle_stays_idle}
+use Rattle.ir_runs.proofs.Tally.{sum_below_less}
 use Rattle.ir_runs.specs.Verdicts.{sum_below, unlogged, ends_now, closing}
 use Rattle.ir_runs.specs.Events.{result_of}
 
-logged_of_unlogged_is_log_or_not : (k : Label) (es : List Label) → (logged k (unlogged k es) ≡ es) ⊎ ((logged k (unlogged k es) ≡ es) → ⊥)
-logged_of_unlogged_is_log_or_not Quiet es = inl refl
-logged_of_unlogged_is_log_or_not (Answer i v) [] = inr (λ h. cc h)
-logged_of_unlogged_is_log_or_not (Answer i v) (Quiet ∷ es) = inr (λ h. cc h)
-logged_of_unlogged_is_log_or_not (Answer i v) (Answer j w ∷ es) = elim (env_kind_equality_is_decidable i j) [
+logged-unlogged_cases : (k : Label) (es : List Label) → (logged k (unlogged k es) ≡ es) ⊎ ((logged k (unlogged k es) ≡ es) → ⊥)
+logged-unlogged_cases Quiet es = inl refl
+logged-unlogged_cases (Answer i v) [] = inr (λ h. cc h)
+logged-unlogged_cases (Answer i v) (Quiet ∷ es) = inr (λ h. cc h)
+logged-unlogged_cases (Answer i v) (Answer j w ∷ es) = elim (env_kind_decidable i j) [
   | inl p ↦ elim (cases_eq v w) [ inl q ↦ inl (λ z. Answer (p z) (q z) ∷ es) | inr f ↦ inr (λ h. f (cc h)) ]
   | inr f ↦ inr (λ h. f (cc h))
 ]
-logged_of_unlogged_is_log_or_not (Answer i v) (EnteredAt p c w j ∷ es) = inr (λ h. cc h)
-logged_of_unlogged_is_log_or_not (Answer i v) (FailedTry p ∷ es) = inr (λ h. cc h)
-logged_of_unlogged_is_log_or_not (Answer i v) (LeftAt p c w ∷ es) = inr (λ h. cc h)
-logged_of_unlogged_is_log_or_not (EnteredAt o a v l) [] = inr (λ h. cc h)
-logged_of_unlogged_is_log_or_not (EnteredAt o a v l) (Quiet ∷ es) = inr (λ h. cc h)
-logged_of_unlogged_is_log_or_not (EnteredAt o a v l) (Answer j w ∷ es) = inr (λ h. cc h)
-logged_of_unlogged_is_log_or_not (EnteredAt o a v l) (EnteredAt p c w j ∷ es) = elim (cases_eq o p) [
-  | inl e ↦ elim (access_equality_is_decidable a c) [
+logged-unlogged_cases (Answer i v) (EnteredAt p c w j ∷ es) = inr (λ h. cc h)
+logged-unlogged_cases (Answer i v) (FailedTry p ∷ es) = inr (λ h. cc h)
+logged-unlogged_cases (Answer i v) (LeftAt p c w ∷ es) = inr (λ h. cc h)
+logged-unlogged_cases (EnteredAt o a v l) [] = inr (λ h. cc h)
+logged-unlogged_cases (EnteredAt o a v l) (Quiet ∷ es) = inr (λ h. cc h)
+logged-unlogged_cases (EnteredAt o a v l) (Answer j w ∷ es) = inr (λ h. cc h)
+logged-unlogged_cases (EnteredAt o a v l) (EnteredAt p c w j ∷ es) = elim (cases_eq o p) [
+  | inl e ↦ elim (access_decidable a c) [
     | inl f ↦ elim (cases_eq v w) [
       | inl g ↦ elim (cases_eq l j) [ inl k ↦ inl (λ z. EnteredAt (e z) (f z) (g z) (k z) ∷ es) | inr ne ↦ inr (λ h. ne (cc h)) ]
       | inr ne ↦ inr (λ h. ne (cc h))
@@ -39,15 +40,15 @@ logged_of_unlogged_is_log_or_not (EnteredAt o a v l) (EnteredAt p c w j ∷ es) 
   ]
   | inr ne ↦ inr (λ h. ne (cc h))
 ]
-logged_of_unlogged_is_log_or_not (EnteredAt o a v l) (FailedTry p ∷ es) = inr (λ h. cc h)
-logged_of_unlogged_is_log_or_not (EnteredAt o a v l) (LeftAt p c w ∷ es) = inr (λ h. cc h)
-logged_of_unlogged_is_log_or_not (FailedTry o) [] = inr (λ h. cc h)
-logged_of_unlogged_is_log_or_not (FailedTry o) (Quiet ∷ es) = inr (λ h. cc h)
-logged_of_unlogged_is_log_or_not (FailedTry o) (Answer j w ∷ es) = inr (λ h. cc h)
-logged_of_unlogged_is_log_or_not (FailedTry o) (EnteredAt p c w j ∷ es) = inr (λ h. cc h)
-logged_of_unlogged_is_log_or_not (FailedTry o) (FailedTry p ∷ es) = elim (cases_eq o p) [ inl e ↦ inl (λ z. FailedTry (e z) ∷ es) | inr ne ↦ inr (λ h. ne (cc h)) ]
-logged_of_unlogged_is_log_or_not (FailedTry o) (LeftAt p c w ∷ es) = inr (λ h. cc h)
-logged_of_unlogged_is_log_or_not (LeftAt o a v) es = inl refl
+logged-unlogged_cases (EnteredAt o a v l) (FailedTry p ∷ es) = inr (λ h. cc h)
+logged-unlogged_cases (EnteredAt o a v l) (LeftAt p c w ∷ es) = inr (λ h. cc h)
+logged-unlogged_cases (FailedTry o) [] = inr (λ h. cc h)
+logged-unlogged_cases (FailedTry o) (Quiet ∷ es) = inr (λ h. cc h)
+logged-unlogged_cases (FailedTry o) (Answer j w ∷ es) = inr (λ h. cc h)
+logged-unlogged_cases (FailedTry o) (EnteredAt p c w j ∷ es) = inr (λ h. cc h)
+logged-unlogged_cases (FailedTry o) (FailedTry p ∷ es) = elim (cases_eq o p) [ inl e ↦ inl (λ z. FailedTry (e z) ∷ es) | inr ne ↦ inr (λ h. ne (cc h)) ]
+logged-unlogged_cases (FailedTry o) (LeftAt p c w ∷ es) = inr (λ h. cc h)
+logged-unlogged_cases (LeftAt o a v) es = inl refl
 
 bool_is_true_or_not : (b : Bool) → (b ≡ true) ⊎ ((b ≡ true) → ⊥)
 bool_is_true_or_not true = inl refl
@@ -58,13 +59,13 @@ admits_is_decidable : {T : Type 0} (m : Machine T) → IsLawful m → (s : State
 admits_is_decidable m law s good n idle Silent = inl tt
 admits_is_decidable m law s good n idle (Replied k v) = bool_is_true_or_not (m.fits k v)
 admits_is_decidable m law s good n idle (Entered o Reading v) =
-    elim (some_value_has_first_or_all_below_have_second (λ x. x ≡ Some Writing) (λ x. x ≢ Some Writing) access_is_writing_or_not (s.objects o).inside n) [
+    elim (some_first_or_all_second (λ x. x ≡ Some Writing) (λ x. x ≢ Some Writing) writing_or_not (s.objects o).inside n) [
       | inl w ↦ inr (λ h. h w.0 w.1)
-      | inr none ↦ inl (λ u e. elim (cases_lt u n) [ inl l ↦ none u l e | inr g ↦ cc (done_thread_is_not_inside m law s good u o (idle u g), e) ])
+      | inr none ↦ inl (λ u e. elim (cases_lt u n) [ inl l ↦ none u l e | inr g ↦ cc (done_is_not_inside m law s good u o (idle u g), e) ])
     ]
-admits_is_decidable m law s good n idle (Entered o Writing v) = elim (some_value_has_first_or_all_below_have_second (λ x. x ≢ None) (λ x. x ≡ None) access_is_some_or_none (s.objects o).inside n) [
+admits_is_decidable m law s good n idle (Entered o Writing v) = elim (some_first_or_all_second (λ x. x ≢ None) (λ x. x ≡ None) access_is_some_or_none (s.objects o).inside n) [
   | inl w ↦ inr (λ h. w.1 (h w.0))
-  | inr none ↦ inl (λ u. elim (cases_lt u n) [ inl l ↦ none u l | inr g ↦ done_thread_is_not_inside m law s good u o (idle u g) ])
+  | inr none ↦ inl (λ u. elim (cases_lt u n) [ inl l ↦ none u l | inr g ↦ done_is_not_inside m law s good u o (idle u g) ])
 ]
 admits_is_decidable m law s good n idle (TryFailed o) = inl tt
 admits_is_decidable m law s good n idle (Left o a) = inl tt
@@ -72,11 +73,11 @@ admits_is_decidable m law s good n idle (Got o i) = inl tt
 admits_is_decidable m law s good n idle (Stored o i w) = inl tt
 admits_is_decidable m law s good n idle Never = inr (λ h. h)
 
-some_below_satisfies_or_none_does : (P : ℕ → Type 0) → ((t : ℕ) → P t ⊎ (P t → ⊥)) → (n : ℕ) → ((t : ℕ) × (t < n) × P t) ⊎ ((t : ℕ) → t < n → P t → ⊥)
-some_below_satisfies_or_none_does P decide zero = inr (λ t l h. omega arith)
-some_below_satisfies_or_none_does P decide (suc n) = elim (decide n) [
+some_below_or_none : (P : ℕ → Type 0) → ((t : ℕ) → P t ⊎ (P t → ⊥)) → (n : ℕ) → ((t : ℕ) × (t < n) × P t) ⊎ ((t : ℕ) → t < n → P t → ⊥)
+some_below_or_none P decide zero = inr (λ t l h. omega arith)
+some_below_or_none P decide (suc n) = elim (decide n) [
   | inl p ↦ inl (n, omega arith, p)
-  | inr f ↦ elim (some_below_satisfies_or_none_does P decide n) [
+  | inr f ↦ elim (some_below_or_none P decide n) [
     | inl w ↦ inl (w.0, omega (arith, w.1), w.2)
     | inr none ↦ inr (λ t l h. elim (cases_eq t n) [ inl e ↦ f (subst P e h) | inr ne ↦ none t (omega arith) h ])
   ]
@@ -103,20 +104,20 @@ pred_if_is_below false n p l = absurd (cc p)
 pub maximal_run_exists : {T : Type 0} (fuel n : ℕ) (m : Machine T) → IsLawful m → (tr : Trace) (s : State T) → StateInvariant m s
     → ((t : ℕ) → n ≤ t → asked m s t ≡ Done) → (ns : ℕ → ℕ) (rem : ℕ → List Label) → sum_below n ns < fuel → MaximalRun m tr s ns rem
 maximal_run_exists zero n m law tr s good idle ns rem less = absurd (omega (arith, less))
-maximal_run_exists (suc d) n m law tr s good idle ns rem less = elim (some_below_satisfies_or_none_does (λ t. NextStepFollows m tr s ns rem (t, result_of (asked m s t) (rem t)))
-    (λ t. conjunction_of_two_is_decidable (admits_is_decidable m law s good n idle (act m s (t, result_of (asked m s t) (rem t))))
-    (conjunction_of_three_is_decidable (positive (ns t)) (logged_of_unlogged_is_log_or_not (label m s (t, result_of (asked m s t) (rem t))) (rem t))
+maximal_run_exists (suc d) n m law tr s good idle ns rem less = elim (some_below_or_none (λ t. NextStepFollows m tr s ns rem (t, result_of (asked m s t) (rem t)))
+    (λ t. both_decidable (admits_is_decidable m law s good n idle (act m s (t, result_of (asked m s t) (rem t))))
+    (all_three_decidable (positive (ns t)) (logged-unlogged_cases (label m s (t, result_of (asked m s t) (rem t))) (rem t))
     (meets_is_decidable (ends_now m (s.now t)) (tr.ends t) (m.size (s.now t)) (ns t) (rem t)))) n) [
       | inl w ↦
           let e : Step = (w.0, result_of (asked m s w.0) (rem w.0)) in
           let next : NextStepFollows m tr s ns rem e = w.2 in
           let b : MaximalRun m tr (after m s e) (steps_left ns e) (log_left rem e (label m s e)) =
-          maximal_run_exists d n m law tr (after m s e) (state_invariant_after_step m law s good e next.0) (step_below_idle_keeps_idle m s n idle e next.0).1 (steps_left ns e)
+          maximal_run_exists d n m law tr (after m s e) (state_invariant_step m law s good e next.0) (idle_stays_idle m s n idle e next.0).1 (steps_left ns e)
           (log_left rem e (label m s e))
           (omega (
             arith,
             less,
-            sum_below_less_if_one_less n e.0 (steps_left ns e) ns w.1 (pred_if_is_below (eqb e.0 e.0) (ns e.0) (eq-eqb e.0 e.0 refl) next.1.0)
+            sum_below_less n e.0 (steps_left ns e) ns w.1 (pred_if_is_below (eqb e.0 e.0) (ns e.0) (eq-eqb e.0 e.0 refl) next.1.0)
                 (λ u. pred_if_is_at_most (eqb u e.0) (ns u)),
           )) in
           record {
@@ -127,16 +128,16 @@ maximal_run_exists (suc d) n m law tr s good idle ns rem less = elim (some_below
                   (λ p. subst (λ z. (0 < ns z) × (logged (label m s e) (unlogged (label m s e) (rem z)) ≡ rem z)
                   × closing m tr z (s.now z) (ns z) (rem z)) (sym (eqb-true t e.0 p)) next.1) (b.ok.1 t),
             );
-            top = λ x h. b.top x (later_steps_follow_remainder (closing m tr) m s ns rem e (b.run ++ x ∷ []) h);
+            top = λ x h. b.top x (later_steps_follow (closing m tr) m s ns rem e (b.run ++ x ∷ []) h);
           }
       | inr none ↦ record {
         run = [];
         ok = (tt, λ t. tt);
         top = λ x h.
-            let f = first_step_follows_remainder (closing m tr) m s ns rem x [] h in
+            let f = first_step_follows (closing m tr) m s ns rem x [] h in
             let p : act m s x ≡ act m s (x.0, result_of (asked m s x.0) (rem x.0)) =
-            following_act_is_of_logged_result m (asked m s x.0) x.1 (s.objects (target (act m s x))) (rem x.0) h.0.0 f.1 in
-            none x.0 (stepping_thread_is_below_idle m s n idle x h.0.0) (
+            act_of_result_in_log m (asked m s x.0) x.1 (s.objects (target (act m s x))) (rem x.0) h.0.0 f.1 in
+            none x.0 (stepping_below_idle m s n idle x h.0.0) (
               subst (λ z. Admits m z (s.objects (target z))) p h.0.0,
               (
                 f.0,

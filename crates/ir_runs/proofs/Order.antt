@@ -6,35 +6,35 @@ use Rattle.ir_runs.specs.Lawful.{IsLawful}
 use Rattle.ir_runs.specs.Run.{State, Step, after, label, IsRun, join_if, trail, count, IsLeast, IsGreatest, Cut, IsCut, Consistent}
 use Rattle.ir_runs.proofs.Good.{StateInvariant}
 use Rattle.ir_runs.proofs.Early.{moment}
-use Rattle.ir_runs.proofs.Early.{moment_is_consistent_cut}
+use Rattle.ir_runs.proofs.Early.{moment_is_consistent}
 use Rattle.ir_runs.specs.Admitted.{further, Admitted}
 use Rattle.ir_runs.proofs.Determined.{further_at_own_thread, further_at_other_thread}
 
-pub max_of_cuts_is_consistent : {T : Type 0} (m : Machine T) (s : State T) (run : List Step) (p q : Cut) → Consistent m s run p → Consistent m s run q
+pub max_is_consistent : {T : Type 0} (m : Machine T) (s : State T) (run : List Step) (p q : Cut) → Consistent m s run p → Consistent m s run q
     → Consistent m s run (λ t. max (p t) (q t))
-max_of_cuts_is_consistent m s run p q cp cq t k u j a b h g n l = elim (cases_lt k (p t)) [
+max_is_consistent m s run p q cp cq t k u j a b h g n l = elim (cases_lt k (p t)) [
   | inl lt ↦ omega (arith, cp t k u j a b h g n lt)
   | inr ge ↦ omega (arith, cq t k u j a b h g n (omega arith))
 ]
 
-pub min_of_cuts_is_consistent : {T : Type 0} (m : Machine T) (s : State T) (run : List Step) (p q : Cut) → Consistent m s run p → Consistent m s run q
+pub min_is_consistent : {T : Type 0} (m : Machine T) (s : State T) (run : List Step) (p q : Cut) → Consistent m s run p → Consistent m s run q
     → Consistent m s run (λ t. min (p t) (q t))
-min_of_cuts_is_consistent m s run p q cp cq t k u j a b h g n l = omega (arith, cp t k u j a b h g n (omega arith), cq t k u j a b h g n (omega arith))
+min_is_consistent m s run p q cp cq t k u j a b h g n l = omega (arith, cp t k u j a b h g n (omega arith), cq t k u j a b h g n (omega arith))
 
 pub equal_cut_is_consistent : {T : Type 0} (m : Machine T) (s : State T) (run : List Step) (p q : Cut) → ((t : ℕ) → p t ≡ q t)
     → Consistent m s run p → Consistent m s run q
 equal_cut_is_consistent m s run p q same c t k u j a b h g n l = omega (arith, c t k u j a b h g n (omega (arith, same t)), same u)
 
 -- What was admitted stays so while its thread stays.
-pub admitted_persists_at_later_cut : {T : Type 0} (m : Machine T) (s : State T) (run : List Step) (p q : Cut) (t : ℕ) → Admitted m s run p t
+pub admitted_persists : {T : Type 0} (m : Machine T) (s : State T) (run : List Step) (p q : Cut) (t : ℕ) → Admitted m s run p t
     → Consistent m s run q → ((u : ℕ) → p u ≤ q u) → q t ≡ p t → Admitted m s run q t
-admitted_persists_at_later_cut m s run p q t ad cq up same = (
+admitted_persists m s run p q t ad cq up same = (
   omega (arith, ad.0),
   equal_cut_is_consistent m s run (λ u. max (further p t u) (q u)) (further q t) (λ u. elim (cases_eq u t) [
     | inl e ↦ at_thread u e
     | inr ne ↦ other u ne
   ])
-      (max_of_cuts_is_consistent m s run (further p t) q ad.1 cq),
+      (max_is_consistent m s run (further p t) q ad.1 cq),
 )
   where
     at_thread : (u : ℕ) → u ≡ t → max (further p t u) (q u) ≡ further q t u
@@ -49,14 +49,14 @@ pub data NextMoment (run : List Step) (i : ℕ) : Type 0 where
   Nothing : ((u : ℕ) → moment run (suc i) u ≡ moment run i u) → NextMoment run i
   One : (t : ℕ) → ((u : ℕ) → moment run (suc i) u ≡ further (moment run i) t u) → NextMoment run i
 
-next_moment_moves_one_thread : (run : List Step) (i : ℕ) → NextMoment run i
-next_moment_moves_one_thread [] zero = Nothing (λ u. refl)
-next_moment_moves_one_thread [] (suc i) = Nothing (λ u. refl)
-next_moment_moves_one_thread (e ∷ run) zero = One e.0 (λ u. ap (λ z. cond (eqb u e.0) (suc z) z) (at_zero run u))
+next_moment_moves_one : (run : List Step) (i : ℕ) → NextMoment run i
+next_moment_moves_one [] zero = Nothing (λ u. refl)
+next_moment_moves_one [] (suc i) = Nothing (λ u. refl)
+next_moment_moves_one (e ∷ run) zero = One e.0 (λ u. ap (λ z. cond (eqb u e.0) (suc z) z) (at_zero run u))
   where
     at_zero : (run : List Step) (u : ℕ) → moment run 0 u ≡ 0
     at_zero run u = refl
-next_moment_moves_one_thread (e ∷ run) (suc i) = elim (next_moment_moves_one_thread run i) [
+next_moment_moves_one (e ∷ run) (suc i) = elim (next_moment_moves_one run i) [
   | Nothing h ↦ Nothing (λ u. ap (λ z. cond (eqb u e.0) (suc z) z) (h u))
   | One t h ↦ One t (λ u. ap (λ z. cond (eqb u e.0) (suc z) z) (h u) ∙ twice (eqb u e.0) (eqb u t) (moment run i u))
 ]
@@ -67,9 +67,9 @@ next_moment_moves_one_thread (e ∷ run) (suc i) = elim (next_moment_moves_one_t
     twice false true n = refl
     twice false false n = refl
 
-pub moment_at_length_is_count : {T : Type 0} (m : Machine T) (s : State T) (run : List Step) (t : ℕ) → moment run (length run) t ≡ count m s run t
-moment_at_length_is_count m s [] t = refl
-moment_at_length_is_count m s (e ∷ run) t = ap (λ z. cond (eqb t e.0) (suc z) z) (moment_at_length_is_count m (after m s e) run t)
+pub moment_at_length : {T : Type 0} (m : Machine T) (s : State T) (run : List Step) (t : ℕ) → moment run (length run) t ≡ count m s run t
+moment_at_length m s [] t = refl
+moment_at_length m s (e ∷ run) t = ap (λ z. cond (eqb t e.0) (suc z) z) (moment_at_length m (after m s e) run t)
     ∙ lengthen (eqb t e.0) (s.now t, label m s e) (trail m (after m s e) run t)
   where
     lengthen : {A : Type 0} (b : Bool) (x : A) (xs : List A) → cond b (suc (length xs)) (length xs) ≡ length (join_if b x xs)
@@ -87,7 +87,7 @@ moment_below_or_progress : {T : Type 0} (m : Machine T) → IsLawful m → (s : 
 moment_below_or_progress m law s good run ok p q cp cq zero = inl (λ t. omega arith)
 moment_below_or_progress m law s good run ok p q cp cq (suc i) = elim (moment_below_or_progress m law s good run ok p q cp cq i) [
   | inr found ↦ inr found
-  | inl h ↦ elim (next_moment_moves_one_thread run i) [
+  | inl h ↦ elim (next_moment_moves_one run i) [
     | Nothing same ↦ inl (λ t. omega (arith, h t, same t))
     | One t step ↦ elim (cases_lt (p t) (min (q t) (suc (moment run i t)))) [
       | inl lt ↦ inr (record {
@@ -99,8 +99,8 @@ moment_below_or_progress m law s good run ok p q cp cq (suc i) = elim (moment_be
                   (omega (arith, h t, step t, further_at_own_thread p t, further_at_own_thread (moment run i) t))
               | inr ne ↦ omega (arith, h u, step u, further_at_other_thread p t u ne, further_at_other_thread (moment run i) t u ne)
             ])
-            (max_of_cuts_is_consistent m s run p (λ u. min (q u) (moment run (suc i) u)) cp
-            (min_of_cuts_is_consistent m s run q (moment run (suc i)) cq (moment_is_consistent_cut m law s good run ok (suc i))));
+            (max_is_consistent m s run p (λ u. min (q u) (moment run (suc i) u)) cp
+            (min_is_consistent m s run q (moment run (suc i)) cq (moment_is_consistent m law s good run ok (suc i))));
       })
       | inr ge ↦ inl (λ u. elim (cases_eq u t) [
         | inl e ↦ subst (λ z. min (q z) (moment run (suc i) z) ≤ p z) (sym e) (omega (arith, ge, step t, further_at_own_thread (moment run i) t))
@@ -111,21 +111,21 @@ moment_below_or_progress m law s good run ok p q cp cq (suc i) = elim (moment_be
 ]
 
 -- At a consistent cut below a consistent target some thread below its target is admitted.
-pub progress_below_consistent_target : {T : Type 0} (m : Machine T) → IsLawful m → (s : State T) → StateInvariant m s → (run : List Step) → IsRun m s run → (p q : Cut)
+pub progress_to_consistent : {T : Type 0} (m : Machine T) → IsLawful m → (s : State T) → StateInvariant m s → (run : List Step) → IsRun m s run → (p q : Cut)
     → Consistent m s run p → Consistent m s run q → IsCut m s run q → (t : ℕ) → p t < q t → Progress m s run p q
-progress_below_consistent_target m law s good run ok p q cp cq cut t lt = elim (moment_below_or_progress m law s good run ok p q cp cq (length run)) [
-  | inl h ↦ absurd (omega (arith, h t, moment_at_length_is_count m s run t, cut t, lt))
+progress_to_consistent m law s good run ok p q cp cq cut t lt = elim (moment_below_or_progress m law s good run ok p q cp cq (length run)) [
+  | inl h ↦ absurd (omega (arith, h t, moment_at_length m s run t, cut t, lt))
   | inr found ↦ found
 ]
 
 -- a thread passes each of its positions
-pub moment_with_thread_at_position_exists : {T : Type 0} (m : Machine T) (s : State T) (run : List Step) (t k : ℕ) → k ≤ count m s run t → (i : ℕ) × (moment run i t ≡ k)
-moment_with_thread_at_position_exists m s run t zero h = (0, refl)
-moment_with_thread_at_position_exists m s [] t (suc k) h = absurd (omega arith)
-moment_with_thread_at_position_exists {T} m s (e ∷ run) t (suc k) h = elim (cases_eq t e.0) [
-  | inl same ↦ let g = moment_with_thread_at_position_exists m (after m s e) run t k (inside (eqb t e.0) (eq-eqb t e.0 same) (trail m (after m s e) run t) h) in
+pub moment_at_position : {T : Type 0} (m : Machine T) (s : State T) (run : List Step) (t k : ℕ) → k ≤ count m s run t → (i : ℕ) × (moment run i t ≡ k)
+moment_at_position m s run t zero h = (0, refl)
+moment_at_position m s [] t (suc k) h = absurd (omega arith)
+moment_at_position {T} m s (e ∷ run) t (suc k) h = elim (cases_eq t e.0) [
+  | inl same ↦ let g = moment_at_position m (after m s e) run t k (inside (eqb t e.0) (eq-eqb t e.0 same) (trail m (after m s e) run t) h) in
       (suc g.0, hit (eqb t e.0) (eq-eqb t e.0 same) (moment run g.0 t) k g.1)
-  | inr other ↦ let g = moment_with_thread_at_position_exists m (after m s e) run t (suc k) (outside (eqb t e.0) (ne_eqb t e.0 other) (trail m (after m s e) run t) h) in
+  | inr other ↦ let g = moment_at_position m (after m s e) run t (suc k) (outside (eqb t e.0) (ne_eqb t e.0 other) (trail m (after m s e) run t) h) in
       (suc g.0, miss (eqb t e.0) (ne_eqb t e.0 other) (moment run g.0 t) (suc k) g.1)
 ]
   where
@@ -156,20 +156,20 @@ moment_within_count m s (e ∷ run) (suc i) u = grow (eqb u e.0) (moment run i u
     grow false n x xs h = h
 
 -- The least cut has the thread exactly where it is wanted.
-pub least_cut_exact_at_thread : {T : Type 0} (m : Machine T) → IsLawful m → (s : State T) → StateInvariant m s → (run : List Step) → IsRun m s run
+pub least_exact_at_thread : {T : Type 0} (m : Machine T) → IsLawful m → (s : State T) → StateInvariant m s → (run : List Step) → IsRun m s run
     → (p q : Cut) (t k : ℕ) → IsCut m s run p → Consistent m s run p → p t ≤ k → k ≤ count m s run t → IsLeast m s run p t k q → q t ≡ k
-least_cut_exact_at_thread m law s good run ok p q t k cut cp lo hi l =
-    let i = moment_with_thread_at_position_exists m s run t k hi in
+least_exact_at_thread m law s good run ok p q t k cut cp lo hi l =
+    let i = moment_at_position m s run t k hi in
     let h : q t ≤ max (p t) (moment run i.0 t) =
     l.least (λ u. max (p u) (moment run i.0 u)) (λ u. omega (arith, cut u, moment_within_count m s run i.0 u))
-    (max_of_cuts_is_consistent m s run p (moment run i.0) cp (moment_is_consistent_cut m law s good run ok i.0)) (λ u. omega arith) (omega (arith, i.1)) t in
+    (max_is_consistent m s run p (moment run i.0) cp (moment_is_consistent m law s good run ok i.0)) (λ u. omega arith) (omega (arith, i.1)) t in
     omega (arith, l.reaches, h, i.1)
 
-pub greatest_cut_exact_at_thread : {T : Type 0} (m : Machine T) → IsLawful m → (s : State T) → StateInvariant m s → (run : List Step) → IsRun m s run
+pub greatest_exact_at_thread : {T : Type 0} (m : Machine T) → IsLawful m → (s : State T) → StateInvariant m s → (run : List Step) → IsRun m s run
     → (p q : Cut) (t k : ℕ) → IsCut m s run p → Consistent m s run p → k ≤ p t → IsGreatest m s run p t k q → q t ≡ k
-greatest_cut_exact_at_thread m law s good run ok p q t k cut cp lo g =
-    let i = moment_with_thread_at_position_exists m s run t k (omega (arith, cut t)) in
+greatest_exact_at_thread m law s good run ok p q t k cut cp lo g =
+    let i = moment_at_position m s run t k (omega (arith, cut t)) in
     let h : min (p t) (moment run i.0 t) ≤ q t =
     g.greatest (λ u. min (p u) (moment run i.0 u)) (λ u. omega (arith, cut u))
-    (min_of_cuts_is_consistent m s run p (moment run i.0) cp (moment_is_consistent_cut m law s good run ok i.0)) (λ u. omega arith) (omega (arith, i.1)) t in
+    (min_is_consistent m s run p (moment run i.0) cp (moment_is_consistent m law s good run ok i.0)) (λ u. omega arith) (omega (arith, i.1)) t in
     omega (arith, g.reaches, h, i.1)

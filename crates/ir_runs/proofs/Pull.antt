@@ -2,15 +2,16 @@
 -- an entry that was taken, as the object saw it
 use Rattle.std.proofs.Common.{◌≡◌, ◌≢◌, ℕ, suc, zero, Bool, true, false, eqb, List, [], ◌∷◌, Some, refl, sym, ap, ◌∙◌, subst, arith, inl, inr, eq-eqb, ne_eqb, append-nil, ◌++◌}
 use Rattle.std.proofs.lemmas.Bool.{cases_eq, eqb-true}
-use Rattle.ir_runs.specs.Machine.{Ask, Private, Env, Enter, Try, Leave, Get, Put, Done, Act, act_of, Entered, Machine, Object, target, Admits, acted, emitted, Label, Quiet, Answer, EnteredAt, FailedTry, LeftAt, logged}
+use Rattle.ir_runs.specs.Machine.{Ask, Private, Env, Enter, Try, Leave, Get, Put, Done, Act, act_of, Entered, Machine, Object, target}
+use Rattle.ir_runs.specs.Machine.{Admits, acted, emitted, Label, Quiet, Answer, EnteredAt, FailedTry, LeftAt, logged}
 use Rattle.ir_runs.specs.Lawful.{IsLawful}
 use Rattle.ir_runs.specs.declared.access.Access.{Access}
 use Rattle.ir_runs.specs.declared.access.Access.TheVariants.{Reading, Writing}
 use Rattle.ir_runs.proofs.Tables.{upd_at_own_place}
 use Rattle.ir_runs.specs.Run.{act, State, after_act, Step, asked, Can, after, label, IsRun, end, join_if, trail, At}
-use Rattle.ir_runs.proofs.Good.{StateInvariant, state_invariant_after_step}
+use Rattle.ir_runs.proofs.Good.{StateInvariant, state_invariant_step}
 use Rattle.ir_runs.proofs.Ratchet.{TakenStep, step_of_trail_was_taken, WritesOrPast, ReadsOrPast, writes_or_past_is_kept, reads_or_past_is_kept, Entering, emitted_entry_is_entering}
-use Rattle.ir_runs.proofs.Steps.{Clashes, StepUnchanged, step_unchanged_after_other_step, steps_commute_unless_clash}
+use Rattle.ir_runs.proofs.Steps.{Clashes, StepUnchanged, step_unchanged_by_other, steps_commute}
 use Rattle.ir_runs.proofs.Swap.{Clash}
 
 pub record TakenEntry {T : Type 0} (m : Machine T) (R : Object → Type 0) (o : ℕ) (a : Access) (v l : ℕ) : Type 0 where
@@ -35,65 +36,65 @@ taken_entry_saw_object m R o a v l t k =
       left = λ w. ap (λ z. (k.state.objects (target z)).left) (sym e.does) ∙ e.left w;
     }
 
-pub taken_entry_not_past_writer : {T : Type 0} (m : Machine T) (v u o : ℕ) (a : Access) (l : ℕ) → TakenEntry m (WritesOrPast v u) o a v l → ⊥
-taken_entry_not_past_writer m v u o Reading l e = elim e.kept [ inl p ↦ omega (arith, p, e.version) | inr p ↦ e.admits u p.1 ]
-taken_entry_not_past_writer m v u o Writing l e = elim e.kept [ inl p ↦ omega (arith, p, e.version) | inr p ↦ cc (e.admits u, p.1) ]
+pub entry_not_past_writer : {T : Type 0} (m : Machine T) (v u o : ℕ) (a : Access) (l : ℕ) → TakenEntry m (WritesOrPast v u) o a v l → ⊥
+entry_not_past_writer m v u o Reading l e = elim e.kept [ inl p ↦ omega (arith, p, e.version) | inr p ↦ e.admits u p.1 ]
+entry_not_past_writer m v u o Writing l e = elim e.kept [ inl p ↦ omega (arith, p, e.version) | inr p ↦ cc (e.admits u, p.1) ]
 
-pub taken_write_entry_not_past_reader : {T : Type 0} (m : Machine T) (v u o l : ℕ) → TakenEntry m (ReadsOrPast v l u) o Writing v l → ⊥
-taken_write_entry_not_past_reader m v u o l e = elim e.kept [
+pub write_not_past_reader : {T : Type 0} (m : Machine T) (v u o l : ℕ) → TakenEntry m (ReadsOrPast v l u) o Writing v l → ⊥
+write_not_past_reader m v u o l e = elim e.kept [
   | inl p ↦ omega (arith, p, e.version)
   | inr p ↦ elim p.1
       [ inl q ↦ omega (arith, q, e.left refl) | inr q ↦ cc (e.admits u, q.1) ]
 ]
 
-pub target_object_after_step : {T : Type 0} (m : Machine T) (s : State T) (e : Step) (q : Act) → act m s e ≡ q
+pub target_object_step : {T : Type 0} (m : Machine T) (s : State T) (e : Step) (q : Act) → act m s e ≡ q
     → (after m s e).objects (target q) ≡ acted q e.0 (s.objects (target q))
 unfolding after
-target_object_after_step m s e q p = subst (λ z. (after m s e).objects (target z) ≡ acted z e.0 (s.objects (target z))) p
+target_object_step m s e q p = subst (λ z. (after m s e).objects (target z) ≡ acted z e.0 (s.objects (target z))) p
     (upd_at_own_place s.objects (target (act m s e)) _)
 
 -- after an entry, another that clashed with it emits something else
-clashing_entry_does_not_recur : {T : Type 0} (m : Machine T) → IsLawful m → (s : State T) → StateInvariant m s → (e : Step) → Can m s e → (run : List Step)
+clash_does_not_recur : {T : Type 0} (m : Machine T) → IsLawful m → (s : State T) → StateInvariant m s → (e : Step) → Can m s e → (run : List Step)
     → IsRun m (after m s e) run → (t k : ℕ) (x : T)
     → (q' q : Act) → act m s e ≡ q' → target q ≡ target q' → Clash q' q
     → At (trail m (after m s e) run t) k (x, emitted q (s.objects (target q))) → ⊥
-clashing_entry_does_not_recur m law s good e can run ok t k x (Entered o Writing ans) (Entered p Reading ans') is same c h =
-    taken_entry_not_past_writer m (s.objects p).version e.0 p Reading 0 (taken_entry_saw_object m (WritesOrPast (s.objects p).version e.0) p Reading _ _ t
-    (step_of_trail_was_taken m law (WritesOrPast (s.objects p).version e.0) (writes_or_past_is_kept m _ _) (after m s e) (state_invariant_after_step m law s good e can) run ok p
+clash_does_not_recur m law s good e can run ok t k x (Entered o Writing ans) (Entered p Reading ans') is same c h =
+    entry_not_past_writer m (s.objects p).version e.0 p Reading 0 (taken_entry_saw_object m (WritesOrPast (s.objects p).version e.0) p Reading _ _ t
+    (step_of_trail_was_taken m law (WritesOrPast (s.objects p).version e.0) (writes_or_past_is_kept m _ _) (after m s e) (state_invariant_step m law s good e can) run ok p
     (inr (subst (λ z. (((after m s e).objects z).version ≡ (s.objects z).version) × (((after m s e).objects z).inside e.0 ≡ Some Writing))
     (sym same) (
-      ap (λ z. z.version) (target_object_after_step m s e (Entered o Writing ans) is),
+      ap (λ z. z.version) (target_object_step m s e (Entered o Writing ans) is),
       ap (λ z. z.inside e.0)
-          (target_object_after_step m s e (Entered o Writing ans) is) ∙ upd_at_own_place (s.objects o).inside e.0 (Some Writing),
+          (target_object_step m s e (Entered o Writing ans) is) ∙ upd_at_own_place (s.objects o).inside e.0 (Some Writing),
     )))
     t k x _ h))
-clashing_entry_does_not_recur m law s good e can run ok t k x (Entered o Writing ans) (Entered p Writing ans') is same c h =
-    taken_entry_not_past_writer m (s.objects p).version e.0 p Writing (s.objects p).left (taken_entry_saw_object m (WritesOrPast (s.objects p).version e.0) p Writing _ _ t
-    (step_of_trail_was_taken m law (WritesOrPast (s.objects p).version e.0) (writes_or_past_is_kept m _ _) (after m s e) (state_invariant_after_step m law s good e can) run ok p
+clash_does_not_recur m law s good e can run ok t k x (Entered o Writing ans) (Entered p Writing ans') is same c h =
+    entry_not_past_writer m (s.objects p).version e.0 p Writing (s.objects p).left (taken_entry_saw_object m (WritesOrPast (s.objects p).version e.0) p Writing _ _ t
+    (step_of_trail_was_taken m law (WritesOrPast (s.objects p).version e.0) (writes_or_past_is_kept m _ _) (after m s e) (state_invariant_step m law s good e can) run ok p
     (inr (subst (λ z. (((after m s e).objects z).version ≡ (s.objects z).version) × (((after m s e).objects z).inside e.0 ≡ Some Writing))
     (sym same) (
-      ap (λ z. z.version) (target_object_after_step m s e (Entered o Writing ans) is),
+      ap (λ z. z.version) (target_object_step m s e (Entered o Writing ans) is),
       ap (λ z. z.inside e.0)
-          (target_object_after_step m s e (Entered o Writing ans) is) ∙ upd_at_own_place (s.objects o).inside e.0 (Some Writing),
+          (target_object_step m s e (Entered o Writing ans) is) ∙ upd_at_own_place (s.objects o).inside e.0 (Some Writing),
     )))
     t k x _ h))
-clashing_entry_does_not_recur m law s good e can run ok t k x (Entered o Reading ans) (Entered p Writing ans') is same c h =
-    taken_write_entry_not_past_reader m (s.objects p).version e.0 p (s.objects p).left
+clash_does_not_recur m law s good e can run ok t k x (Entered o Reading ans) (Entered p Writing ans') is same c h =
+    write_not_past_reader m (s.objects p).version e.0 p (s.objects p).left
     (taken_entry_saw_object m (ReadsOrPast (s.objects p).version (s.objects p).left e.0) p Writing _ _ t
-    (step_of_trail_was_taken m law (ReadsOrPast (s.objects p).version (s.objects p).left e.0) (reads_or_past_is_kept m _ _ _) (after m s e) (state_invariant_after_step m law s good e can) run
+    (step_of_trail_was_taken m law (ReadsOrPast (s.objects p).version (s.objects p).left e.0) (reads_or_past_is_kept m _ _ _) (after m s e) (state_invariant_step m law s good e can) run
     ok p
     (subst (λ z. ReadsOrPast (s.objects z).version (s.objects z).left e.0 ((after m s e).objects z)) (sym same)
     (inr (
-      ap (λ z. z.version) (target_object_after_step m s e (Entered o Reading ans) is),
+      ap (λ z. z.version) (target_object_step m s e (Entered o Reading ans) is),
       inr (
-        ap (λ z. z.left) (target_object_after_step m s e (Entered o Reading ans) is),
+        ap (λ z. z.left) (target_object_step m s e (Entered o Reading ans) is),
         ap (λ z. z.inside e.0)
-            (target_object_after_step m s e (Entered o Reading ans) is) ∙ upd_at_own_place (s.objects o).inside e.0 (Some Reading),
+            (target_object_step m s e (Entered o Reading ans) is) ∙ upd_at_own_place (s.objects o).inside e.0 (Some Reading),
       ),
     )))
     t k x _ h))
-clashing_entry_does_not_recur m law s good e can run ok t k x (Entered o Reading ans) (Entered p Reading ans') is same c h = c
-clashing_entry_does_not_recur m law s good e can run ok t k x _ _ is same c h = absurd c
+clash_does_not_recur m law s good e can run ok t k x (Entered o Reading ans) (Entered p Reading ans') is same c h = c
+clash_does_not_recur m law s good e can run ok t k x _ _ is same c h = absurd c
 
 pub clash_is_symmetric : (q q' : Act) → Clash q q' → Clash q' q
 clash_is_symmetric (Entered o Writing ans) (Entered p Reading ans') c = tt
@@ -132,34 +133,34 @@ pub record PulledFirst {T : Type 0} (m : Machine T) (s : State T) (run : List St
   pub same_end : end m (after m s (t, r)) rest ≡ end m s run
   pub same_trail : (u : ℕ) → trail m s ((t, r) ∷ rest) u ≡ trail m s run u
 
-join_if_commutes : {A : Type 0} (b c : Bool) (x x' y y' : A) (xs : List A) → (b ≡ true → c ≡ true → ⊥) → (b ≡ true → x ≡ x') → (c ≡ true → y ≡ y')
+pub join_if_commutes : {A : Type 0} (b c : Bool) (x x' y y' : A) (xs : List A) → (b ≡ true → c ≡ true → ⊥) → (b ≡ true → x ≡ x') → (c ≡ true → y ≡ y')
     → join_if b x (join_if c y xs) ≡ join_if c y' (join_if b x' xs)
 join_if_commutes true true x x' y y' xs f p q = absurd (f refl refl)
 join_if_commutes true false x x' y y' xs f p q = ap (λ z. z ∷ xs) (p refl)
 join_if_commutes false true x x' y y' xs f p q = ap (λ z. z ∷ xs) (q refl)
 join_if_commutes false false x x' y y' xs f p q = refl
 
-heads_equal_of_equal_lists : {A : Type 0} (x y : A) (xs ys : List A) → (x ∷ xs) ≡ (y ∷ ys) → x ≡ y
-heads_equal_of_equal_lists x y xs ys h = cc h
+heads_equal : {A : Type 0} (x y : A) (xs ys : List A) → (x ∷ xs) ≡ (y ∷ ys) → x ≡ y
+heads_equal x y xs ys h = cc h
 
 -- what logs an entry is the entry
-label_is_entry_if_logs_entry : (k : Label) (o : ℕ) (a : Access) (v l : ℕ) → logged k [] ≡ EnteredAt o a v l ∷ [] → k ≡ EnteredAt o a v l
-label_is_entry_if_logs_entry Quiet o a v l h = absurd (cc h)
-label_is_entry_if_logs_entry (Answer i w) o a v l h = cc h
-label_is_entry_if_logs_entry (EnteredAt p c v' l') o a v l h = cc h
-label_is_entry_if_logs_entry (FailedTry p) o a v l h = absurd (cc h)
-label_is_entry_if_logs_entry (LeftAt p c v') o a v l h = absurd (cc h)
+label_is_entry : (k : Label) (o : ℕ) (a : Access) (v l : ℕ) → logged k [] ≡ EnteredAt o a v l ∷ [] → k ≡ EnteredAt o a v l
+label_is_entry Quiet o a v l h = absurd (cc h)
+label_is_entry (Answer i w) o a v l h = cc h
+label_is_entry (EnteredAt p c v' l') o a v l h = cc h
+label_is_entry (FailedTry p) o a v l h = absurd (cc h)
+label_is_entry (LeftAt p c v') o a v l h = absurd (cc h)
 
-label_same_if_clashing_logs_same : (q' q : Act) (b : Object) (k : Label) → Clash q' q → logged k [] ≡ logged (emitted q b) [] → k ≡ emitted q b
-label_same_if_clashing_logs_same q' (Entered o Reading x) b k c h = label_is_entry_if_logs_entry k o Reading _ _ h
-label_same_if_clashing_logs_same q' (Entered o Writing x) b k c h = label_is_entry_if_logs_entry k o Writing _ _ h
-label_same_if_clashing_logs_same (Entered p Reading x) _ b k c h = absurd c
-label_same_if_clashing_logs_same (Entered p Writing x) _ b k c h = absurd c
-label_same_if_clashing_logs_same _ _ b k c h = absurd c
+clashing_label_same : (q' q : Act) (b : Object) (k : Label) → Clash q' q → logged k [] ≡ logged (emitted q b) [] → k ≡ emitted q b
+clashing_label_same q' (Entered o Reading x) b k c h = label_is_entry k o Reading _ _ h
+clashing_label_same q' (Entered o Writing x) b k c h = label_is_entry k o Writing _ _ h
+clashing_label_same (Entered p Reading x) _ b k c h = absurd c
+clashing_label_same (Entered p Writing x) _ b k c h = absurd c
+clashing_label_same _ _ b k c h = absurd c
 
-pulled_first_if_own_step_first : {T : Type 0} (m : Machine T) (s : State T) (e : Step) (run : List Step) → IsRun m s (e ∷ run) → (r : ℕ) → Can m s (e.0, r)
+pulled_first_own_step : {T : Type 0} (m : Machine T) (s : State T) (e : Step) (run : List Step) → IsRun m s (e ∷ run) → (r : ℕ) → Can m s (e.0, r)
     → logged (label m s e) [] ≡ logged (label m s (e.0, r)) [] → PulledFirst m s (e ∷ run) e.0 r
-pulled_first_if_own_step_first m s e run ok r can h =
+pulled_first_own_step m s e run ok r can h =
     let a : act m s (e.0, r) ≡ act m s e = sym (act_same_if_logs_same m (asked m s e.0) e.1 r (s.objects (target (act m s e)))
     (s.objects (target (act m s (e.0, r)))) [] [] [] ok.0 can (append-nil _ ∙ h)) in
     let p : after m s (e.0, r) ≡ after m s e = after_same_if_act_same m s e.0 r e.1 a in
@@ -171,20 +172,20 @@ pulled_first_if_own_step_first m s e run ok r can h =
           ∙ ap (λ z. join_if (eqb u e.0) (s.now u, emitted z (s.objects (target z))) (trail m (after m s e) run u)) a;
     }
 
-pulled_first_past_other_step : {T : Type 0} (m : Machine T) → IsLawful m → (s : State T) → StateInvariant m s → (e : Step) (run : List Step) → IsRun m s (e ∷ run)
+pulled_past_other_step : {T : Type 0} (m : Machine T) → IsLawful m → (s : State T) → StateInvariant m s → (e : Step) (run : List Step) → IsRun m s (e ∷ run)
     → (t r : ℕ) → t ≢ e.0 → Can m s (t, r) → (x : T) (j : Label) → At (trail m (after m s e) run t) 0 (x, j)
     → logged j [] ≡ logged (label m s (t, r)) []
     → (Can m (after m s e) (t, r) → logged j [] ≡ logged (label m (after m s e) (t, r)) [] → PulledFirst m (after m s e) run t r)
     → PulledFirst m s (e ∷ run) t r
-pulled_first_past_other_step m law s good e run ok t r other can x j h l ih =
-    let free : Clashes m s e (t, r) → ⊥ = λ c. clashing_entry_does_not_recur m law s good e ok.0 run ok.1 t 0 x (act m s e) (act m s (t, r)) refl c.0 c.1
+pulled_past_other_step m law s good e run ok t r other can x j h l ih =
+    let free : Clashes m s e (t, r) → ⊥ = λ c. clash_does_not_recur m law s good e ok.0 run ok.1 t 0 x (act m s e) (act m s (t, r)) refl c.0 c.1
     (subst (λ z. At (trail m (after m s e) run t) 0 (x, z))
-    (label_same_if_clashing_logs_same (act m s e) (act m s (t, r)) (s.objects (target (act m s (t, r)))) j c.1 l) h) in
+    (clashing_label_same (act m s e) (act m s (t, r)) (s.objects (target (act m s (t, r)))) j c.1 l) h) in
     let free' : Clashes m s (t, r) e → ⊥ = λ c. free (sym c.0, clash_is_symmetric _ _ c.1) in
-    let k : StepUnchanged m s e (t, r) = step_unchanged_after_other_step m law s good e (t, r) (λ p. other (sym p)) ok.0 can free in
-    let k' : StepUnchanged m s (t, r) e = step_unchanged_after_other_step m law s good (t, r) e other can ok.0 free' in
+    let k : StepUnchanged m s e (t, r) = step_unchanged_by_other m law s good e (t, r) (λ p. other (sym p)) ok.0 can free in
+    let k' : StepUnchanged m s (t, r) e = step_unchanged_by_other m law s good (t, r) e other can ok.0 free' in
     let q : PulledFirst m (after m s e) run t r = ih k.can (l ∙ ap (λ z. logged z []) (sym k.label_same)) in
-    let p : after m (after m s (t, r)) e ≡ after m (after m s e) (t, r) = steps_commute_unless_clash m law s good (t, r) e other can ok.0 free' free in
+    let p : after m (after m s (t, r)) e ≡ after m (after m s e) (t, r) = steps_commute m law s good (t, r) e other can ok.0 free' free in
     record {
       rest = e ∷ q.rest;
       ok = (k'.can, subst (λ z. IsRun m z q.rest) (sym p) q.ok);
@@ -201,16 +202,16 @@ pulled_first_past_other_step m law s good e run ok t r other can x j h l ih =
     }
 
 -- A step that can be taken, and that logs what the thread's first step in the run logs, may come first.
-pub thread_step_can_come_first : {T : Type 0} (m : Machine T) → IsLawful m → (s : State T) → StateInvariant m s → (run : List Step) → IsRun m s run → (t r : ℕ)
+pub step_can_come_first : {T : Type 0} (m : Machine T) → IsLawful m → (s : State T) → StateInvariant m s → (run : List Step) → IsRun m s run → (t r : ℕ)
     → Can m s (t, r) → (x : T) (j : Label) → At (trail m s run t) 0 (x, j) → logged j [] ≡ logged (label m s (t, r)) [] → PulledFirst m s run t r
-thread_step_can_come_first m law s good [] ok t r can x j h l = absurd h
-thread_step_can_come_first m law s good (e ∷ run) ok t r can x j h l = elim (cases_eq t e.0) [
-  | inl same ↦ subst (λ z. PulledFirst m s (e ∷ run) z r) (sym same) (pulled_first_if_own_step_first m s e run ok r
+step_can_come_first m law s good [] ok t r can x j h l = absurd h
+step_can_come_first m law s good (e ∷ run) ok t r can x j h l = elim (cases_eq t e.0) [
+  | inl same ↦ subst (λ z. PulledFirst m s (e ∷ run) z r) (sym same) (pulled_first_own_step m s e run ok r
       (subst (λ z. Can m s (z, r)) same can)
       (ap (λ z. logged z.1 []) (subst (λ b. At (join_if b (s.now t, label m s e) (trail m (after m s e) run t)) 0 (x, j))
       (eq-eqb t e.0 same) h) ∙ subst (λ z. logged j [] ≡ logged (label m s (z, r)) []) same l))
-  | inr other ↦ pulled_first_past_other_step m law s good e run ok t r other can x j
+  | inr other ↦ pulled_past_other_step m law s good e run ok t r other can x j
       (subst (λ b. At (join_if b (s.now t, label m s e) (trail m (after m s e) run t)) 0 (x, j)) (ne_eqb t e.0 other) h) l
-      (λ c a. thread_step_can_come_first m law (after m s e) (state_invariant_after_step m law s good e ok.0) run ok.1 t r c x j
+      (λ c a. step_can_come_first m law (after m s e) (state_invariant_step m law s good e ok.0) run ok.1 t r c x j
       (subst (λ b. At (join_if b (s.now t, label m s e) (trail m (after m s e) run t)) 0 (x, j)) (ne_eqb t e.0 other) h) a)
 ]

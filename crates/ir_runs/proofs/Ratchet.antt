@@ -6,19 +6,19 @@ use Rattle.ir_runs.specs.Machine.{Act, Silent, Replied, Entered, TryFailed, Left
 use Rattle.ir_runs.specs.Lawful.{IsLawful}
 use Rattle.ir_runs.specs.declared.access.Access.{Access}
 use Rattle.ir_runs.specs.declared.access.Access.TheVariants.{Reading, Writing}
-use Rattle.ir_runs.proofs.Tables.{upd_at_other_place, property_of_upd_by_cases}
+use Rattle.ir_runs.proofs.Tables.{upd_at_other_place, upd_by_cases}
 use Rattle.ir_runs.specs.Run.{act, State, Step, Can, after, label, IsRun, join_if, trail, At}
-use Rattle.ir_runs.proofs.Good.{Exclusive, InsideForAct, StateInvariant, inside_for_act_of_step, state_invariant_after_step}
+use Rattle.ir_runs.proofs.Good.{Exclusive, InsideForAct, StateInvariant, inside_for_act_of_step, state_invariant_step}
 
 abbrev pub IsKeptByActs : {T : Type 0} → Machine T → (Object → Type 0) → Type 0
 IsKeptByActs m R = (b : Object) (t : ℕ) (q : Act) → Exclusive b → InsideForAct q (b.inside t) → Admits m q b → R b → R (acted q t b)
 
-pub kept_property_after_step : {T : Type 0} (m : Machine T) → IsLawful m → (R : Object → Type 0) → IsKeptByActs m R → (s : State T) → StateInvariant m s → (e : Step)
+pub property_kept_by_step : {T : Type 0} (m : Machine T) → IsLawful m → (R : Object → Type 0) → IsKeptByActs m R → (s : State T) → StateInvariant m s → (e : Step)
     → Can m s e → (o : ℕ) → R (s.objects o) → R ((after m s e).objects o)
 unfolding after
-kept_property_after_step m law R kept s good e can o here =
+property_kept_by_step m law R kept s good e can o here =
     let q : Act = act m s e in
-    property_of_upd_by_cases s.objects (target q) (acted q e.0 (s.objects (target q))) o R
+    upd_by_cases s.objects (target q) (acted q e.0 (s.objects (target q))) o R
     (λ p. kept (s.objects (target q)) e.0 q (good.exclusive _) (inside_for_act_of_step m law s good e) can (subst (λ z. R (s.objects z)) p here))
     (λ _. here)
 
@@ -45,7 +45,7 @@ step_of_trail_was_taken m law R kept s good [] ok o here t k x μ h = absurd h
 step_of_trail_was_taken m law R kept s good (e ∷ run) ok o here t k x μ h =
     elim (at_of_join_if_cases (eqb t e.0) (s.now t, label m s e) (x, μ) (trail m (after m s e) run t) k h) [
       | inl p ↦ record { state = s; good = good; step = e; can = ok.0; who = sym (eqb-true t e.0 p.0); emits = ap (λ z. z.1) p.1; kept = here }
-      | inr p ↦ step_of_trail_was_taken m law R kept (after m s e) (state_invariant_after_step m law s good e ok.0) run ok.1 o (kept_property_after_step m law R kept s good e ok.0 o here) t p.0
+      | inr p ↦ step_of_trail_was_taken m law R kept (after m s e) (state_invariant_step m law s good e ok.0) run ok.1 o (property_kept_by_step m law R kept s good e ok.0 o here) t p.0
           x μ p.1
     ]
 
@@ -60,34 +60,34 @@ ReadsOrPast v l u b = (v < b.version) ⊎ ((b.version ≡ v) × ((l < b.left) �
 abbrev pub VersionAtLeast : ℕ → Object → Type 0
 VersionAtLeast v b = v ≤ b.version
 
-pub version_at_least_is_kept : {T : Type 0} (m : Machine T) (v : ℕ) → IsKeptByActs m (VersionAtLeast v)
-version_at_least_is_kept m v b t Silent ex i h l = l
-version_at_least_is_kept m v b t (TryFailed _) ex i h l = l
-version_at_least_is_kept m v b t (Replied k res) ex i h l = l
-version_at_least_is_kept m v b t (Entered o a ans) ex i h l = l
-version_at_least_is_kept m v b t (Left o Reading) ex i h l = l
-version_at_least_is_kept m v b t (Left o Writing) ex i h l = omega arith
-version_at_least_is_kept m v b t (Got o j) ex i h l = l
-version_at_least_is_kept m v b t (Stored o j w) ex i h l = l
-version_at_least_is_kept m v b t Never ex i h l = l
+pub version_bound_kept : {T : Type 0} (m : Machine T) (v : ℕ) → IsKeptByActs m (VersionAtLeast v)
+version_bound_kept m v b t Silent ex i h l = l
+version_bound_kept m v b t (TryFailed _) ex i h l = l
+version_bound_kept m v b t (Replied k res) ex i h l = l
+version_bound_kept m v b t (Entered o a ans) ex i h l = l
+version_bound_kept m v b t (Left o Reading) ex i h l = l
+version_bound_kept m v b t (Left o Writing) ex i h l = omega arith
+version_bound_kept m v b t (Got o j) ex i h l = l
+version_bound_kept m v b t (Stored o j w) ex i h l = l
+version_bound_kept m v b t Never ex i h l = l
 
-inside_kept_by_entry_of_other : (b : Object) (t u : ℕ) (a c : Access) → b.inside t ≡ None → b.inside u ≡ Some c → upd b.inside t (Some a) u ≡ Some c
-inside_kept_by_entry_of_other b t u a c i w = elim (cases_eq u t)
+inside_kept_by_entry : (b : Object) (t u : ℕ) (a c : Access) → b.inside t ≡ None → b.inside u ≡ Some c → upd b.inside t (Some a) u ≡ Some c
+inside_kept_by_entry b t u a c i w = elim (cases_eq u t)
     [ inl e ↦ absurd (cc (ap b.inside e, i, w)) | inr ne ↦ upd_at_other_place b.inside t u (Some a) ne ∙ w ]
 
-inside_kept_by_leave_of_other : (b : Object) (t u : ℕ) (c : Access) → u ≢ t → b.inside u ≡ Some c → upd b.inside t None u ≡ Some c
-inside_kept_by_leave_of_other b t u c ne w = upd_at_other_place b.inside t u None ne ∙ w
+inside_kept_by_leave : (b : Object) (t u : ℕ) (c : Access) → u ≢ t → b.inside u ≡ Some c → upd b.inside t None u ≡ Some c
+inside_kept_by_leave b t u c ne w = upd_at_other_place b.inside t u None ne ∙ w
 
 pub writes_or_past_is_kept : {T : Type 0} (m : Machine T) (v u : ℕ) → IsKeptByActs m (WritesOrPast v u)
 writes_or_past_is_kept m v u b t Silent ex i h l = l
 writes_or_past_is_kept m v u b t (TryFailed _) ex i h l = l
 writes_or_past_is_kept m v u b t (Replied k res) ex i h l = l
-writes_or_past_is_kept m v u b t (Entered o a ans) ex i h l = elim l [ inl p ↦ inl p | inr p ↦ inr (p.0, inside_kept_by_entry_of_other b t u a Writing i p.1) ]
+writes_or_past_is_kept m v u b t (Entered o a ans) ex i h l = elim l [ inl p ↦ inl p | inr p ↦ inr (p.0, inside_kept_by_entry b t u a Writing i p.1) ]
 writes_or_past_is_kept m v u b t (Left o Reading) ex i h l =
     elim l [
       | inl p ↦ inl p
       | inr p ↦ elim (cases_eq u t)
-          [ inl e ↦ absurd (cc (ap b.inside e, i, p.1)) | inr ne ↦ inr (p.0, inside_kept_by_leave_of_other b t u Writing ne p.1) ]
+          [ inl e ↦ absurd (cc (ap b.inside e, i, p.1)) | inr ne ↦ inr (p.0, inside_kept_by_leave b t u Writing ne p.1) ]
     ]
 writes_or_past_is_kept m v u b t (Left o Writing) ex i h l = elim l [ inl p ↦ inl (omega arith) | inr p ↦ inl (omega (arith, p.0)) ]
 writes_or_past_is_kept m v u b t (Got o j) ex i h l = l
@@ -104,7 +104,7 @@ reads_or_past_is_kept m v l u b t (Entered o a ans) ex i h k =
       | inr p ↦ elim p.1 [
         | inl less ↦ inr (p.0, inl less)
         | inr g ↦ inr
-            (p.0, inr (g.0, inside_kept_by_entry_of_other b t u a Reading i g.1))
+            (p.0, inr (g.0, inside_kept_by_entry b t u a Reading i g.1))
       ]
     ]
 reads_or_past_is_kept m v l u b t (Left o Reading) ex i h k =

@@ -2,13 +2,14 @@
 -- the first step of a thread is what the thread asks now
 use Rattle.std.proofs.Common.{◌≡◌, ◌≢◌, ℕ, ◌<◌, ◌≤◌, Bool, true, false, eqb, List, [], ◌∷◌, ◌++◌, length, refl, sym, ap, ◌∙◌, subst, arith, inl, inr, eq-eqb, ne_eqb, append-nil, length-append}
 use Rattle.std.proofs.lemmas.Bool.{cases_eq}
-use Rattle.ir_runs.specs.Machine.{Ask, Act, act_of, Silent, Replied, Entered, TryFailed, Left, Got, Stored, Never, Machine, Object, Admits, target, emitted, Label, Quiet, Answer, EnteredAt, FailedTry, LeftAt, logged}
+use Rattle.ir_runs.specs.Machine.{Ask, Act, act_of, Silent, Replied, Entered, TryFailed, Left, Got, Stored, Never, Machine, Object, Admits}
+use Rattle.ir_runs.specs.Machine.{target, emitted, Label, Quiet, Answer, EnteredAt, FailedTry, LeftAt, logged}
 use Rattle.ir_runs.specs.Lawful.{IsLawful}
 use Rattle.ir_runs.specs.declared.access.Access.TheVariants.{Reading, Writing}
 use Rattle.ir_runs.proofs.Tables.{upd_at_other_place}
 use Rattle.ir_runs.specs.Run.{act, State, Can, Step, asked, after, label, IsRun, end, join_if, trail, events, log, count, At}
-use Rattle.ir_runs.proofs.Good.{StateInvariant, state_invariant_after_step}
-use Rattle.ir_runs.proofs.Pull.{PulledFirst, thread_step_can_come_first, act_same_if_logs_same}
+use Rattle.ir_runs.proofs.Good.{StateInvariant, state_invariant_step}
+use Rattle.ir_runs.proofs.Pull.{PulledFirst, step_can_come_first, act_same_if_logs_same}
 
 pub record FirstStepEmits {T : Type 0} (m : Machine T) (s : State T) (t : ℕ) (x : T) (j : Label) : Type 0 where
   pub result : ℕ
@@ -16,14 +17,14 @@ pub record FirstStepEmits {T : Type 0} (m : Machine T) (s : State T) (t : ℕ) (
   pub admits : Admits m (act m s (t, result)) object
   pub emits : j ≡ emitted (act m s (t, result)) object
 
-pub thread_after_step_of_other : {T : Type 0} (m : Machine T) (s : State T) (e : Step) (t : ℕ) → t ≢ e.0 → (after m s e).now t ≡ s.now t
+pub thread_after_other : {T : Type 0} (m : Machine T) (s : State T) (e : Step) (t : ℕ) → t ≢ e.0 → (after m s e).now t ≡ s.now t
 unfolding after
-thread_after_step_of_other m s e t ne = upd_at_other_place s.now e.0 t _ ne
+thread_after_other m s e t ne = upd_at_other_place s.now e.0 t _ ne
 
-pub first_step_of_trail_emits : {T : Type 0} (m : Machine T) (s : State T) (run : List Step) → IsRun m s run → (t : ℕ) (x : T) (j : Label)
+pub first_step_emits : {T : Type 0} (m : Machine T) (s : State T) (run : List Step) → IsRun m s run → (t : ℕ) (x : T) (j : Label)
     → At (trail m s run t) 0 (x, j) → FirstStepEmits m s t x j
-first_step_of_trail_emits m s [] ok t x j h = absurd h
-first_step_of_trail_emits m s (e ∷ run) ok t x j h = elim (cases_eq t e.0) [
+first_step_emits m s [] ok t x j h = absurd h
+first_step_emits m s (e ∷ run) ok t x j h = elim (cases_eq t e.0) [
   | inl same ↦ record {
     result = e.1;
     object = s.objects (target (act m s (t, e.1)));
@@ -33,9 +34,9 @@ first_step_of_trail_emits m s (e ∷ run) ok t x j h = elim (cases_eq t e.0) [
         h)));
   }
   | inr other ↦
-      let k : FirstStepEmits m (after m s e) t x j = first_step_of_trail_emits m (after m s e) run ok.1 t x j
+      let k : FirstStepEmits m (after m s e) t x j = first_step_emits m (after m s e) run ok.1 t x j
       (subst (λ b. At (join_if b (s.now t, label m s e) (trail m (after m s e) run t)) 0 (x, j)) (ne_eqb t e.0 other) h) in
-      let p : act m (after m s e) (t, k.result) ≡ act m s (t, k.result) = ap (λ z. act_of (m.ask z) k.result) (thread_after_step_of_other m s e t other) in
+      let p : act m (after m s e) (t, k.result) ≡ act m s (t, k.result) = ap (λ z. act_of (m.ask z) k.result) (thread_after_other m s e t other) in
       record {
         result = k.result;
         object = k.object;
@@ -74,27 +75,27 @@ logged_prefix_cancels (EnteredAt o a v l) xs ys zs h = cc h
 logged_prefix_cancels (FailedTry o) xs ys zs h = cc h
 logged_prefix_cancels (LeftAt o a v) xs ys zs h = h
 
-events_prefix_cancels_join_if : {T : Type 0} (b : Bool) (x : T × Label) (xs ys : List (T × Label)) (zs : List Label)
+events_cancel_join_if : {T : Type 0} (b : Bool) (x : T × Label) (xs ys : List (T × Label)) (zs : List Label)
     → events (join_if b x xs) ++ zs ≡ events (join_if b x ys) → events xs ++ zs ≡ events ys
-events_prefix_cancels_join_if true x xs ys zs h = logged_prefix_cancels x.1 (events xs) zs (events ys) h
-events_prefix_cancels_join_if false x xs ys zs h = h
+events_cancel_join_if true x xs ys zs h = logged_prefix_cancels x.1 (events xs) zs (events ys) h
+events_cancel_join_if false x xs ys zs h = h
 
-length_order_cancels_join_if : {A : Type 0} (b : Bool) (x : A) (xs ys : List A) → length (join_if b x xs) ≤ length (join_if b x ys) → length xs ≤ length ys
-length_order_cancels_join_if true x xs ys h = omega arith
-length_order_cancels_join_if false x xs ys h = h
+lengths_cancel_join_if : {A : Type 0} (b : Bool) (x : A) (xs ys : List A) → length (join_if b x xs) ≤ length (join_if b x ys) → length xs ≤ length ys
+lengths_cancel_join_if true x xs ys h = omega arith
+lengths_cancel_join_if false x xs ys h = h
 
-pub append_after_join_if_is_join_if_of_append : {A : Type 0} (b : Bool) (x : A) (xs ys : List A) → join_if b x xs ++ ys ≡ join_if b x (xs ++ ys)
-append_after_join_if_is_join_if_of_append true x xs ys = refl
-append_after_join_if_is_join_if_of_append false x xs ys = refl
+pub join_if_append_assoc : {A : Type 0} (b : Bool) (x : A) (xs ys : List A) → join_if b x xs ++ ys ≡ join_if b x (xs ++ ys)
+join_if_append_assoc true x xs ys = refl
+join_if_append_assoc false x xs ys = refl
 
 pub record NonEmpty {A : Type 0} (xs : List A) : Type 0 where
   pub head : A
   pub rest : List A
   pub is : xs ≡ head ∷ rest
 
-pub non_empty_if_length_positive : {A : Type 0} (xs : List A) → 0 < length xs → NonEmpty xs
-non_empty_if_length_positive [] h = absurd (omega arith)
-non_empty_if_length_positive (x ∷ xs) h = record { head = x; rest = xs; is = refl }
+pub positive_length_nonempty : {A : Type 0} (xs : List A) → 0 < length xs → NonEmpty xs
+positive_length_nonempty [] h = absurd (omega arith)
+positive_length_nonempty (x ∷ xs) h = record { head = x; rest = xs; is = refl }
 
 -- the rest of the run, after the steps of the other
 pub record BeginsRun {T : Type 0} (m : Machine T) (s : State T) (prefix run : List Step) : Type 0 where
@@ -104,11 +105,11 @@ pub record BeginsRun {T : Type 0} (m : Machine T) (s : State T) (prefix run : Li
   pub same_trail : (u : ℕ) → trail m s prefix u ++ trail m (end m s prefix) rest u ≡ trail m s run u
 
 -- what the thread's first step logs is what the step e logs
-first_step_logs_as_prefix_step : {T : Type 0} (m : Machine T) (s : State T) (e : Step) (prefix run : List Step) → Can m s e → IsRun m s run
+first_step_logs_as_prefix : {T : Type 0} (m : Machine T) (s : State T) (e : Step) (prefix run : List Step) → Can m s e → IsRun m s run
     → (x : T) (j : Label) (xs : List (T × Label)) (ys : List Label) → trail m s run e.0 ≡ (x, j) ∷ xs
     → events (trail m s (e ∷ prefix) e.0) ++ ys ≡ events (trail m s run e.0) → logged j [] ≡ logged (label m s e) []
-first_step_logs_as_prefix_step m s e prefix run can ok x j xs ys is h =
-    let k : FirstStepEmits m s e.0 x j = first_step_of_trail_emits m s run ok e.0 x j (subst (λ z. At z 0 (x, j)) (sym is) refl) in
+first_step_logs_as_prefix m s e prefix run can ok x j xs ys is h =
+    let k : FirstStepEmits m s e.0 x j = first_step_emits m s run ok e.0 x j (subst (λ z. At z 0 (x, j)) (sym is) refl) in
     ap (λ z. logged z []) k.emits
     ∙ logs_of_same_ask_agree m (asked m s e.0) e.1 k.result (s.objects (target (act m s e))) k.object (events (trail m (after m s e) prefix e.0)) ys
     (events xs) can k.admits
@@ -116,35 +117,35 @@ first_step_logs_as_prefix_step m s e prefix run can ok x j xs ys is h =
     (emitted (act m s (e.0, k.result)) k.object) (events xs)) (eq-eqb e.0 e.0 refl)
     (h ∙ ap events is ∙ ap (λ z. logged z (events xs)) k.emits))
 
-pub run_with_beginning_logs_begins_run : {T : Type 0} (m : Machine T) → IsLawful m → (s : State T) → StateInvariant m s → (prefix run : List Step) → IsRun m s prefix
+pub beginning_logs_begin_run : {T : Type 0} (m : Machine T) → IsLawful m → (s : State T) → StateInvariant m s → (prefix run : List Step) → IsRun m s prefix
     → IsRun m s run → (left : ℕ → List Label)
     → ((t : ℕ) → log m s prefix t ++ left t ≡ log m s run t) → ((t : ℕ) → count m s prefix t ≤ count m s run t) → BeginsRun m s prefix run
-run_with_beginning_logs_begins_run m law s good [] run ok ok' left logs counts = record { rest = run; ok = ok'; same_end = refl; same_trail = λ u. refl }
-run_with_beginning_logs_begins_run m law s good (e ∷ prefix) run ok ok' left logs counts =
+beginning_logs_begin_run m law s good [] run ok ok' left logs counts = record { rest = run; ok = ok'; same_end = refl; same_trail = λ u. refl }
+beginning_logs_begin_run m law s good (e ∷ prefix) run ok ok' left logs counts =
     let c : 1 ≤ count m s run e.0 = subst (λ b. length (join_if b (s.now e.0, label m s e) (trail m (after m s e) prefix e.0)) ≤ count m s
     run e.0 → 1 ≤ count m s run e.0) (sym (eq-eqb e.0 e.0 refl)) (λ h. omega arith) (counts e.0) in
-    let st : NonEmpty (trail m s run e.0) = non_empty_if_length_positive (trail m s run e.0) c in
-    let p : PulledFirst m s run e.0 e.1 = thread_step_can_come_first m law s good run ok' e.0 e.1 ok.0 st.head.0 st.head.1
+    let st : NonEmpty (trail m s run e.0) = positive_length_nonempty (trail m s run e.0) c in
+    let p : PulledFirst m s run e.0 e.1 = step_can_come_first m law s good run ok' e.0 e.1 ok.0 st.head.0 st.head.1
     (subst (λ z. At z 0 st.head) (sym st.is) refl)
-    (first_step_logs_as_prefix_step m s e prefix run ok.0 ok' st.head.0 st.head.1 st.rest (left e.0) st.is (logs e.0)) in
-    let g : BeginsRun m (after m s e) prefix p.rest = run_with_beginning_logs_begins_run m law (after m s e) (state_invariant_after_step m law s good e ok.0) prefix p.rest ok.1 p.ok left
-    (λ u. events_prefix_cancels_join_if (eqb u e.0) (s.now u, label m s e) (trail m (after m s e) prefix u) (trail m (after m s e) p.rest u) (left u)
+    (first_step_logs_as_prefix m s e prefix run ok.0 ok' st.head.0 st.head.1 st.rest (left e.0) st.is (logs e.0)) in
+    let g : BeginsRun m (after m s e) prefix p.rest = beginning_logs_begin_run m law (after m s e) (state_invariant_step m law s good e ok.0) prefix p.rest ok.1 p.ok left
+    (λ u. events_cancel_join_if (eqb u e.0) (s.now u, label m s e) (trail m (after m s e) prefix u) (trail m (after m s e) p.rest u) (left u)
     (logs u ∙ ap events (sym (p.same_trail u))))
-    (λ u. length_order_cancels_join_if (eqb u e.0) (s.now u, label m s e) (trail m (after m s e) prefix u) (trail m (after m s e) p.rest u)
+    (λ u. lengths_cancel_join_if (eqb u e.0) (s.now u, label m s e) (trail m (after m s e) prefix u) (trail m (after m s e) p.rest u)
     (subst (λ z. count m s (e ∷ prefix) u ≤ length z) (sym (p.same_trail u)) (counts u))) in
     record {
       rest = g.rest;
       ok = g.ok;
       same_end = g.same_end ∙ p.same_end;
-      same_trail = λ u. append_after_join_if_is_join_if_of_append (eqb u e.0) (s.now u, label m s e) (trail m (after m s e) prefix u)
+      same_trail = λ u. join_if_append_assoc (eqb u e.0) (s.now u, label m s e) (trail m (after m s e) prefix u)
           (trail m (end m (after m s e) prefix) g.rest u)
           ∙ ap (join_if (eqb u e.0) (s.now u, label m s e)) (g.same_trail u) ∙ p.same_trail u;
     }
 
 -- a run without steps
-pub run_without_counts_is_empty : {T : Type 0} (m : Machine T) (s : State T) (run : List Step) → ((t : ℕ) → count m s run t ≡ 0) → run ≡ []
-run_without_counts_is_empty m s [] h = refl
-run_without_counts_is_empty m s (e ∷ run) h = absurd (subst (λ b. length (join_if b (s.now e.0, label m s e) (trail m (after m s e) run e.0)) ≡ 0 → ⊥)
+pub no_counts_empty_run : {T : Type 0} (m : Machine T) (s : State T) (run : List Step) → ((t : ℕ) → count m s run t ≡ 0) → run ≡ []
+no_counts_empty_run m s [] h = refl
+no_counts_empty_run m s (e ∷ run) h = absurd (subst (λ b. length (join_if b (s.now e.0, label m s e) (trail m (after m s e) run e.0)) ≡ 0 → ⊥)
     (sym (eq-eqb e.0 e.0 refl)) (λ z. omega arith) (h e.0))
 
 -- Two runs with the same logs and numbers of steps have the same threads, labels and end.
@@ -152,11 +153,11 @@ pub record SameTrailsAndEnd {T : Type 0} (m : Machine T) (s : State T) (run run'
   pub same_trail : (u : ℕ) → trail m s run u ≡ trail m s run' u
   pub same_end : end m s run ≡ end m s run'
 
-pub same_logs_give_same_trails : {T : Type 0} (m : Machine T) → IsLawful m → (s : State T) → StateInvariant m s → (run run' : List Step) → IsRun m s run → IsRun m s run'
+pub same_logs_same_trails : {T : Type 0} (m : Machine T) → IsLawful m → (s : State T) → StateInvariant m s → (run run' : List Step) → IsRun m s run → IsRun m s run'
     → ((t : ℕ) → log m s run t ≡ log m s run' t) → ((t : ℕ) → count m s run t ≡ count m s run' t) → SameTrailsAndEnd m s run run'
-same_logs_give_same_trails m law s good run run' ok ok' logs counts =
-    let g : BeginsRun m s run run' = run_with_beginning_logs_begins_run m law s good run run' ok ok' (λ _. []) (λ t. append-nil _ ∙ logs t) (λ t. omega (arith, counts t)) in
-    let none : g.rest ≡ [] = run_without_counts_is_empty m (end m s run) g.rest
+same_logs_same_trails m law s good run run' ok ok' logs counts =
+    let g : BeginsRun m s run run' = beginning_logs_begin_run m law s good run run' ok ok' (λ _. []) (λ t. append-nil _ ∙ logs t) (λ t. omega (arith, counts t)) in
+    let none : g.rest ≡ [] = no_counts_empty_run m (end m s run) g.rest
     (λ t. omega (arith, counts t, ap length (g.same_trail t), length-append (trail m s run t) (trail m (end m s run) g.rest t))) in
     record {
       same_trail = λ u. sym (append-nil _) ∙ ap (λ z. trail m s run u ++ trail m (end m s run) z u) (sym none) ∙ g.same_trail u;

@@ -13,9 +13,9 @@ pub upd_at_other_place : {A : Type 0} (f : ℕ → A) (i j : ℕ) (v : A) → j 
 unfolding upd
 upd_at_other_place f i j v ne = ap (λ b. cond b v (f j)) (ne_eqb j i ne)
 
-pub property_of_upd_by_cases : {A : Type 0} (f : ℕ → A) (i : ℕ) (v : A) (j : ℕ) (P : A → Type 0) → (j ≡ i → P v) → (j ≢ i → P (f j)) → P (upd f i v j)
+pub upd_by_cases : {A : Type 0} (f : ℕ → A) (i : ℕ) (v : A) (j : ℕ) (P : A → Type 0) → (j ≡ i → P v) → (j ≢ i → P (f j)) → P (upd f i v j)
 unfolding upd
-property_of_upd_by_cases f i v j P same other = cond_both (eqb j i) v (f j) P (λ e. same (eqb-true j i e)) (λ e. other (eqb-false j i e))
+upd_by_cases f i v j P same other = cond_both (eqb j i) v (f j) P (λ e. same (eqb-true j i e)) (λ e. other (eqb-false j i e))
 
 -- what was there, written again
 pub upd_with_old_value : {A : Type 0} (f : ℕ → A) (i : ℕ) (v : A) → f i ≡ v → upd f i v ≡ f

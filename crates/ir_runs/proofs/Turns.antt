@@ -25,12 +25,12 @@ in_turn_of_append m s (t ∷ order) more run rest (inr some) h = inr (
 )
 
 -- an entry more: a step of its thread
-pub in_turn_after_step_taken : {T : Type 0} (m : Machine T) (s : State T) (order : List ℕ) (run : List Step) (t r : ℕ) → InTurn m s order run
+pub in_turn_after_taken : {T : Type 0} (m : Machine T) (s : State T) (order : List ℕ) (run : List Step) (t r : ℕ) → InTurn m s order run
     → Can m (end m s run) (t, r) → EntersIfFree m (end m s run) (t, r) → InTurn m s (order ++ t ∷ []) (run ++ (t, r) ∷ [])
-in_turn_after_step_taken m s order run t r h can free = in_turn_of_append m s order (t ∷ []) run ((t, r) ∷ []) h (inr (r, [], refl, can, free, refl))
+in_turn_after_taken m s order run t r h can free = in_turn_of_append m s order (t ∷ []) run ((t, r) ∷ []) h (inr (r, [], refl, can, free, refl))
 
 -- an entry more, of a thread that has no step
-pub in_turn_after_thread_skipped : {T : Type 0} (m : Machine T) (s : State T) (order : List ℕ) (run : List Step) (t : ℕ) → InTurn m s order run
+pub in_turn_after_skipped : {T : Type 0} (m : Machine T) (s : State T) (order : List ℕ) (run : List Step) (t : ℕ) → InTurn m s order run
     → HasNone m (end m s run) t → InTurn m s (order ++ t ∷ []) run
-in_turn_after_thread_skipped m s order run t h none = subst (InTurn m s (order ++ t ∷ [])) (append-nil run)
+in_turn_after_skipped m s order run t h none = subst (InTurn m s (order ++ t ∷ [])) (append-nil run)
     (in_turn_of_append m s order (t ∷ []) run [] h (inl (none, refl)))

@@ -26,5 +26,5 @@ schedules_are_orders tries m n s c run h = record {
   done = h.done;
 }
 
-pub schedules_are_of_threads : SchedulesAreOfThreads
-schedules_are_of_threads tries m n s c run h = led_run_is_of_threads tries m n s c run h.last h.leads
+pub schedules_of_threads : SchedulesAreOfThreads
+schedules_of_threads tries m n s c run h = led_run_is_of_threads tries m n s c run h.last h.leads

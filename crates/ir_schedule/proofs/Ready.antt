@@ -1,9 +1,9 @@
 -- Threads that have a step, and runs that are over.
-use Rattle.std.proofs.Common.{◌≡◌, ◌≢◌, ℕ, zero, suc, ◌+◌, ◌<◌, ◌≤◌, Bool, List, [], ◌∷◌, ◌++◌, length, refl, sym, ap, ◌∙◌, subst, arith, inl, inr, ◌⊎◌, length-append}
+use Rattle.std.proofs.Common.{◌≡◌, ℕ, zero, suc, ◌+◌, ◌<◌, ◌≤◌, Bool, List, [], ◌∷◌, ◌++◌, length, sym, ap, ◌∙◌, subst, arith, inl, inr, length-append}
 use Rattle.std.proofs.lemmas.Bool.{cases_eq, cases_lt}
 use Rattle.std.proofs.lemmas.List.Elements.{All-append, All-contains}
 use Rattle.std.specs.List.{All, Contains}
-use Rattle.ir_flat.proofs.CallerLemmas.{guest_run_can_step_unless_done, guest_start_is_idle, length_of_start_threads}
+use Rattle.ir_flat.proofs.CallerLemmas.{guest_run_not_stuck, guest_start_is_idle, length_of_start_threads}
 use Rattle.ir_flat.specs.Flat.{Flat, start_flat, tables, machine}
 use Rattle.ir_image.specs.Guest.{Guest}
 use Rattle.ir_runs.proofs.CallerLemmas.{idle_after_run}
@@ -13,9 +13,10 @@ use Rattle.ir_runs.specs.Run.{State, Step, asked, Can, after, IsRun, end, IsDone
 use Rattle.ir_thread.specs.State.{thread_machine}
 use Rattle.ir_thread.specs.State as thread
 use Rattle.ir_thread.specs.declared.profile.Profile.{Profile}
-use Rattle.ir_schedule.specs.Moments.{Moment, Ran, RanToEnd, IsAtRest, AllRest, OthersRest, IsStartOfGuest}
+use Rattle.ir_schedule.specs.Moments.{Moment, Ran, RanToEnd, IsAtRest, AllThreadsRest, OthersRest, IsStartOfGuest}
 use Rattle.ir_schedule.specs.Schedules.{AreReady, ChoosesSteps}
 use Rattle.ir_schedule.specs.declared.chooser.Chooser.{Chooser}
+use Rattle.ir_record.proofs.CallerLemmas.{ask_is_done_or_not}
 
 -- each that is ready is a thread that has a step
 abbrev pub HasStep : {T : Type 0} → Machine T → State T → ℕ → ℕ → Type 0
@@ -71,27 +72,17 @@ module _ {T : Type 0} (m : Machine T) (s : State T) where
 
 -- ---- the end
 
-machine_ask_is_done_or_not : (q : machine.Ask) → (q ≡ machine.Done) ⊎ (q ≢ machine.Done)
-machine_ask_is_done_or_not machine.Private = inr (λ e. cc e)
-machine_ask_is_done_or_not (machine.Env k) = inr (λ e. cc e)
-machine_ask_is_done_or_not (machine.Enter o a) = inr (λ e. cc e)
-machine_ask_is_done_or_not (machine.Try o) = inr (λ e. cc e)
-machine_ask_is_done_or_not (machine.Leave o a) = inr (λ e. cc e)
-machine_ask_is_done_or_not (machine.Get o i) = inr (λ e. cc e)
-machine_ask_is_done_or_not (machine.Put o i w) = inr (λ e. cc e)
-machine_ask_is_done_or_not machine.Done = inl refl
-
 -- where none of the guest's threads has a step, all threads are done
-done_if_no_guest_thread_steps : (guest : Guest) (budget : ℕ) (profile : Profile) (run : List Step)
+no_steps_is_done : (guest : Guest) (budget : ℕ) (profile : Profile) (run : List Step)
     → IsRun (thread_machine guest.code) (tables (start_flat guest budget profile)) run
     → ((t : ℕ) → t < length guest.entries → Can (thread_machine guest.code)
     (end (thread_machine guest.code) (tables (start_flat guest budget profile)) run) (t, 0) → ⊥)
     → IsDone (thread_machine guest.code) (end (thread_machine guest.code) (tables (start_flat guest budget profile)) run)
-done_if_no_guest_thread_steps guest budget profile run ok none t =
+no_steps_is_done guest budget profile run ok none t =
     let s : State thread.ThreadState = end (thread_machine guest.code) (tables (start_flat guest budget profile)) run in
-    elim (machine_ask_is_done_or_not (asked (thread_machine guest.code) s t)) [
+    elim (ask_is_done_or_not (asked (thread_machine guest.code) s t)) [
       | inl e ↦ e
-      | inr ne ↦ absurd (stuck (guest_run_can_step_unless_done guest budget profile run ok t ne))
+      | inr ne ↦ absurd (stuck (guest_run_not_stuck guest budget profile run ok t ne))
     ]
   where
     stuck : ((u : ℕ) × Can (thread_machine guest.code) (end (thread_machine guest.code) (tables (start_flat guest budget profile)) run) (u, 0)) → ⊥
@@ -109,9 +100,9 @@ led_run_is_run tries m n s c [] d h = tt
 led_run_is_run tries m n s c (e ∷ run) d h = (h.1.1, led_run_is_run tries m n (after m s e) h.0 run d h.2)
 
 -- a run by a chooser is over where no thread is ready
-pub ran_to_end_if_none_ready : (tries : Bool) (a b : Moment) (c d : Chooser) (ready : List ℕ) → IsStartOfGuest a.flat → Ran tries a c b d
+pub none_ready_ran_to_end : (tries : Bool) (a b : Moment) (c d : Chooser) (ready : List ℕ) → IsStartOfGuest a.flat → Ran tries a c b d
     → AreReady (machine b.flat) (tables b.flat) (length b.flat.threads) ready → ready ≡ [] → RanToEnd tries a c b
-ran_to_end_if_none_ready tries a b c d ready start r are e = record {
+none_ready_ran_to_end tries a b c d ready start r are e = record {
   run = r.run;
   schedule = record { last = d; leads = r.leads; done = done };
   gained = r.gained;
@@ -133,7 +124,7 @@ ran_to_end_if_none_ready tries a b c d ready start r are e = record {
     done = subst (λ f. IsRun (machine f) (tables f) r.run
         → ((t : ℕ) → t < length f.threads → Can (machine f) (end (machine f) (tables f) r.run) (t, 0) → ⊥)
         → IsDone (machine f) (end (machine f) (tables f) r.run)) (sym start.3)
-        (λ ok nobody. done_if_no_guest_thread_steps guest start.1 start.2 r.run ok (λ t l. nobody t
+        (λ ok nobody. no_steps_is_done guest start.1 start.2 r.run ok (λ t l. nobody t
         (let n = length_of_start_threads guest start.1 start.2 0 (length guest.entries) in omega (arith, n, l)))) runs none
 
 -- one thread more rests
@@ -145,15 +136,15 @@ lower_threads_rest_step tries t f g lower others here u l = elim (cases_eq u t) 
 ]
 
 -- each thread rests again
-pub all_rest_after_thread_rests : (tries : Bool) (t : ℕ) (f g : Flat) → length g.threads ≡ length f.threads → AllRest tries f → OthersRest tries t f g
-    → IsAtRest tries g t → AllRest tries g
-all_rest_after_thread_rests tries t f g same rest others here u l = elim (cases_eq u t) [
+pub all_rest_after_rest : (tries : Bool) (t : ℕ) (f g : Flat) → length g.threads ≡ length f.threads → AllThreadsRest tries f → OthersRest tries t f g
+    → IsAtRest tries g t → AllThreadsRest tries g
+all_rest_after_rest tries t f g same rest others here u l = elim (cases_eq u t) [
   | inl e ↦ subst (IsAtRest tries g) (sym e) here
   | inr ne ↦ others u ne ∙ rest u (omega (arith, l, same))
 ]
 
 -- whoever is chosen of the threads that are ready has a step
-pub chosen_ready_thread_has_step : (f : Flat) (xs ready : List ℕ) (t : ℕ) → xs ≡ ready → AreReady (machine f) (tables f) (length f.threads) ready
+pub chosen_ready_has_step : (f : Flat) (xs ready : List ℕ) (t : ℕ) → xs ≡ ready → AreReady (machine f) (tables f) (length f.threads) ready
     → Contains xs t → HasStep (machine f) (tables f) (length f.threads) t
-chosen_ready_thread_has_step f xs ready t e are c = chosen_steps (machine f) (tables f) (length f.threads) xs t
+chosen_ready_has_step f xs ready t e are c = chosen_steps (machine f) (tables f) (length f.threads) xs t
     (subst (AreReady (machine f) (tables f) (length f.threads)) (sym e) are) c

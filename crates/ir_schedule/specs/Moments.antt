@@ -56,7 +56,7 @@ pub record Gained (run : List Step) (a b : Moment) : Type 0 where
       → answers_at b.answers t ≡ answers_at a.answers t ++ answers_in (log (machine a.flat) (tables a.flat) run t)
 
 -- b is a after one step of thread t, which enters where it can
-pub record Took (t : ℕ) (a b : Moment) : Type 0 where
+pub record TookStep (t : ℕ) (a b : Moment) : Type 0 where
   pub result : ℕ
   pub can : Can (machine a.flat) (tables a.flat) (t, result)
   pub enters : EntersIfFree (machine a.flat) (tables a.flat) (t, result)
@@ -79,8 +79,8 @@ abbrev pub IsAtRest : Bool → Flat → ℕ → Type 0
 IsAtRest tries f t = rests tries (machine f) (tables f) t ≡ true
 
 -- each of the guest's threads rests
-abbrev pub AllRest : Bool → Flat → Type 0
-AllRest tries f = (t : ℕ) → t < length f.threads → IsAtRest tries f t
+abbrev pub AllThreadsRest : Bool → Flat → Type 0
+AllThreadsRest tries f = (t : ℕ) → t < length f.threads → IsAtRest tries f t
 
 -- each thread but t rests where it did
 abbrev pub OthersRest : Bool → ℕ → Flat → Flat → Type 0
@@ -100,6 +100,6 @@ pub record IsReady {W : Type 0} (broken : W → Bool) (r : Runner W) : Type 0 wh
   pub works : NoneFailed (map broken r.worlds.items)
 
 -- why a run stopped: the world of the thread has failed, and none of a lower one; or the turns are full, and no world has failed
-abbrev pub Tells : {W : Type 0} → (W → Bool) → Runner W → Stop → Type 0
-Tells broken r (World thread) = IsFirstFailed (map broken r.worlds.items) thread
-Tells broken r TooLong = (vec_len r.turns ≡ vec_capacity r.turns) × NoneFailed (map broken r.worlds.items)
+abbrev pub TellsStop : {W : Type 0} → (W → Bool) → Runner W → Stop → Type 0
+TellsStop broken r (World thread) = IsFirstFailed (map broken r.worlds.items) thread
+TellsStop broken r TooLong = (vec_len r.turns ≡ vec_capacity r.turns) × NoneFailed (map broken r.worlds.items)

@@ -53,21 +53,21 @@ abbrev pub fewest_in_a_row : ℕ
 fewest_in_a_row = 16
 
 -- how often thread t was chosen
-abbrev pub taken_by : List ℕ → ℕ → ℕ
-taken_by taken t = slice_index_or taken t 0
+abbrev pub taken_by_rank : List ℕ → ℕ → ℕ
+taken_by_rank taken t = slice_index_or taken t 0
 
 -- whether thread t, which was chosen so often, would go at the place: it is a place of t, whose next choice is the one there
 abbrev pub is_reached : Place → ℕ → ℕ → Bool
 is_reached place t count = (place.thread == t) && (place.choice == count)
 
 -- thread t falls at the place of number i, if its priority isn't lower already
-abbrev pub lowered : List ℕ → ℕ → ℕ → List ℕ
-lowered priorities t i = slice_set priorities t (min (priority priorities t) (fallen_priority + i))
+abbrev pub lowered_rank : List ℕ → ℕ → ℕ → List ℕ
+lowered_rank priorities t i = slice_set priorities t (min (priority priorities t) (fallen_priority + i))
 
 -- the priorities after the place of number i: whoever would go falls if it has reached it
 abbrev pub fallen_at : List ℕ → List ℕ → ℕ → Place → List ℕ → List ℕ
-fallen_at ready taken i place priorities = if is_reached place (leader priorities ready) (taken_by taken (leader priorities ready))
-    then lowered priorities (leader priorities ready) i else priorities
+fallen_at ready taken i place priorities = if is_reached place (leader priorities ready) (taken_by_rank taken (leader priorities ready))
+    then lowered_rank priorities (leader priorities ready) i else priorities
 
 -- the priorities after the places from number i on
 abbrev pub fallen : List ℕ → List ℕ → ℕ → List Place → List ℕ → List ℕ
@@ -84,7 +84,7 @@ is_polling p ready t = (patience_of p t == 0) && nat_lt 1 (length ready)
 
 -- how often each thread was chosen, after a choice of thread t
 abbrev pub counted : List ℕ → ℕ → List ℕ
-counted taken t = slice_set taken t (min (taken_by taken t + 1) (2 ^ 64 - 1))
+counted taken t = slice_set taken t (min (taken_by_rank taken t + 1) (2 ^ 64 - 1))
 
 -- the ranking after a choice; who polls falls below all others
 abbrev pub settled : Ranking → List ℕ → List ℕ → ℕ → Ranking

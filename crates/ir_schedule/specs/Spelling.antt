@@ -12,8 +12,8 @@ word_length [] = 0
 word_length (b ∷ text) = if b == 32 then 0 else suc (word_length text)
 
 -- what comes before it
-abbrev pub word_of : List ℕ → List ℕ
-word_of text = take (word_length text) text
+abbrev pub first_word_of : List ℕ → List ℕ
+first_word_of text = take (word_length text) text
 
 -- what comes after it, if there is one
 abbrev pub rest_of : List ℕ → Option (List ℕ)
@@ -26,12 +26,12 @@ value_of word = number_up_to most_small word
 -- a number, a blank, and a number
 unfoldable pub two_values : List ℕ → Option (ℕ × ℕ)
 two_values text = option_and_then (λ first. option_and_then (λ rest. option_map (λ second. (first, second)) (value_of rest))
-    (rest_of text)) (value_of (word_of text))
+    (rest_of text)) (value_of (first_word_of text))
 
 -- a number, a blank, and two more
 unfoldable pub three_values : List ℕ → Option (ℕ × ℕ × ℕ)
 three_values text = option_and_then (λ first. option_and_then (λ rest. option_map (λ more. (first, more.0, more.1)) (two_values rest))
-    (rest_of text)) (value_of (word_of text))
+    (rest_of text)) (value_of (first_word_of text))
 
 -- the ends' numbers
 abbrev pub is_end : ℕ → Bool
@@ -42,7 +42,7 @@ end_fact values = if is_end values.1 then Some (End values.0 values.1) else None
 
 -- a number, a blank, and any text
 unfoldable pub printed_fact : List ℕ → Option Fact
-printed_fact text = option_and_then (λ thread. option_map (λ rest. Printed thread rest) (rest_of text)) (value_of (word_of text))
+printed_fact text = option_and_then (λ thread. option_map (λ rest. Printed thread rest) (rest_of text)) (value_of (first_word_of text))
 
 -- the fact of a name with nothing after it
 unfoldable pub bare_fact : List ℕ → Option Fact
@@ -65,7 +65,7 @@ fact_with name (Some arguments) = fact_named name arguments
 
 -- the fact that a text writes
 abbrev pub fact_of : List ℕ → Option Fact
-fact_of text = fact_with (word_of text) (rest_of text)
+fact_of text = fact_with (first_word_of text) (rest_of text)
 
 -- how many `!` are at its start
 abbrev pub marks : List ℕ → ℕ

@@ -3,7 +3,7 @@
 ghost use Rattle.std.specs.Prelude.{◌≡◌, ◌≢◌, ◌<◌, ◌≤◌, ℕ, Bool, length, OnOk, IfErr, IfOk};
 ghost use Rattle.arrayvec.specs.ArrayVec.{array_vec_len};
 ghost use Rattle.ir_schedule.specs.Choices.{CanChoose};
-ghost use Rattle.ir_schedule.specs.Moments.{moment_of, Ran, RanToEnd, Took, TookSome, IsAtRest, AllRest, OthersRest, IsStartOfGuest, IsReady, Tells};
+ghost use Rattle.ir_schedule.specs.Moments.{moment_of, Ran, RanToEnd, TookStep, TookSome, IsAtRest, AllThreadsRest, OthersRest, IsStartOfGuest, IsReady, TellsStop};
 ghost use Rattle.ir_schedule.specs.Schedules.{is_rest, AreReady, IsChosen};
 ghost use Rattle.ir_schedule.specs.declared.chooser.Chooser.{Chooser};
 ghost use Rattle.ir_flat.specs.Flat.{tables, machine, thread_of, IsFlat};
@@ -38,12 +38,12 @@ impl<W: World> Runner<'_, W> {
         requires flat { IsFlat self.old.flat }
         requires asked { asked ≡ ask_of self.old.flat.code (thread_of self.old.flat t) }
         requires can { Can (machine self.old.flat) (tables self.old.flat) (t, 0) }
-        ensures took { OnOk result (Took t (moment_of W.answers self.old) (moment_of W.answers self.new)) }
+        ensures took { OnOk result (TookStep t (moment_of W.answers self.old) (moment_of W.answers self.new)) }
         ensures ready { OnOk result (IsReady W.broken self.new) }
         ensures others { OnOk result ((tries : Bool) → OthersRest tries t self.old.flat self.new.flat) }
         ensures fewer { OnOk result (TookSome 1 self.old.flat self.new.flat) }
         ensures kept { AreSameWorlds W.origin self.old.worlds.items self.new.worlds.items }
-        ensures told { IfErr result (Tells W.broken self.new) }
+        ensures told { IfErr result (TellsStop W.broken self.new) }
     {
         match asked {
             Ask::Env(kind) => {
@@ -71,7 +71,7 @@ impl<W: World> Runner<'_, W> {
         ensures others { OnOk result ((tries : Bool) → OthersRest tries t self.old.flat self.new.flat) }
         ensures fewer { OnOk result (TookSome 0 self.old.flat self.new.flat) }
         ensures kept { AreSameWorlds W.origin self.old.worlds.items self.new.worlds.items }
-        ensures told { IfErr result (Tells W.broken self.new) }
+        ensures told { IfErr result (TellsStop W.broken self.new) }
     {
         let (count, asked) = self.flat.run_to_ask(t, u64::MAX);
         if count > 0 {
@@ -91,7 +91,7 @@ impl<W: World> Runner<'_, W> {
         ensures others { OnOk result (OthersRest tries t self.old.flat self.new.flat) }
         ensures fewer { OnOk result (TookSome 0 self.old.flat self.new.flat) }
         ensures kept { AreSameWorlds W.origin self.old.worlds.items self.new.worlds.items }
-        ensures told { IfErr result (Tells W.broken self.new) }
+        ensures told { IfErr result (TellsStop W.broken self.new) }
     {
         'steps: loop {
             let asked = self.run_to_ask(t)?;
@@ -106,10 +106,10 @@ impl<W: World> Runner<'_, W> {
     fn go_to_rests(&mut self, tries: bool) -> Result<(), Stop>
         requires ready { IsReady W.broken self.old }
         ensures ran { OnOk result ((c : Chooser) → Ran tries (moment_of W.answers self.old) c (moment_of W.answers self.new) c) }
-        ensures rest { OnOk result (AllRest tries self.new.flat) }
+        ensures rest { OnOk result (AllThreadsRest tries self.new.flat) }
         ensures ready { OnOk result (IsReady W.broken self.new) }
         ensures kept { AreSameWorlds W.origin self.old.worlds.items self.new.worlds.items }
-        ensures told { IfErr result (Tells W.broken self.new) }
+        ensures told { IfErr result (TellsStop W.broken self.new) }
     {
         'threads: for t in 0..self.flat.threads().len() {
             self.go_on(tries, t)?;
@@ -135,14 +135,16 @@ impl<W: World> Runner<'_, W> {
     fn turn(&mut self, tries: bool, t: usize) -> Result<(), Stop>
         requires ready { IsReady W.broken self.old }
         requires thread { t < length self.old.flat.threads }
-        requires rest { AllRest tries self.old.flat }
+        requires rest { AllThreadsRest tries self.old.flat }
         requires can { Can (machine self.old.flat) (tables self.old.flat) (t, 0) }
-        ensures ran { OnOk result ((c d : Chooser) → IsChosen tries (machine self.old.flat) (length self.old.flat.threads) (tables self.old.flat) c t d → Ran tries (moment_of W.answers self.old) c (moment_of W.answers self.new) d) }
-        ensures rest { OnOk result (AllRest tries self.new.flat) }
+        ensures ran { OnOk result
+            ((c d : Chooser) → IsChosen tries (machine self.old.flat) (length self.old.flat.threads) (tables self.old.flat) c t d
+            → Ran tries (moment_of W.answers self.old) c (moment_of W.answers self.new) d) }
+        ensures rest { OnOk result (AllThreadsRest tries self.new.flat) }
         ensures ready { OnOk result (IsReady W.broken self.new) }
         ensures fewer { OnOk result (TookSome 1 self.old.flat self.new.flat) }
         ensures kept { AreSameWorlds W.origin self.old.worlds.items self.new.worlds.items }
-        ensures told { IfErr result (Tells W.broken self.new) }
+        ensures told { IfErr result (TellsStop W.broken self.new) }
     {
         let asked = self.flat.ask(t);
         self.step(t, asked)?;
@@ -162,7 +164,7 @@ impl<W: World> Runner<'_, W> {
         ensures ran { OnOk result (RanToEnd tries (moment_of W.answers self.old) chooser.old (moment_of W.answers self.new)) }
         ensures ready { OnOk result (IsReady W.broken self.new) }
         ensures kept { AreSameWorlds W.origin self.old.worlds.items self.new.worlds.items }
-        ensures told { IfErr result (Tells W.broken self.new) }
+        ensures told { IfErr result (TellsStop W.broken self.new) }
     {
         self.go_to_rests(tries)?;
         let mut choices = [0; MOST_READY];

@@ -1,11 +1,11 @@
 //! Texts, and their words.
 
 ghost use Rattle.ir_schedule.specs.Conditions.{occurs_in};
-ghost use Rattle.ir_schedule.specs.Spelling.{marks, word_length, word_of, rest_of};
+ghost use Rattle.ir_schedule.specs.Spelling.{marks, word_length, first_word_of, rest_of};
 ghost use Rattle.std.specs.Prelude.{◌≡◌, ◌≤◌, length, option_map};
 
 // Whether the text occurs in the bytes.
-#[tactic(auto, using(crate::proofs::Texts::occurs_if_text_starts_at_place, crate::proofs::Texts::occurs_in_rest_is_unchanged_unless_text_starts_at_place, crate::proofs::Texts::occurs_at_end_equals_text_is_empty))]
+#[tactic(auto, using(crate::proofs::Texts::occurs_at_place, crate::proofs::Texts::occurs_in_rest_same, crate::proofs::Texts::occurs_at_end))]
 pub fn occurs(text: &[u8], bytes: &[u8]) -> bool
     ensures { result ≡ occurs_in text.now bytes.now }
 {
@@ -18,7 +18,7 @@ pub fn occurs(text: &[u8], bytes: &[u8]) -> bool
 }
 
 // How many bytes come before the first blank.
-#[tactic(auto, using(crate::proofs::Texts::word_length_is_index_at_space, crate::proofs::Texts::word_length_step, crate::proofs::Texts::word_length_is_length_at_text_end))]
+#[tactic(auto, using(crate::proofs::Texts::word_length_at_space, crate::proofs::Texts::word_length_step, crate::proofs::Texts::word_length_at_end))]
 fn word_length(text: &[u8]) -> usize
     ensures value { result ≡ word_length text.now }
     ensures within { result ≤ length text.now }
@@ -33,7 +33,7 @@ fn word_length(text: &[u8]) -> usize
 
 // The bytes before the first blank, and those after it, if there is one.
 pub fn cut(text: &[u8]) -> (&[u8], Option<&[u8]>)
-    ensures word { result.0.now ≡ word_of text.now }
+    ensures word { result.0.now ≡ first_word_of text.now }
     ensures rest { option_map (λ s. s.now) result.1 ≡ rest_of text.now }
 {
     let length = word_length(text);
@@ -45,7 +45,7 @@ pub fn cut(text: &[u8]) -> (&[u8], Option<&[u8]>)
 }
 
 // How many `!` are at the text's start.
-#[tactic(auto, using(crate::proofs::Texts::marks_is_index_at_other_byte, crate::proofs::Texts::marks_step, crate::proofs::Texts::marks_is_length_at_text_end))]
+#[tactic(auto, using(crate::proofs::Texts::marks_at_other_byte, crate::proofs::Texts::marks_step, crate::proofs::Texts::marks_at_text_end))]
 pub fn marks(text: &[u8]) -> usize
     ensures value { result ≡ marks text.now }
     ensures within { result ≤ length text.now }

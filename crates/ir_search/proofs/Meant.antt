@@ -4,63 +4,63 @@ use Rattle.std.specs.Prelude.{map, slice_get, replicate}
 use Rattle.std.proofs.lemmas.Bool.{cases_eq, cases_lt}
 use Rattle.ir_runs.specs.Machine.{Machine}
 use Rattle.ir_runs.specs.Run.{State, act, IsDone}
-use Rattle.ir_search_laws.specs.Counting.{Answers}
+use Rattle.ir_search_laws.specs.Counting.{AnswersCall}
 use Rattle.ir_search_laws.specs.Nodes.{Path}
 use Rattle.ir_search_laws.specs.Orders.{is_refusal}
 use Rattle.ir_search_laws.specs.Outcomes.{changes, switches, IsFinished, Covers, HasWay}
 use Rattle.ir_search_laws.proofs.CallerLemmas.{path_append}
 use Rattle.ir_search.specs.declared.origin.Origin.{Origin}
 use Rattle.ir_search.specs.declared.origin.Refusal.{Refusal}
-use Rattle.ir_search.specs.Following.{BothWays, IsOpen}
+use Rattle.ir_search.specs.Following.{BothWays, IsNodeOpen}
 use Rattle.ir_search.specs.Levels.{AreAsked, Covered}
 use Rattle.ir_search.specs.Meaning.{Means, Steps}
-use Rattle.ir_search.specs.Origins.{Goes, BeginsAt, first_origin, AreReached, LeadsBy}
+use Rattle.ir_search.specs.Origins.{Goes, BeginsAt, first_origin, AreReached, LeadsByWay}
 use Rattle.ir_search.specs.Ways.{LeadsOver, HasMarked}
-use Rattle.ir_search.proofs.Reached.{index_of_element_is_below_length}
-use Rattle.ir_search.proofs.Gone.{element_below_length_exists}
+use Rattle.ir_search.proofs.Reached.{slice_get_some_below}
+use Rattle.ir_search.proofs.Gone.{origin_below_length}
 
 -- one thread's turn at an order's end is a switch at most
-changes_of_replicated_thread_are_zero : (t n : ℕ) → changes t (replicate n t) ≡ 0
-changes_of_replicated_thread_are_zero t zero = refl
-changes_of_replicated_thread_are_zero t (suc n) = ap (λ b. cond b (changes t (replicate n t)) (suc (changes t (replicate n t)))) (eq-eqb t t refl) ∙ changes_of_replicated_thread_are_zero t n
+changes_of_repeated : (t n : ℕ) → changes t (replicate n t) ≡ 0
+changes_of_repeated t zero = refl
+changes_of_repeated t (suc n) = ap (λ b. cond b (changes t (replicate n t)) (suc (changes t (replicate n t)))) (eq-eqb t t refl) ∙ changes_of_repeated t n
 
-repeated_turn_adds_one_change_at_most : (t : ℕ) (ts : List ℕ) (u n : ℕ) → changes t (ts ++ replicate n u) ≤ suc (changes t ts)
-repeated_turn_adds_one_change_at_most t [] u zero = omega arith
-repeated_turn_adds_one_change_at_most t [] u (suc n) = elim (cases_eq u t) [
+repeat_changes_le_suc : (t : ℕ) (ts : List ℕ) (u n : ℕ) → changes t (ts ++ replicate n u) ≤ suc (changes t ts)
+repeat_changes_le_suc t [] u zero = omega arith
+repeat_changes_le_suc t [] u (suc n) = elim (cases_eq u t) [
   | inl same ↦
       let e = ap (λ b. cond b (changes t (replicate n u)) (suc (changes u (replicate n u)))) (eq-eqb u t same) in
-      let none : changes t (replicate n u) ≡ 0 = subst (λ z. changes t (replicate n z) ≡ 0) (sym same) (changes_of_replicated_thread_are_zero t n) in
+      let none : changes t (replicate n u) ≡ 0 = subst (λ z. changes t (replicate n z) ≡ 0) (sym same) (changes_of_repeated t n) in
       omega (arith, e, none)
   | inr other ↦
       let e = ap (λ b. cond b (changes t (replicate n u)) (suc (changes u (replicate n u)))) (ne_eqb u t other) in
-      let none = changes_of_replicated_thread_are_zero u n in
+      let none = changes_of_repeated u n in
       omega (arith, e, none)
 ]
-repeated_turn_adds_one_change_at_most t (v ∷ ts) u n = elim (cases_eq v t) [
+repeat_changes_le_suc t (v ∷ ts) u n = elim (cases_eq v t) [
   | inl same ↦
       let p = eq-eqb v t same in
       let e = ap (λ b. cond b (changes t (ts ++ replicate n u)) (suc (changes v (ts ++ replicate n u)))) p in
       let f = ap (λ b. cond b (changes t ts) (suc (changes v ts))) p in
-      let h = repeated_turn_adds_one_change_at_most t ts u n in
+      let h = repeat_changes_le_suc t ts u n in
       omega (arith, e, f, h)
   | inr other ↦
       let p = ne_eqb v t other in
       let e = ap (λ b. cond b (changes t (ts ++ replicate n u)) (suc (changes v (ts ++ replicate n u)))) p in
       let f = ap (λ b. cond b (changes t ts) (suc (changes v ts))) p in
-      let h = repeated_turn_adds_one_change_at_most v ts u n in
+      let h = repeat_changes_le_suc v ts u n in
       omega (arith, e, f, h)
 ]
 
-pub repeated_turn_adds_one_switch_at_most : (ts : List ℕ) (u n : ℕ) → switches (ts ++ replicate n u) ≤ suc (switches ts)
-repeated_turn_adds_one_switch_at_most [] u zero = omega arith
-repeated_turn_adds_one_switch_at_most [] u (suc n) = let h = changes_of_replicated_thread_are_zero u n in omega (arith, h)
-repeated_turn_adds_one_switch_at_most (t ∷ ts) u n = repeated_turn_adds_one_change_at_most t ts u n
+pub repeat_switches_le_suc : (ts : List ℕ) (u n : ℕ) → switches (ts ++ replicate n u) ≤ suc (switches ts)
+repeat_switches_le_suc [] u zero = omega arith
+repeat_switches_le_suc [] u (suc n) = let h = changes_of_repeated u n in omega (arith, h)
+repeat_switches_le_suc (t ∷ ts) u n = repeat_changes_le_suc t ts u n
 
-pub switches_of_replicated_thread_are_zero : (u n : ℕ) → switches (replicate n u) ≤ 0
-switches_of_replicated_thread_are_zero u zero = omega arith
-switches_of_replicated_thread_are_zero u (suc n) = let h = changes_of_replicated_thread_are_zero u n in omega (arith, h)
+pub switches_of_repeated : (u n : ℕ) → switches (replicate n u) ≤ 0
+switches_of_repeated u zero = omega arith
+switches_of_repeated u (suc n) = let h = changes_of_repeated u n in omega (arith, h)
 
-module _ {T : Type 0} (m : Machine T) (answers : Answers T) (Alike : State T → State T → Type 0) (s : State T) (state_of : ℕ → State T)
+module _ {T : Type 0} (m : Machine T) (answers : AnswersCall T) (Alike : State T → State T → Type 0) (s : State T) (state_of : ℕ → State T)
     (noted : ℕ → BothWays) (threads size : ℕ) (means : Means m answers Alike s state_of noted threads size) where
   -- a thread's turn is a path
   goes_path : (t : ℕ) (ways : List Bool) (v w : ℕ) → v < size → Goes (noted t) size v ways w
@@ -74,7 +74,7 @@ module _ {T : Type 0} (m : Machine T) (answers : Answers T) (Alike : State T →
   -- An order of threads leads to each node, with as many switches at most as its level.
   pub node_order : (nodes : List Origin) (refusals : List Refusal) → AreReached noted refusals nodes → length nodes ≡ size → 0 < size
       → (k v : ℕ) (n : Origin) → slice_get nodes v ≡ Some n → n.level ≡ k
-      → (ts : List ℕ) × LeadsBy refusals nodes k v ts × Path (Steps m state_of noted size) 0 ts v × (switches ts ≤ k)
+      → (ts : List ℕ) × LeadsByWay refusals nodes k v ts × Path (Steps m state_of noted size) 0 ts v × (switches ts ≤ k)
   node_order nodes refusals reached all some zero v n is same =
       let r = reached v n is in
       let first : n.from ≡ 0 = subst (λ z. BeginsAt nodes z n.from) same r.0 in
@@ -84,19 +84,19 @@ module _ {T : Type 0} (m : Machine T) (answers : Answers T) (Alike : State T →
         replicate (length r.1) n.thread,
         (n, is, r.1, r.2, refl),
         goes_path n.thread r.1 0 v some goes,
-        switches_of_replicated_thread_are_zero n.thread (length r.1),
+        switches_of_repeated n.thread (length r.1),
       )
   node_order nodes refusals reached all some (suc k) v n is same =
       let r = reached v n is in
       let before : BeginsAt nodes (suc k) n.from = subst (λ z. BeginsAt nodes z n.from) same r.0 in
       let from = node_order nodes refusals reached all some k n.from before.0 before.1 before.2 in
-      let l : n.from < size = (let h = index_of_element_is_below_length nodes n.from before.0 before.1 in omega (arith, h, all)) in
+      let l : n.from < size = (let h = slice_get_some_below nodes n.from before.0 before.1 in omega (arith, h, all)) in
       let goes = subst (λ z. Goes (noted n.thread) z n.from r.1 v) all r.3 in (
         from.0 ++ replicate (length r.1) n.thread,
         (n, is, from.0, from.1, r.1, r.2, refl),
         path_append (Steps m state_of noted size) 0 n.from v from.0 (replicate (length r.1) n.thread) from.2
             (goes_path n.thread r.1 n.from v l goes),
-        let a = repeated_turn_adds_one_switch_at_most from.0 n.thread (length r.1) in let b = from.3 in omega (arith, a, b),
+        let a = repeat_switches_le_suc from.0 n.thread (length r.1) in let b = from.3 in omega (arith, a, b),
       )
 
   -- where each thread was asked at each node, the search is finished
@@ -115,13 +115,13 @@ module _ {T : Type 0} (m : Machine T) (answers : Answers T) (Alike : State T →
       | inr many ↦ absurd (means.idle v l e many can)
     ];
     reached = λ v l.
-        let n = element_below_length_exists nodes v (omega (arith, l, all)) in
+        let n = origin_below_length nodes v (omega (arith, l, all)) in
         let o = node_order nodes refusals reached all some n.0.level v n.0 n.1 refl in
         (o.0, o.2);
   }
 
   -- an order that leads to a marked node is a way, where the marked ones are done
-  pub marked_way : (marks : List Bool) → length marks ≡ size → ((w : ℕ) → IsOpen marks w → IsDone m (state_of w)) → (v : ℕ)
+  pub marked_way : (marks : List Bool) → length marks ≡ size → ((w : ℕ) → IsNodeOpen marks w → IsDone m (state_of w)) → (v : ℕ)
       → HasMarked noted threads marks v → HasWay m state_of (Steps m state_of noted size) v
   marked_way marks all done v (less, ts, w, path, is) = (map (λ e. e.0) ts, w, by ts v (omega (arith, less, all)) path, done w is)
     where
@@ -133,7 +133,7 @@ module _ {T : Type 0} (m : Machine T) (answers : Answers T) (Alike : State T →
           (c.0, x, (subst (λ z. noted t z v ≡ Some (Some x)) (sym c.2) to, l, next, c.1), by ts x next path)
 
   -- a way is an order that leads to a marked node, where the done ones are marked
-  pub way_to_marked : (marks : List Bool) → length marks ≡ size → ((w : ℕ) → w < size → IsDone m (state_of w) → IsOpen marks w) → (v : ℕ)
+  pub way_to_marked : (marks : List Bool) → length marks ≡ size → ((w : ℕ) → w < size → IsDone m (state_of w) → IsNodeOpen marks w) → (v : ℕ)
       → v < size → HasWay m state_of (Steps m state_of noted size) v → HasMarked noted threads marks v
   way_to_marked marks all marked v l (ts, w, path, done) =
       let p = by ts v l path in (omega (arith, l, all), p.0, w, p.1, marked w p.2 done)
@@ -158,7 +158,7 @@ module _ {T : Type 0} (m : Machine T) (answers : Answers T) (Alike : State T →
       → length nodes ≤ size → Covers m answers Alike s state_of (Opened nodes c h) 0 c
   covered_covers nodes c h first wide =
       let inside : (v : ℕ) (n : Origin) → slice_get nodes v ≡ Some n → v < size =
-      λ v n is. (let a = index_of_element_is_below_length nodes v n is in omega (arith, a, wide)) in record {
+      λ v n is. (let a = slice_get_some_below nodes v n is in omega (arith, a, wide)) in record {
         begins = means.begins;
         opens = λ t. (omega arith, (first_origin, first, omega arith), λ u few same. h.opens u few);
         at_rest = λ k t v o. means.at_rest v (inside v o.1.0 o.1.1);

@@ -5,10 +5,10 @@ use Rattle.std.specs.Global.{Vec}
 use Rattle.std.proofs.lemmas.Option.{same_Some}
 use Rattle.ir_search.specs.Levels.{rows}
 
-pub slice_get_of_rows_is_items_of_element : (vs : List (Vec Bool)) (t : ℕ) (d : Vec Bool) → t < length vs → slice_get (rows vs) t ≡ Some (get_or vs t d).items
-slice_get_of_rows_is_items_of_element [] t d l = absurd (omega (arith, l))
-slice_get_of_rows_is_items_of_element (v ∷ vs) zero d l = refl
-slice_get_of_rows_is_items_of_element (v ∷ vs) (suc t) d l = slice_get_of_rows_is_items_of_element vs t d (omega (arith, l))
+pub slice_get-rows : (vs : List (Vec Bool)) (t : ℕ) (d : Vec Bool) → t < length vs → slice_get (rows vs) t ≡ Some (get_or vs t d).items
+slice_get-rows [] t d l = absurd (omega (arith, l))
+slice_get-rows (v ∷ vs) zero d l = refl
+slice_get-rows (v ∷ vs) (suc t) d l = slice_get-rows vs t d (omega (arith, l))
 
 -- a row of a list in which one was replaced: that one, or another that stays
 pub row_after_set_cases : (vs : List (Vec Bool)) (i t : ℕ) (w : Vec Bool) (row : List Bool) → i < length vs
@@ -31,9 +31,9 @@ replicate_append_one : (n : ℕ) → (replicate n [] ++ [] ∷ []) ≡ replicate
 replicate_append_one zero = refl
 replicate_append_one (suc n) = ap (λ z. [] ∷ z) (replicate_append_one n)
 
-pub rows_all_empty_after_empty_row_pushed : (vs : List (Vec Bool)) (v : Vec Bool) (n : ℕ) → rows vs ≡ replicate n [] → v.items ≡ []
+pub empty_row_pushed : (vs : List (Vec Bool)) (v : Vec Bool) (n : ℕ) → rows vs ≡ replicate n [] → v.items ≡ []
     → rows (vs ++ v ∷ []) ≡ replicate (n + 1) []
-rows_all_empty_after_empty_row_pushed vs v n e none =
+empty_row_pushed vs v n e none =
     let more : suc n ≡ n + 1 = omega arith in
     rows_of_pushed vs v ∙ ap (λ z. z ++ v.items ∷ []) e ∙ ap (λ z. replicate n [] ++ z ∷ []) none ∙ replicate_append_one n
     ∙ ap (λ z. replicate z []) more
@@ -42,6 +42,6 @@ pub length_of_rows : (vs : List (Vec Bool)) → length (rows vs) ≡ length vs
 length_of_rows [] = refl
 length_of_rows (v ∷ vs) = ap suc (length_of_rows vs)
 
-pub length_of_replicated_empty_rows : (n : ℕ) → length (replicate {A = List Bool} n []) ≡ n
-length_of_replicated_empty_rows zero = refl
-length_of_replicated_empty_rows (suc n) = ap suc (length_of_replicated_empty_rows n)
+pub length-empty_rows : (n : ℕ) → length (replicate {A = List Bool} n []) ≡ n
+length-empty_rows zero = refl
+length-empty_rows (suc n) = ap suc (length-empty_rows n)

@@ -2,7 +2,7 @@
 use Rattle.std.specs.Prelude.{◌≡◌, ℕ, suc, zero, ◌≤◌, ◌<◌, Bool, true, List, Some, map, length, slice_get}
 use Rattle.std.specs.Global.{Vec}
 use Rattle.ir_search.specs.declared.origin.Origin.{Origin}
-use Rattle.ir_search.specs.Following.{BothWays, GoesTo, IsFollowed, AreOpen}
+use Rattle.ir_search.specs.Following.{BothWays, GoesTo, IsWayFollowed, AreOpen}
 
 -- each thread's row
 abbrev pub rows : List (Vec Bool) → List (List Bool)
@@ -10,15 +10,15 @@ rows opened = map (λ row. row.items) opened
 
 -- what is opened is followed, of each thread
 abbrev pub AllFollowed : (ℕ → BothWays) → List (List Bool) → Type 0
-AllFollowed noted opened = (t : ℕ) (row : List Bool) → slice_get opened t ≡ Some row → IsFollowed (noted t) row
+AllFollowed noted opened = (t : ℕ) (row : List Bool) → slice_get opened t ≡ Some row → IsWayFollowed (noted t) row
 
 -- these nodes are opened for each thread below `threads`
 abbrev pub AllOpen : List (List Bool) → ℕ → ℕ → ℕ → Type 0
 AllOpen opened first until threads = (t : ℕ) (row : List Bool) → t < threads → slice_get opened t ≡ Some row → AreOpen row first until
 
 -- no row has a place for a node from n on
-abbrev pub AreWithin : List (List Bool) → ℕ → Type 0
-AreWithin opened n = (t : ℕ) (row : List Bool) → slice_get opened t ≡ Some row → length row ≤ n
+abbrev pub AreRowsWithin : List (List Bool) → ℕ → Type 0
+AreRowsWithin opened n = (t : ℕ) (row : List Bool) → slice_get opened t ≡ Some row → length row ≤ n
 
 -- each of these threads was asked for both ways at each of these nodes, and leads to none but these
 abbrev pub AreAsked : (ℕ → BothWays) → ℕ → ℕ → Type 0
@@ -30,7 +30,7 @@ pub record LevelEnds (noted : ℕ → BothWays) (threads : ℕ) (nodes : List Or
   pub threads_are : length opened ≡ threads
   pub followed : AllFollowed noted opened
   pub opens : AllOpen opened 0 until threads
-  pub within : AreWithin opened (length nodes)
+  pub within : AreRowsWithin opened (length nodes)
   pub levels : (v : ℕ) (n : Origin) → slice_get nodes v ≡ Some n → n.level ≤ number
 
 -- A search has gone over the levels from 0 to c: levels k v t says that by the end of level k node v was opened for thread t.

@@ -44,8 +44,8 @@ abbrev pub IsLevel : List Origin → Level → Type 0
 IsLevel nodes level = (v : ℕ) → level.first ≤ v → v < level.until → BeginsAt nodes level.number v
 
 -- the nodes come in the order of their levels
-abbrev pub AreRising : List Origin → Type 0
-AreRising nodes = (u v : ℕ) (a b : Origin) → slice_get nodes u ≡ Some a → slice_get nodes v ≡ Some b → u ≤ v → a.level ≤ b.level
+abbrev pub AreOriginsRising : List Origin → Type 0
+AreOriginsRising nodes = (u v : ℕ) (a b : Origin) → slice_get nodes u ≡ Some a → slice_get nodes v ≡ Some b → u ≤ v → a.level ≤ b.level
 
 -- nodes of level k were added
 pub record Adds (k : ℕ) (old new : List Origin) : Type 0 where
@@ -54,8 +54,8 @@ pub record Adds (k : ℕ) (old new : List Origin) : Type 0 where
   pub longer : length old ≤ length new
 
 -- this order of threads leads to a node of level k
-abbrev pub LeadsBy : List Refusal → List Origin → ℕ → ℕ → List ℕ → Type 0
-LeadsBy refusals nodes zero v ts = (n : Origin) × (slice_get nodes v ≡ Some n)
+abbrev pub LeadsByWay : List Refusal → List Origin → ℕ → ℕ → List ℕ → Type 0
+LeadsByWay refusals nodes zero v ts = (n : Origin) × (slice_get nodes v ≡ Some n)
     × (ways : List Bool) × AreWaysOf refusals n ways × (ts ≡ replicate (length ways) n.thread)
-LeadsBy refusals nodes (suc k) v ts = (n : Origin) × (slice_get nodes v ≡ Some n) × (us : List ℕ) × LeadsBy refusals nodes k n.from us
+LeadsByWay refusals nodes (suc k) v ts = (n : Origin) × (slice_get nodes v ≡ Some n) × (us : List ℕ) × LeadsByWay refusals nodes k n.from us
     × (ways : List Bool) × AreWaysOf refusals n ways × (ts ≡ us ++ replicate (length ways) n.thread)

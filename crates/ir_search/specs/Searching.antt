@@ -5,13 +5,13 @@ use Rattle.ir_search.specs.declared.origin.Origin.{Origin}
 use Rattle.ir_search.specs.declared.origin.Refusal.{Refusal}
 use Rattle.ir_search.specs.Following.{BothWays}
 use Rattle.ir_search.specs.Levels.{LevelEnds, AreGoneOver}
-use Rattle.ir_search.specs.Origins.{first_origin, AreReached, AreRising, IsLevel}
+use Rattle.ir_search.specs.Origins.{first_origin, AreReached, AreOriginsRising, IsLevel}
 
 -- so many levels are gone over, of a graph of `size` nodes: how the search came to each of the first of them
 pub record HasGone (noted : ℕ → BothWays) (threads size : ℕ) (nodes : List Origin) (refusals : List Refusal) (levels : ℕ) : Type 0 where
   pub gone : AreGoneOver noted threads nodes levels
   pub reached : AreReached noted refusals nodes
-  pub rising : AreRising nodes
+  pub rising : AreOriginsRising nodes
   pub most : (v : ℕ) (n : Origin) → slice_get nodes v ≡ Some n → n.level ≤ levels
   pub first : slice_get nodes 0 ≡ Some first_origin
   pub few : length nodes ≤ size

@@ -3,7 +3,7 @@ use Rattle.std.specs.Prelude.{◌≡◌, ℕ, suc, ◌+◌, ◌-◌, Bool, true,
 use Rattle.ir_search.specs.declared.found.Pending.{Pending}
 use Rattle.ir_search.specs.declared.origin.Origin.{Origin}
 use Rattle.ir_search.specs.declared.origin.Refusal.{Refusal}
-use Rattle.ir_search.specs.Following.{BothWays, IsOpen, GoesTo}
+use Rattle.ir_search.specs.Following.{BothWays, IsNodeOpen, GoesTo}
 use Rattle.ir_search.specs.Origins.{IsReachedBy, AreReached}
 use Rattle.ir_search.specs.Ways.{shut}
 
@@ -17,8 +17,8 @@ pub record IsTurnSoFar (noted : ℕ → BothWays) (thread level : ℕ) (opened :
     (hand : List Pending) : Type 0 where
   pub wide : length opened ≡ length nodes
   pub reached : AreReached noted refusals nodes
-  pub followed : (v : ℕ) → IsOpen opened v → HasNode hand v ⊎ ((refused : Bool) → GoesTo (noted thread refused) (IsOpen opened) v)
-  pub opens : (i : ℕ) (p : Pending) → slice_get hand i ≡ Some p → IsOpen opened p.node
+  pub followed : (v : ℕ) → IsNodeOpen opened v → HasNode hand v ⊎ ((refused : Bool) → GoesTo (noted thread refused) (IsNodeOpen opened) v)
+  pub opens : (i : ℕ) (p : Pending) → slice_get hand i ≡ Some p → IsNodeOpen opened p.node
   pub comes : (i : ℕ) (p : Pending) → slice_get hand i ≡ Some p → IsReachedBy noted refusals nodes p.node p.origin
   pub threads : (i : ℕ) (p : Pending) → slice_get hand i ≡ Some p → p.origin.thread ≡ thread
   pub levels : (i : ℕ) (p : Pending) → slice_get hand i ≡ Some p → p.origin.level ≡ level

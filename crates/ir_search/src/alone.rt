@@ -2,7 +2,7 @@
 
 ghost use Rattle.std.specs.Prelude.{◌≡◌, ◌⊎◌, ◌++◌, ℕ, Bool, false, true, suc, [], ◌∷◌, ◌+◌, ◌-◌, ◌<◌, ◌≤◌, length, slice_set, IfOk, OnErr, IfErr, IsErrOf, OnOk};
 ghost use Rattle.ir_search.specs.declared.stop.Stop.TheVariants.{Nodes, Memory};
-ghost use Rattle.ir_search.specs.Following.{Keeps, Stay, IsOpen, StaysOpen, GoesTo, IsFollowed};
+ghost use Rattle.ir_search.specs.Following.{Keeps, Stay, IsNodeOpen, StaysOpen, GoesTo, IsWayFollowed};
 ghost use Rattle.ir_search.specs.TurnSoFar.{IsTurnSoFar, IsAfter, left_to_open};
 ghost use Rattle.ir_search.specs.Origins.{BeginsAt, AreReached, Adds};
 
@@ -78,7 +78,7 @@ fn follow<S: Successors, O: Observer>(
 
     // Once it has gone on
     ensures turn { OnOk result (IsTurnSoFar (S.noted graph.new) here.origin.thread here.origin.level opened.new.items found.new.nodes.items found.new.refusals.items (here ∷ found.new.pending.items)) }
-    ensures follows { OnOk result (GoesTo (S.noted graph.new here.origin.thread refused) (IsOpen opened.new.items) here.node) }
+    ensures follows { OnOk result (GoesTo (S.noted graph.new here.origin.thread refused) (IsNodeOpen opened.new.items) here.node) }
     ensures nodes { OnOk result (length found.new.nodes.items ≡ S.size graph.new) }
     ensures less { OnOk result (left_to_open (S.most graph.new) opened.new.items + length found.new.pending.items ≤ left_to_open (S.most graph.old) opened.old.items + length found.old.pending.items) }
 
@@ -119,7 +119,7 @@ pub fn go_alone<S: Successors, O: Observer>(
     start: Origin,
     observer: &O,
 ) -> Result<(), Stop>
-    requires followed { IsFollowed (S.noted graph.old start.thread) opened.old.items }
+    requires followed { IsWayFollowed (S.noted graph.old start.thread) opened.old.items }
     requires begins { BeginsAt found.old.nodes.items start.level start.from }
     requires none { (start.last_refusal ≡ 0) × (start.entries ≡ 0) }
     requires reached { AreReached (S.noted graph.old) found.old.refusals.items found.old.nodes.items }
@@ -130,8 +130,8 @@ pub fn go_alone<S: Successors, O: Observer>(
     requires sound { S.is_sound graph.old }
 
     // Once it has gone on
-    ensures followed { OnOk result (IsFollowed (S.noted graph.new start.thread) opened.new.items) }
-    ensures opens { OnOk result (IsOpen opened.new.items start.from) }
+    ensures followed { OnOk result (IsWayFollowed (S.noted graph.new start.thread) opened.new.items) }
+    ensures opens { OnOk result (IsNodeOpen opened.new.items start.from) }
     ensures row { OnOk result (length opened.new.items ≡ length found.new.nodes.items) }
     ensures nodes { OnOk result (length found.new.nodes.items ≡ S.size graph.new) }
 

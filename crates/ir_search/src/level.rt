@@ -3,7 +3,7 @@
 ghost use Rattle.std.specs.Prelude.{◌≡◌, ◌⊎◌, ℕ, Bool, ◌<◌, ◌≤◌, length, IfErr, IsErrOf, OnOk};
 ghost use Rattle.ir_search.specs.declared.stop.Stop.TheVariants.{Nodes, Memory};
 ghost use Rattle.ir_search.specs.Following.{Keeps, Stay};
-ghost use Rattle.ir_search.specs.Levels.{rows, AllFollowed, AllOpen, AreWithin};
+ghost use Rattle.ir_search.specs.Levels.{rows, AllFollowed, AllOpen, AreRowsWithin};
 ghost use Rattle.ir_search.specs.Origins.{AreReached, IsLevel, Adds};
 
 use crate::found::Found;
@@ -30,7 +30,7 @@ pub fn take_level<S: Successors, O: Observer>(
     requires level { IsLevel found.old.nodes.items level }
     requires reached { AreReached (S.noted graph.old) found.old.refusals.items found.old.nodes.items }
     requires until { level.until ≤ length found.old.nodes.items }
-    requires rows { AreWithin (rows opened.old) (length found.old.nodes.items) }
+    requires rows { AreRowsWithin (rows opened.old) (length found.old.nodes.items) }
     requires nodes { length found.old.nodes.items ≡ S.size graph.old }
     requires room { S.size graph.old ≤ S.most graph.old }
     requires sound { S.is_sound graph.old }
@@ -38,7 +38,7 @@ pub fn take_level<S: Successors, O: Observer>(
     // Once each has had its turn
     ensures followed { OnOk result (AllFollowed (S.noted graph.new) (rows opened.new)) }
     ensures opens { OnOk result (AllOpen (rows opened.new) 0 level.until (length opened.old)) }
-    ensures rows { OnOk result (AreWithin (rows opened.new) (length found.new.nodes.items)) }
+    ensures rows { OnOk result (AreRowsWithin (rows opened.new) (length found.new.nodes.items)) }
     ensures nodes { OnOk result (length found.new.nodes.items ≡ S.size graph.new) }
 
     // Whatever comes

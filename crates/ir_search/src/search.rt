@@ -38,7 +38,7 @@ pub struct Search {
 }
 
 // No node is opened.
-#[tactic(auto, using(crate::proofs::Rows::rows_all_empty_after_empty_row_pushed))]
+#[tactic(auto, using(crate::proofs::Rows::empty_row_pushed))]
 fn no_rows(alloc: Global, threads: usize) -> Result<Vec<Vec<bool>>, AllocError>
     ensures { IfOk result (λ opened. rows opened.items ≡ replicate threads []) }
 {

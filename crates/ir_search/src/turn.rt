@@ -2,7 +2,7 @@
 
 ghost use Rattle.std.specs.Prelude.{◌≡◌, ◌⊎◌, ℕ, Bool, ◌<◌, ◌≤◌, length, IfErr, IsErrOf, OnOk};
 ghost use Rattle.ir_search.specs.declared.stop.Stop.TheVariants.{Nodes, Memory};
-ghost use Rattle.ir_search.specs.Following.{Keeps, Stay, AreOpen, StaysOpen, IsFollowed};
+ghost use Rattle.ir_search.specs.Following.{Keeps, Stay, AreOpen, StaysOpen, IsWayFollowed};
 ghost use Rattle.ir_search.specs.Origins.{AreReached, IsLevel, Adds};
 
 use crate::alone::go_alone;
@@ -25,7 +25,7 @@ pub fn take_turn<S: Successors, O: Observer>(
     level: Level,
     observer: &O,
 ) -> Result<(), Stop>
-    requires followed { IsFollowed (S.noted graph.old thread) opened.old.items }
+    requires followed { IsWayFollowed (S.noted graph.old thread) opened.old.items }
     requires level { IsLevel found.old.nodes.items level }
     requires reached { AreReached (S.noted graph.old) found.old.refusals.items found.old.nodes.items }
     requires until { level.until ≤ length found.old.nodes.items }
@@ -35,7 +35,7 @@ pub fn take_turn<S: Successors, O: Observer>(
     requires sound { S.is_sound graph.old }
 
     // Once it has had its turn
-    ensures followed { OnOk result (IsFollowed (S.noted graph.new thread) opened.new.items) }
+    ensures followed { OnOk result (IsWayFollowed (S.noted graph.new thread) opened.new.items) }
     ensures opens { OnOk result (AreOpen opened.new.items level.first level.until) }
     ensures row { OnOk result (length opened.new.items ≡ length found.new.nodes.items) }
     ensures nodes { OnOk result (length found.new.nodes.items ≡ S.size graph.new) }

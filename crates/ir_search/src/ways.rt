@@ -1,7 +1,7 @@
 //! Nodes from which threads lead to marked ones.
 
 ghost use Rattle.std.specs.Prelude.{◌≡◌, ◌↔◌, ℕ, ◌<◌, true, false, Some, length};
-ghost use Rattle.ir_search.specs.Following.{IsOpen, StaysOpen};
+ghost use Rattle.ir_search.specs.Following.{IsNodeOpen, StaysOpen};
 ghost use Rattle.ir_search.specs.Ways.{shut, LeadsToMarked, IsMarkedBack, HasMarked};
 
 use crate::successors::Successors;
@@ -14,8 +14,8 @@ fn leads<S: Successors>(
     marks: &[bool],
     node: usize,
 ) -> bool
-    ensures found { result ≡ true → (w : ℕ) × (S.noted graph.now thread refused node ≡ Some (Some w)) × IsOpen marks.now w }
-    ensures none { result ≡ false → (w : ℕ) → S.noted graph.now thread refused node ≡ Some (Some w) → IsOpen marks.now w → ⊥ }
+    ensures found { result ≡ true → (w : ℕ) × (S.noted graph.now thread refused node ≡ Some (Some w)) × IsNodeOpen marks.now w }
+    ensures none { result ≡ false → (w : ℕ) → S.noted graph.now thread refused node ≡ Some (Some w) → IsNodeOpen marks.now w → ⊥ }
 {
     match graph.known(thread, refused, node) {
         Some(Some(next)) => next < marks.len() && marks[next],
@@ -40,7 +40,7 @@ fn is_before<S: Successors>(graph: &S, threads: usize, marks: &[bool], node: usi
 fn sweep<S: Successors>(graph: &S, threads: usize, marks: &mut [bool]) -> bool
     ensures nodes { length marks.new ≡ length marks.old }
     ensures stays { StaysOpen marks.old marks.new }
-    ensures ways { (v : ℕ) → IsOpen marks.new v → HasMarked (S.noted graph.now) threads marks.old v }
+    ensures ways { (v : ℕ) → IsNodeOpen marks.new v → HasMarked (S.noted graph.now) threads marks.old v }
     ensures less { result ≡ true → shut marks.new < shut marks.old }
     ensures back { result ≡ false → IsMarkedBack (S.noted graph.now) threads marks.new }
 {
@@ -59,7 +59,7 @@ fn sweep<S: Successors>(graph: &S, threads: usize, marks: &mut [bool]) -> bool
 /// as many sweeps over the nodes, at most, as there are nodes to mark, and one more; few where the nodes come by rising levels.
 pub fn mark_ways<S: Successors>(graph: &S, threads: usize, marks: &mut [bool])
     ensures nodes { length marks.new ≡ length marks.old }
-    ensures exact { (v : ℕ) → IsOpen marks.new v ↔ HasMarked (S.noted graph.now) threads marks.old v }
+    ensures exact { (v : ℕ) → IsNodeOpen marks.new v ↔ HasMarked (S.noted graph.now) threads marks.old v }
 {
     'sweeps: loop {
         if !sweep(graph, threads, marks) {

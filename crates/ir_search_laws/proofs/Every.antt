@@ -4,16 +4,16 @@ use Rattle.ir_runs.specs.Machine.{Machine}
 use Rattle.ir_runs.specs.Lawful.{IsLawful}
 use Rattle.ir_runs.specs.Run.{State, Step, asked, Can, after, end}
 use Rattle.ir_runs.proofs.CallerLemmas.{StateInvariant}
-use Rattle.ir_search_laws.specs.Counting.{Answers, IsAtRest, GoesAhead, entering, Brought}
-use Rattle.ir_search_laws.specs.Nodes.{TellsNothing, LeadsTo, Noted, Path}
+use Rattle.ir_search_laws.specs.Counting.{AnswersCall, IsAtRest, GoesAhead, entering, Brought}
+use Rattle.ir_search_laws.specs.Nodes.{TellsNothing, LeadsToNode, Noted, Path}
 use Rattle.ir_search_laws.specs.Outcomes.{IsFinished}
-use Rattle.ir_search_laws.proofs.Rest.{run_that_goes_ahead_counts, run_that_goes_ahead_enters_nothing, steps_ahead_may_come_first, ComesToRest}
-use Rattle.ir_search_laws.proofs.Closed.{entering_of_cons_at_rest_begins_with_its_thread}
+use Rattle.ir_search_laws.proofs.Rest.{ahead_run_counts, ahead_enters_nothing, ahead_comes_first, ComesToRest}
+use Rattle.ir_search_laws.proofs.Closed.{entering_cons_at_rest}
 use Rattle.ir_search_laws.proofs.Within.{path_append}
 
 -- one state is alike to itself alone
-pub equality_of_states_tells_nothing : {T : Type 0} (m : Machine T) (answers : Answers T) → TellsNothing m answers (λ s v. s ≡ v)
-equality_of_states_tells_nothing m answers = record {
+pub equality_tells_nothing : {T : Type 0} (m : Machine T) (answers : AnswersCall T) → TellsNothing m answers (λ s v. s ≡ v)
+equality_tells_nothing m answers = record {
   asks = λ s v h t. ap (λ z. asked m z t) h;
   answered = λ s v h t. ap (λ z. answers t (z.now t)) h;
   can = λ s v h e can. subst (λ z. Can m z e) h can;
@@ -22,10 +22,10 @@ equality_of_states_tells_nothing m answers = record {
   onwards = λ s v w h k. h ∙ k;
 }
 
-module _ {T : Type 0} (m : Machine T) (answers : Answers T) (rest : (s : State T) → ComesToRest m answers s) (s : State T) where
+module _ {T : Type 0} (m : Machine T) (answers : AnswersCall T) (rest : (s : State T) → ComesToRest m answers s) (s : State T) where
   -- what is at rest after a step
   abbrev pub Resting : Noted (State T)
-  Resting v e w = LeadsTo m answers (λ s v. s ≡ v) v e w × IsAtRest m w
+  Resting v e w = LeadsToNode m answers (λ s v. s ≡ v) v e w × IsAtRest m w
 
   abbrev pub start_at_rest : State T
   start_at_rest = end m s (rest s).ahead
@@ -49,22 +49,22 @@ module _ {T : Type 0} (m : Machine T) (answers : Answers T) (rest : (s : State T
   }
 
 -- where all are at rest nothing goes on
-pub nothing_goes_ahead_at_rest : {T : Type 0} (m : Machine T) (answers : Answers T) (s : State T) → IsAtRest m s → (left : List Step) → GoesAhead m answers s left
+pub none_ahead_at_rest : {T : Type 0} (m : Machine T) (answers : AnswersCall T) (s : State T) → IsAtRest m s → (left : List Step) → GoesAhead m answers s left
     → left ≡ []
-nothing_goes_ahead_at_rest m answers s at_rest [] goes = refl
-nothing_goes_ahead_at_rest m answers s at_rest (e ∷ left) goes = absurd (cc (at_rest e.0, goes.0))
+none_ahead_at_rest m answers s at_rest [] goes = refl
+none_ahead_at_rest m answers s at_rest (e ∷ left) goes = absurd (cc (at_rest e.0, goes.0))
 
-run_at_rest_is_empty_if_it_enters_nothing : {T : Type 0} (m : Machine T) (s : State T) → IsAtRest m s → (run : List Step) → entering m s run ≡ [] → run ≡ []
-run_at_rest_is_empty_if_it_enters_nothing m s at_rest [] h = refl
-run_at_rest_is_empty_if_it_enters_nothing m s at_rest (e ∷ run) h = absurd (cc (sym (entering_of_cons_at_rest_begins_with_its_thread m s at_rest e run) ∙ h))
+entering_none_is_empty : {T : Type 0} (m : Machine T) (s : State T) → IsAtRest m s → (run : List Step) → entering m s run ≡ [] → run ≡ []
+entering_none_is_empty m s at_rest [] h = refl
+entering_none_is_empty m s at_rest (e ∷ run) h = absurd (cc (sym (entering_cons_at_rest m s at_rest e run) ∙ h))
 
 -- whatever the order in which threads go on, they come to rest in one state
-pub ends_of_two_runs_to_rest_are_equal : {T : Type 0} (m : Machine T) → IsLawful m → (answers : Answers T) (s : State T) → StateInvariant m s → (r r' : ComesToRest m answers s)
+pub rest_ends_equal : {T : Type 0} (m : Machine T) → IsLawful m → (answers : AnswersCall T) (s : State T) → StateInvariant m s → (r r' : ComesToRest m answers s)
     → end m s r.ahead ≡ end m s r'.ahead
-ends_of_two_runs_to_rest_are_equal m law answers s good r r' =
+rest_ends_equal m law answers s good r r' =
     let b : Brought m answers s r.ahead r'.ahead =
-    steps_ahead_may_come_first m law answers s good r.ahead r.goes r'.ahead (run_that_goes_ahead_counts m answers s r'.ahead r'.goes) in
-    let none : b.left ≡ [] = nothing_goes_ahead_at_rest m answers (end m s r'.ahead) r'.at_rest b.left b.goes in
-    let none' : b.rest ≡ [] = run_at_rest_is_empty_if_it_enters_nothing m (end m s r.ahead) r.at_rest b.rest
-    (b.same_entering ∙ run_that_goes_ahead_enters_nothing m answers s r'.ahead r'.goes) in
+    ahead_comes_first m law answers s good r.ahead r.goes r'.ahead (ahead_run_counts m answers s r'.ahead r'.goes) in
+    let none : b.left ≡ [] = none_ahead_at_rest m answers (end m s r'.ahead) r'.at_rest b.left b.goes in
+    let none' : b.rest ≡ [] = entering_none_is_empty m (end m s r.ahead) r.at_rest b.rest
+    (b.same_entering ∙ ahead_enters_nothing m answers s r'.ahead r'.goes) in
     ap (end m (end m s r.ahead)) (sym none') ∙ b.same_end ∙ ap (end m (end m s r'.ahead)) none

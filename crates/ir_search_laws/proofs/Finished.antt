@@ -4,28 +4,28 @@ use Rattle.ir_runs.specs.Machine.{Machine}
 use Rattle.ir_runs.specs.Lawful.{IsLawful}
 use Rattle.ir_runs.specs.Run.{State, Step, end, IsDone}
 use Rattle.ir_runs.proofs.CallerLemmas.{StateInvariant, end_append}
-use Rattle.ir_search_laws.specs.Counting.{Answers, RunCounts, GoesAhead, entering, Brought}
+use Rattle.ir_search_laws.specs.Counting.{AnswersCall, RunCounts, GoesAhead, entering, Brought}
 use Rattle.ir_search_laws.specs.Nodes.{TellsNothing, Noted, Path, IsClosed, Chain, Arrives}
 use Rattle.ir_search_laws.specs.Outcomes.{IsOutcome, Begins, IsFinished}
-use Rattle.ir_search_laws.proofs.Rest.{run_that_goes_ahead_counts, goes_ahead_append, state_invariant_after_counting_run, steps_ahead_may_come_first, nothing_goes_ahead_if_done}
-use Rattle.ir_search_laws.proofs.Closed.{counting_run_arrives_along_chain, RunByEntries, shows}
+use Rattle.ir_search_laws.proofs.Rest.{ahead_run_counts, goes_ahead_append, invariant_after_counting, ahead_comes_first, none_ahead_if_done}
+use Rattle.ir_search_laws.proofs.Closed.{arrives_along_chain, RunByEntries, shows}
 
-pub is_done_from_alike_state : {T : Type 0} (m : Machine T) (answers : Answers T) (Alike : State T → State T → Type 0) → TellsNothing m answers Alike
+pub done_from_alike : {T : Type 0} (m : Machine T) (answers : AnswersCall T) (Alike : State T → State T → Type 0) → TellsNothing m answers Alike
     → (s v : State T) → Alike s v → IsDone m s → IsDone m v
-is_done_from_alike_state m answers Alike tells s v alike done t = sym (tells.asks s v alike t) ∙ done t
+done_from_alike m answers Alike tells s v alike done t = sym (tells.asks s v alike t) ∙ done t
 
 -- a run that counts, from the start, leads to a node
-pub counting_run_arrives_along_chain_of_its_entries : {T I K : Type 0} (m : Machine T) → IsLawful m → (answers : Answers T) (Alike : State T → State T → Type 0)
+pub arrives_along_entries : {T I K : Type 0} (m : Machine T) → IsLawful m → (answers : AnswersCall T) (Alike : State T → State T → Type 0)
     → TellsNothing m answers Alike
     → (Moves : I → ℕ → I → Type 0) (state_of : K → State T) (Node : I → K → Type 0) (Next : Noted K)
     → IsClosed m answers Alike Moves state_of Node Next → (s : State T) (first : K) → StateInvariant m s
     → Begins m answers Alike s (state_of first) → (i j : I) → Node i first → (run : List Step) → RunCounts m answers s run
     → Chain Moves i (entering m s run) j → Arrives m answers Alike state_of Node Next s first run j
-counting_run_arrives_along_chain_of_its_entries m law answers Alike tells Moves state_of Node Next closed s first good begins i j is run ok chain =
-    let b : Brought m answers s begins.ahead run = steps_ahead_may_come_first m law answers s good begins.ahead begins.goes run ok in
+arrives_along_entries m law answers Alike tells Moves state_of Node Next closed s first good begins i j is run ok chain =
+    let b : Brought m answers s begins.ahead run = ahead_comes_first m law answers s good begins.ahead begins.goes run ok in
     let a : Arrives m answers Alike state_of Node Next (end m s begins.ahead) first b.rest j =
-    counting_run_arrives_along_chain m law answers Alike tells Moves state_of Node Next closed (entering m s run) i j chain (end m s begins.ahead) first
-    (state_invariant_after_counting_run m law answers s good begins.ahead (run_that_goes_ahead_counts m answers s begins.ahead begins.goes)) begins.alike is b.rest b.counts
+    arrives_along_chain m law answers Alike tells Moves state_of Node Next closed (entering m s run) i j chain (end m s begins.ahead) first
+    (invariant_after_counting m law answers s good begins.ahead (ahead_run_counts m answers s begins.ahead begins.goes)) begins.alike is b.rest b.counts
     b.same_entering in
     record {
       left = b.left ++ a.left;
@@ -38,11 +38,11 @@ counting_run_arrives_along_chain_of_its_entries m law answers Alike tells Moves 
     }
 
 -- of a complete run that node is its end
-pub done_end_is_alike_to_arrived_node : {T I K : Type 0} (m : Machine T) (answers : Answers T) (Alike : State T → State T → Type 0) (state_of : K → State T)
+pub done_alike_to_node : {T I K : Type 0} (m : Machine T) (answers : AnswersCall T) (Alike : State T → State T → Type 0) (state_of : K → State T)
     (Node : I → K → Type 0) (Next : Noted K) (s : State T) (v : K) (run : List Step) (j : I) → IsDone m (end m s run)
     → (a : Arrives m answers Alike state_of Node Next s v run j) → Alike (end m s run) (state_of a.node)
-done_end_is_alike_to_arrived_node m answers Alike state_of Node Next s v run j done a =
-    subst (λ z. Alike (end m (end m s run) z) (state_of a.node)) (nothing_goes_ahead_if_done m answers (end m s run) done a.left a.goes) a.alike
+done_alike_to_node m answers Alike state_of Node Next s v run j done a =
+    subst (λ z. Alike (end m (end m s run) z) (state_of a.node)) (none_ahead_if_done m answers (end m s run) done a.left a.goes) a.alike
 
 -- nodes that all stand at one place, where every thread may move
 abbrev pub MovesFreely : Unit {0} → ℕ → Unit {0} → Type 0
@@ -55,7 +55,7 @@ pub chain_of_free_moves : (ts : List ℕ) → Chain MovesFreely tt ts tt
 chain_of_free_moves [] = refl
 chain_of_free_moves (t ∷ ts) = (tt, tt, chain_of_free_moves ts)
 
-module _ {T K : Type 0} (m : Machine T) (law : IsLawful m) (answers : Answers T) (Alike : State T → State T → Type 0)
+module _ {T K : Type 0} (m : Machine T) (law : IsLawful m) (answers : AnswersCall T) (Alike : State T → State T → Type 0)
     (tells : TellsNothing m answers Alike) (s : State T) (good : StateInvariant m s) (state_of : K → State T) (Node : K → Type 0) (Next : Noted K)
     (first : K) (f : IsFinished m answers Alike s state_of Node Next first) where
   pub finished_closed : IsClosed m answers Alike MovesFreely state_of (AtOnePlace Node) Next
@@ -67,7 +67,7 @@ module _ {T K : Type 0} (m : Machine T) (law : IsLawful m) (answers : Answers T)
   -- a run that counts leads to a node
   pub finds : (run : List Step) → RunCounts m answers s run → Arrives m answers Alike state_of (AtOnePlace Node) Next s first run tt
   finds run ok =
-      counting_run_arrives_along_chain_of_its_entries m law answers Alike tells MovesFreely state_of (AtOnePlace Node) Next finished_closed s first good f.begins tt tt f.is run ok
+      arrives_along_entries m law answers Alike tells MovesFreely state_of (AtOnePlace Node) Next finished_closed s first good f.begins tt tt f.is run ok
       (chain_of_free_moves (entering m s run))
 
   -- each node has a run that leads to it
@@ -81,10 +81,10 @@ module _ {T K : Type 0} (m : Machine T) (law : IsLawful m) (answers : Answers T)
     λ h.
         let a : Arrives m answers Alike state_of (AtOnePlace Node) Next s first h.0 tt = finds h.0 h.1 in
         let alike : Alike (end m s h.0) (state_of a.node) =
-        done_end_is_alike_to_arrived_node m answers Alike state_of (AtOnePlace Node) Next s first h.0 tt h.2 a in (
+        done_alike_to_node m answers Alike state_of (AtOnePlace Node) Next s first h.0 tt h.2 a in (
           a.node,
           a.is,
-          is_done_from_alike_state m answers Alike tells (end m s h.0) (state_of a.node) alike h.2,
+          done_from_alike m answers Alike tells (end m s h.0) (state_of a.node) alike h.2,
           sym (same (end m s h.0) (state_of a.node) alike) ∙ h.3,
         ),
     λ h.
@@ -92,7 +92,7 @@ module _ {T K : Type 0} (m : Machine T) (law : IsLawful m) (answers : Answers T)
         let k : RunByEntries m answers Alike s r.0 (state_of h.0) = found h.0 r.0 r.1 in (
           k.run,
           k.counts,
-          is_done_from_alike_state m answers Alike tells (state_of h.0) (end m s k.run)
+          done_from_alike m answers Alike tells (state_of h.0) (end m s k.run)
               (tells.backwards (end m s k.run) (state_of h.0) k.alike) h.2,
           same (end m s k.run) (state_of h.0) k.alike ∙ h.3,
         ),

@@ -1,19 +1,21 @@
 -- A step that no other can refuse may come first.
-use Rattle.std.proofs.Common.{◌≡◌, ◌≢◌, ℕ, Bool, true, false, cond, eqb, List, [], ◌∷◌, refl, sym, ap, ◌∙◌, subst, arith, inl, inr, append-nil}
+use Rattle.std.proofs.Common.{◌≡◌, ◌≢◌, ℕ, true, cond, eqb, List, [], ◌∷◌, refl, sym, ap, ◌∙◌, subst, arith, inl, inr, append-nil}
 use Rattle.std.proofs.lemmas.Bool.{cases_eq, eqb-true}
 use Rattle.ir_runs.specs.Machine.{Ask, Private, Env, Enter, Try, Leave, Get, Put, Done, Act, act_of, Replied, Entered, Machine, target, emitted}
 use Rattle.ir_runs.specs.Lawful.{IsLawful}
 use Rattle.ir_runs.specs.declared.access.Access.TheVariants.{Reading, Writing}
 use Rattle.ir_runs.specs.Run.{State, Step, asked, act, after, label, end, join_if, trail}
-use Rattle.ir_runs.proofs.CallerLemmas.{StateInvariant, state_invariant_after_step, Clash, IsEntry, Clashes, StepUnchanged, step_unchanged_after_other_step, steps_commute_unless_clash, after_same_if_act_same, clash_is_symmetric}
-use Rattle.ir_search_laws.specs.Counting.{Answers, IsAnswered, Takes, RunCounts, is_own, entering, Brought}
+use Rattle.ir_runs.proofs.CallerLemmas.{StateInvariant, state_invariant_step, Clash, IsEntry, Clashes, StepUnchanged}
+use Rattle.ir_runs.proofs.CallerLemmas.{step_unchanged_by_other, steps_commute, after_same_if_act_same, clash_is_symmetric}
+use Rattle.ir_runs.proofs.CallerLemmas.{join_if_commutes}
+use Rattle.ir_search_laws.specs.Counting.{AnswersCall, IsAnswered, Takes, RunCounts, is_own, entering, Brought}
 
 -- what clashes with an entry is an entry
-act_clashing_with_entry_is_entry : (q q' : Act) → Clash q q' → IsEntry q'
-act_clashing_with_entry_is_entry (Entered o Writing x) (Entered p a y) c = tt
-act_clashing_with_entry_is_entry (Entered o Reading x) (Entered p Writing y) c = tt
-act_clashing_with_entry_is_entry (Entered o Reading x) (Entered p Reading y) c = tt
-act_clashing_with_entry_is_entry _ _ c = absurd c
+clash_with_entry : (q q' : Act) → Clash q q' → IsEntry q'
+clash_with_entry (Entered o Writing x) (Entered p a y) c = tt
+clash_with_entry (Entered o Reading x) (Entered p Writing y) c = tt
+clash_with_entry (Entered o Reading x) (Entered p Reading y) c = tt
+clash_with_entry _ _ c = absurd c
 
 own_act_is_no_entry : (q : Ask) (r : ℕ) → is_own q ≡ true → IsEntry (act_of q r) → ⊥
 own_act_is_no_entry Private r own h = h
@@ -26,29 +28,22 @@ own_act_is_no_entry (Put o i w) r own h = h
 own_act_is_no_entry Done r own h = h
 
 -- such a step does one thing
-pub own_acts_of_answering_results_are_equal : (q : Ask) (answer r r' : ℕ) → is_own q ≡ true → IsAnswered q answer r → IsAnswered q answer r' → act_of q r ≡ act_of q r'
-own_acts_of_answering_results_are_equal Private answer r r' own a b = refl
-own_acts_of_answering_results_are_equal (Env k) answer r r' own a b = ap (Replied k) (a ∙ sym b)
-own_acts_of_answering_results_are_equal (Enter o a) answer r r' own _ b = absurd (cc own)
-own_acts_of_answering_results_are_equal (Try o) answer r r' own a b = absurd (cc own)
-own_acts_of_answering_results_are_equal (Leave o c) answer r r' own a b = refl
-own_acts_of_answering_results_are_equal (Get o i) answer r r' own a b = refl
-own_acts_of_answering_results_are_equal (Put o i w) answer r r' own a b = refl
-own_acts_of_answering_results_are_equal Done answer r r' own a b = refl
-
-two_join_ifs_swap_if_not_both_conditions : {A : Type 0} (b c : Bool) (x x' y y' : A) (xs : List A) → (b ≡ true → c ≡ true → ⊥) → (b ≡ true → x ≡ x') → (c ≡ true → y ≡ y')
-    → join_if b x (join_if c y xs) ≡ join_if c y' (join_if b x' xs)
-two_join_ifs_swap_if_not_both_conditions true true x x' y y' xs f p q = absurd (f refl refl)
-two_join_ifs_swap_if_not_both_conditions true false x x' y y' xs f p q = ap (λ z. z ∷ xs) (p refl)
-two_join_ifs_swap_if_not_both_conditions false true x x' y y' xs f p q = ap (λ z. z ∷ xs) (q refl)
-two_join_ifs_swap_if_not_both_conditions false false x x' y y' xs f p q = refl
+pub answering_acts_equal : (q : Ask) (answer r r' : ℕ) → is_own q ≡ true → IsAnswered q answer r → IsAnswered q answer r' → act_of q r ≡ act_of q r'
+answering_acts_equal Private answer r r' own a b = refl
+answering_acts_equal (Env k) answer r r' own a b = ap (Replied k) (a ∙ sym b)
+answering_acts_equal (Enter o a) answer r r' own _ b = absurd (cc own)
+answering_acts_equal (Try o) answer r r' own a b = absurd (cc own)
+answering_acts_equal (Leave o c) answer r r' own a b = refl
+answering_acts_equal (Get o i) answer r r' own a b = refl
+answering_acts_equal (Put o i w) answer r r' own a b = refl
+answering_acts_equal Done answer r r' own a b = refl
 
 -- the thread's own step, and that of another before it
-own_step_may_come_first_if_run_begins_with_its_thread : {T : Type 0} (m : Machine T) (answers : Answers T) (s : State T) (run : List Step) (t r r' : ℕ)
+own_step_first_begun : {T : Type 0} (m : Machine T) (answers : AnswersCall T) (s : State T) (run : List Step) (t r r' : ℕ)
     → Takes m answers s (t, r') → RunCounts m answers (after m s (t, r')) run → is_own (asked m s t) ≡ true → Takes m answers s (t, r)
     → Brought m answers s ((t, r) ∷ []) ((t, r') ∷ run)
-own_step_may_come_first_if_run_begins_with_its_thread m answers s run t r r' taken ok own takes =
-    let a : act m s (t, r') ≡ act m s (t, r) = own_acts_of_answering_results_are_equal (asked m s t) (answers t (s.now t)) r' r own taken.1 takes.1 in
+own_step_first_begun m answers s run t r r' taken ok own takes =
+    let a : act m s (t, r') ≡ act m s (t, r) = answering_acts_equal (asked m s t) (answers t (s.now t)) r' r own taken.1 takes.1 in
     let p : after m s (t, r') ≡ after m s (t, r) = after_same_if_act_same m s t r' r a in
     record {
       left = [];
@@ -64,18 +59,18 @@ own_step_may_come_first_if_run_begins_with_its_thread m answers s run t r r' tak
       same_length = omega arith;
     }
 
-own_step_may_come_first_if_run_begins_with_other_thread : {T : Type 0} (m : Machine T) → IsLawful m → (answers : Answers T) (s : State T) → StateInvariant m s → (e : Step) (run : List Step)
+own_step_first_other : {T : Type 0} (m : Machine T) → IsLawful m → (answers : AnswersCall T) (s : State T) → StateInvariant m s → (e : Step) (run : List Step)
     → Takes m answers s e → (t r : ℕ) → t ≢ e.0 → is_own (asked m s t) ≡ true → Takes m answers s (t, r)
     → (is_own (asked m (after m s e) t) ≡ true → Takes m answers (after m s e) (t, r) → Brought m answers (after m s e) ((t, r) ∷ []) run)
     → Brought m answers s ((t, r) ∷ []) (e ∷ run)
-own_step_may_come_first_if_run_begins_with_other_thread m law answers s good e run taken t r other own takes ih =
-    let free : Clashes m s e (t, r) → ⊥ = λ c. own_act_is_no_entry (asked m s t) r own (act_clashing_with_entry_is_entry _ _ c.1) in
-    let free' : Clashes m s (t, r) e → ⊥ = λ c. own_act_is_no_entry (asked m s t) r own (act_clashing_with_entry_is_entry _ _ (clash_is_symmetric _ _ c.1)) in
-    let k : StepUnchanged m s e (t, r) = step_unchanged_after_other_step m law s good e (t, r) (λ p. other (sym p)) taken.0 takes.0 free in
-    let k' : StepUnchanged m s (t, r) e = step_unchanged_after_other_step m law s good (t, r) e other takes.0 taken.0 free' in
+own_step_first_other m law answers s good e run taken t r other own takes ih =
+    let free : Clashes m s e (t, r) → ⊥ = λ c. own_act_is_no_entry (asked m s t) r own (clash_with_entry _ _ c.1) in
+    let free' : Clashes m s (t, r) e → ⊥ = λ c. own_act_is_no_entry (asked m s t) r own (clash_with_entry _ _ (clash_is_symmetric _ _ c.1)) in
+    let k : StepUnchanged m s e (t, r) = step_unchanged_by_other m law s good e (t, r) (λ p. other (sym p)) taken.0 takes.0 free in
+    let k' : StepUnchanged m s (t, r) e = step_unchanged_by_other m law s good (t, r) e other takes.0 taken.0 free' in
     let q : Brought m answers (after m s e) ((t, r) ∷ []) run = ih (ap (λ x. is_own (m.ask x)) k.now_same ∙ own)
     (k.can, subst (λ x. IsAnswered (m.ask x) (answers t x) r) (sym k.now_same) takes.1) in
-    let p : after m (after m s (t, r)) e ≡ after m (after m s e) (t, r) = steps_commute_unless_clash m law s good (t, r) e other takes.0 taken.0 free' free in
+    let p : after m (after m s (t, r)) e ≡ after m (after m s e) (t, r) = steps_commute m law s good (t, r) e other takes.0 taken.0 free' free in
     record {
       left = q.left;
       goes = q.goes;
@@ -92,7 +87,7 @@ own_step_may_come_first_if_run_begins_with_other_thread m law answers s good e r
       same_trail = λ u.
           ap (λ z. join_if (eqb u t) (s.now u, label m s (t, r))
           (join_if (eqb u e.0) ((after m s (t, r)).now u, label m (after m s (t, r)) e) (trail m z q.rest u))) p
-          ∙ two_join_ifs_swap_if_not_both_conditions (eqb u t) (eqb u e.0) (s.now u, label m s (t, r)) ((after m s e).now u, label m (after m s e) (t, r))
+          ∙ join_if_commutes (eqb u t) (eqb u e.0) (s.now u, label m s (t, r)) ((after m s e).now u, label m (after m s e) (t, r))
           ((after m s (t, r)).now u, label m (after m s (t, r)) e) (s.now u, label m s e) (trail m (after m (after m s e) (t, r)) q.rest u)
           (λ a b. other (sym (eqb-true u t a) ∙ eqb-true u e.0 b))
           (λ a. λ i. (subst (λ z. s.now z ≡ (after m s e).now z) (sym (eqb-true u t a)) (sym k.now_same) i, sym k.label_same i))
@@ -102,7 +97,7 @@ own_step_may_come_first_if_run_begins_with_other_thread m law answers s good e r
     }
 
 -- in a run that counts, such a step that counts may come first
-pub own_step_may_come_first : {T : Type 0} (m : Machine T) → IsLawful m → (answers : Answers T) (s : State T) → StateInvariant m s → (run : List Step)
+pub own_step_may_come_first : {T : Type 0} (m : Machine T) → IsLawful m → (answers : AnswersCall T) (s : State T) → StateInvariant m s → (run : List Step)
     → RunCounts m answers s run → (t r : ℕ) → is_own (asked m s t) ≡ true → Takes m answers s (t, r) → Brought m answers s ((t, r) ∷ []) run
 own_step_may_come_first m law answers s good [] ok t r own takes = record {
   left = (t, r) ∷ [];
@@ -115,8 +110,8 @@ own_step_may_come_first m law answers s good [] ok t r own takes = record {
   same_length = omega arith;
 }
 own_step_may_come_first m law answers s good (e ∷ run) ok t r own takes = elim (cases_eq t e.0) [
-  | inl same ↦ subst (λ z. Brought m answers s ((z, r) ∷ []) (e ∷ run)) (sym same) (own_step_may_come_first_if_run_begins_with_its_thread m answers s run e.0 r e.1 ok.0 ok.1
+  | inl same ↦ subst (λ z. Brought m answers s ((z, r) ∷ []) (e ∷ run)) (sym same) (own_step_first_begun m answers s run e.0 r e.1 ok.0 ok.1
       (subst (λ z. is_own (asked m s z) ≡ true) same own) (subst (λ z. Takes m answers s (z, r)) same takes))
-  | inr other ↦ own_step_may_come_first_if_run_begins_with_other_thread m law answers s good e run ok.0 t r other own takes
-      (λ o c. own_step_may_come_first m law answers (after m s e) (state_invariant_after_step m law s good e ok.0.0) run ok.1 t r o c)
+  | inr other ↦ own_step_first_other m law answers s good e run ok.0 t r other own takes
+      (λ o c. own_step_may_come_first m law answers (after m s e) (state_invariant_step m law s good e ok.0.0) run ok.1 t r o c)
 ]

@@ -4,7 +4,7 @@ use Rattle.ir_runs.specs.Machine.{Ask, Done, Act, act_of, Silent, Replied, Enter
 use Rattle.ir_runs.specs.declared.access.Access.TheVariants.{Reading, Writing}
 use Rattle.ir_runs.specs.Run.{State, Step, asked, act, Can, after, after_act}
 use Rattle.ir_runs.proofs.CallerLemmas.{StateInvariant}
-use Rattle.ir_search_laws.specs.Counting.{Answers}
+use Rattle.ir_search_laws.specs.Counting.{AnswersCall}
 use Rattle.ir_search_laws.specs.Looks.{LookSame, Looks}
 use Rattle.ir_search_laws.specs.Nodes.{TellsNothing}
 
@@ -19,52 +19,52 @@ admits_if_inside_equal m (Got o i) b c same h = tt
 admits_if_inside_equal m (Stored o i w) b c same h = tt
 admits_if_inside_equal m Never b c same h = h
 
-reply_equal_if_words_equal : (q : Act) (b c : Object) → b.words ≡ c.words → reply q b ≡ reply q c
-reply_equal_if_words_equal Silent b c same = refl
-reply_equal_if_words_equal (Replied k v) b c same = refl
-reply_equal_if_words_equal (Entered o a v) b c same = refl
-reply_equal_if_words_equal (TryFailed o) b c same = refl
-reply_equal_if_words_equal (Left o a) b c same = refl
-reply_equal_if_words_equal (Got o i) b c same = ap (λ w. w i) same
-reply_equal_if_words_equal (Stored o i w) b c same = refl
-reply_equal_if_words_equal Never b c same = refl
+reply_by_equal_words : (q : Act) (b c : Object) → b.words ≡ c.words → reply q b ≡ reply q c
+reply_by_equal_words Silent b c same = refl
+reply_by_equal_words (Replied k v) b c same = refl
+reply_by_equal_words (Entered o a v) b c same = refl
+reply_by_equal_words (TryFailed o) b c same = refl
+reply_by_equal_words (Left o a) b c same = refl
+reply_by_equal_words (Got o i) b c same = ap (λ w. w i) same
+reply_by_equal_words (Stored o i w) b c same = refl
+reply_by_equal_words Never b c same = refl
 
-acted_words_equal_if_words_equal : (q : Act) (t : ℕ) (b c : Object) → b.words ≡ c.words → (acted q t b).words ≡ (acted q t c).words
-acted_words_equal_if_words_equal Silent t b c same = same
-acted_words_equal_if_words_equal (Replied k v) t b c same = same
-acted_words_equal_if_words_equal (Entered o a v) t b c same = same
-acted_words_equal_if_words_equal (TryFailed o) t b c same = same
-acted_words_equal_if_words_equal (Left o Reading) t b c same = same
-acted_words_equal_if_words_equal (Left o Writing) t b c same = same
-acted_words_equal_if_words_equal (Got o i) t b c same = same
-acted_words_equal_if_words_equal (Stored o i w) t b c same = ap (λ z. upd z i w) same
-acted_words_equal_if_words_equal Never t b c same = same
+acted_words_equal : (q : Act) (t : ℕ) (b c : Object) → b.words ≡ c.words → (acted q t b).words ≡ (acted q t c).words
+acted_words_equal Silent t b c same = same
+acted_words_equal (Replied k v) t b c same = same
+acted_words_equal (Entered o a v) t b c same = same
+acted_words_equal (TryFailed o) t b c same = same
+acted_words_equal (Left o Reading) t b c same = same
+acted_words_equal (Left o Writing) t b c same = same
+acted_words_equal (Got o i) t b c same = same
+acted_words_equal (Stored o i w) t b c same = ap (λ z. upd z i w) same
+acted_words_equal Never t b c same = same
 
 -- tables that are changed at one place
-updates_are_related_if_tables_and_values_are : {A : Type 0} (R : A → A → Type 0) (f g : ℕ → A) (i : ℕ) (x y : A) (j : ℕ) → R x y → R (f j) (g j) → R (upd f i x j) (upd g i y j)
+updates_related : {A : Type 0} (R : A → A → Type 0) (f g : ℕ → A) (i : ℕ) (x y : A) (j : ℕ) → R x y → R (f j) (g j) → R (upd f i x j) (upd g i y j)
 unfolding upd
-updates_are_related_if_tables_and_values_are {A} R f g i x y j h k = by_test (eqb j i)
+updates_related {A} R f g i x y j h k = by_test (eqb j i)
   where
     by_test : (b : Bool) → R (cond b x (f j)) (cond b y (g j))
     by_test true = h
     by_test false = k
 
-acted_inside_equal_if_inside_equal : (q : Act) (t : ℕ) (b c : Object) → ((u : ℕ) → b.inside u ≡ c.inside u) → (u : ℕ)
+acted_inside_equal : (q : Act) (t : ℕ) (b c : Object) → ((u : ℕ) → b.inside u ≡ c.inside u) → (u : ℕ)
     → (acted q t b).inside u ≡ (acted q t c).inside u
-acted_inside_equal_if_inside_equal Silent t b c same u = same u
-acted_inside_equal_if_inside_equal (Replied k v) t b c same u = same u
-acted_inside_equal_if_inside_equal (Entered o a v) t b c same u = updates_are_related_if_tables_and_values_are (λ x y. x ≡ y) b.inside c.inside t (Some a) (Some a) u refl (same u)
-acted_inside_equal_if_inside_equal (TryFailed o) t b c same u = same u
-acted_inside_equal_if_inside_equal (Left o Reading) t b c same u = updates_are_related_if_tables_and_values_are (λ x y. x ≡ y) b.inside c.inside t None None u refl (same u)
-acted_inside_equal_if_inside_equal (Left o Writing) t b c same u = updates_are_related_if_tables_and_values_are (λ x y. x ≡ y) b.inside c.inside t None None u refl (same u)
-acted_inside_equal_if_inside_equal (Got o i) t b c same u = same u
-acted_inside_equal_if_inside_equal (Stored o i w) t b c same u = same u
-acted_inside_equal_if_inside_equal Never t b c same u = same u
+acted_inside_equal Silent t b c same u = same u
+acted_inside_equal (Replied k v) t b c same u = same u
+acted_inside_equal (Entered o a v) t b c same u = updates_related (λ x y. x ≡ y) b.inside c.inside t (Some a) (Some a) u refl (same u)
+acted_inside_equal (TryFailed o) t b c same u = same u
+acted_inside_equal (Left o Reading) t b c same u = updates_related (λ x y. x ≡ y) b.inside c.inside t None None u refl (same u)
+acted_inside_equal (Left o Writing) t b c same u = updates_related (λ x y. x ≡ y) b.inside c.inside t None None u refl (same u)
+acted_inside_equal (Got o i) t b c same u = same u
+acted_inside_equal (Stored o i w) t b c same u = same u
+acted_inside_equal Never t b c same u = same u
 
-admitted_ask_is_not_done : {T : Type 0} (m : Machine T) (q : Ask) (r : ℕ) (b : Object) → Admits m (act_of q r) b → q ≢ Done
-admitted_ask_is_not_done m q r b h e = subst (λ z. Admits m (act_of z r) b) e h
+admitted_is_not_done : {T : Type 0} (m : Machine T) (q : Ask) (r : ℕ) (b : Object) → Admits m (act_of q r) b → q ≢ Done
+admitted_is_not_done m q r b h e = subst (λ z. Admits m (act_of z r) b) e h
 
-module _ {T : Type 0} (m : Machine T) (answers : Answers T) (Same : T → T → Type 0) (same : LookSame m answers Same) where
+module _ {T : Type 0} (m : Machine T) (answers : AnswersCall T) (Same : T → T → Type 0) (same : LookSame m answers Same) where
   act_same : (s v : State T) → Looks Same s v → (e : Step) → act m s e ≡ act m v e
   act_same s v h e = ap (λ q. act_of q e.1) (same.asks (s.now e.0) (v.now e.0) (h.threads e.0))
 
@@ -78,11 +78,11 @@ module _ {T : Type 0} (m : Machine T) (answers : Answers T) (Same : T → T → 
   threads_same s v h e can u =
       let q : Act = act m s e in
       let one : reply q (s.objects (target q)) ≡ reply q (v.objects (target q)) =
-      reply_equal_if_words_equal q (s.objects (target q)) (v.objects (target q)) (h.words (target q)) in
+      reply_by_equal_words q (s.objects (target q)) (v.objects (target q)) (h.words (target q)) in
       subst (λ z. Same ((after_act m s e.0 (s.now e.0) q).now u) ((after_act m v e.0 (v.now e.0) z).now u)) (act_same s v h e)
-      (updates_are_related_if_tables_and_values_are Same s.now v.now e.0 (m.take (s.now e.0) (reply q (s.objects (target q)))) (m.take (v.now e.0) (reply q (v.objects (target q)))) u
+      (updates_related Same s.now v.now e.0 (m.take (s.now e.0) (reply q (s.objects (target q)))) (m.take (v.now e.0) (reply q (v.objects (target q)))) u
       (subst (λ z. Same (m.take (s.now e.0) (reply q (s.objects (target q)))) (m.take (v.now e.0) z)) one
-      (same.takes (s.now e.0) (v.now e.0) (h.threads e.0) (admitted_ask_is_not_done m (asked m s e.0) e.1 (s.objects (target q)) can)
+      (same.takes (s.now e.0) (v.now e.0) (h.threads e.0) (admitted_is_not_done m (asked m s e.0) e.1 (s.objects (target q)) can)
       (reply q (s.objects (target q)))))
       (h.threads u))
 
@@ -94,7 +94,7 @@ module _ {T : Type 0} (m : Machine T) (answers : Answers T) (Same : T → T → 
   objects_same R keeps s v h all e o =
       let q : Act = act m s e in
       subst (λ z. R ((after_act m s e.0 (s.now e.0) q).objects o) ((after_act m v e.0 (v.now e.0) z).objects o)) (act_same s v h e)
-      (updates_are_related_if_tables_and_values_are R s.objects v.objects (target q) (acted q e.0 (s.objects (target q))) (acted q e.0 (v.objects (target q)))
+      (updates_related R s.objects v.objects (target q) (acted q e.0 (s.objects (target q))) (acted q e.0 (v.objects (target q)))
       o (keeps q e.0 (s.objects (target q)) (v.objects (target q)) (all (target q))) (all o))
 
   -- states that look the same are alike
@@ -105,8 +105,8 @@ module _ {T : Type 0} (m : Machine T) (answers : Answers T) (Same : T → T → 
     can = can_same;
     steps = λ s v h e can. record {
       threads = threads_same s v h e can;
-      inside = objects_same (λ b c. (u : ℕ) → b.inside u ≡ c.inside u) acted_inside_equal_if_inside_equal s v h h.inside e;
-      words = objects_same (λ b c. b.words ≡ c.words) acted_words_equal_if_words_equal s v h h.words e;
+      inside = objects_same (λ b c. (u : ℕ) → b.inside u ≡ c.inside u) acted_inside_equal s v h h.inside e;
+      words = objects_same (λ b c. b.words ≡ c.words) acted_words_equal s v h h.words e;
     };
     backwards = λ s v h. record {
       threads = λ t. same.backwards (s.now t) (v.now t) (h.threads t);

@@ -4,9 +4,9 @@ use Rattle.std.proofs.lemmas.Bool.{cases_eq}
 use Rattle.ir_runs.specs.Machine.{Act, Silent, Replied, Entered, TryFailed, Left, Got, Stored, Never, act_of, Machine, upd, Object, target, Admits, acted, reply}
 use Rattle.ir_runs.specs.declared.access.Access.TheVariants.{Reading, Writing}
 use Rattle.ir_runs.specs.Run.{State, Step, asked, act, Can, after_act, after, end}
-use Rattle.ir_runs.proofs.CallerLemmas.{upd_at_own_place, thread_after_step_of_other}
-use Rattle.ir_search_laws.specs.Counting.{Answers, IsAnswered, Takes, RunCounts, is_own, entering}
-use Rattle.ir_search_laws.specs.Sources.{Giving, left_of, sourced}
+use Rattle.ir_runs.proofs.CallerLemmas.{upd_at_own_place, thread_after_other}
+use Rattle.ir_search_laws.specs.Counting.{AnswersCall, IsAnswered, Takes, RunCounts, is_own, entering}
+use Rattle.ir_search_laws.specs.Sources.{Giving, left_of_source, sourced}
 use Rattle.ir_search_laws.specs.Views.{IsView, Spoils, viewed, IsLiveRun, IsUnspoilt}
 use Rattle.ir_search_laws.proofs.Maps.{map_of_upd}
 
@@ -15,30 +15,30 @@ pub sourced_view_is_view : {T V S : Type 0} (m : Machine T) (w : Machine V) (vie
     → IsView m w view Live → IsView (sourced m given) (sourced w given) (λ x. (view x.0, x.1)) (λ x. Live x.0)
 sourced_view_is_view m w view Live given is = record {
   asks = λ x live. is.asks x.0 live;
-  takes = λ x live r. λ i. (is.takes x.0 live r i, left_of given (is.asks x.0 live i) x.1);
+  takes = λ x live r. λ i. (is.takes x.0 live r i, left_of_source given (is.asks x.0 live i) x.1);
   fits = is.fits;
   done = λ x. is.done x.0;
 }
 
-pub sourced_machine_spoils_as_machine_does : {T S : Type 0} (m : Machine T) (Live Spoilt : T → Type 0) (given : Giving S) → Spoils m Live Spoilt
+pub sourced_spoils : {T S : Type 0} (m : Machine T) (Live Spoilt : T → Type 0) (given : Giving S) → Spoils m Live Spoilt
     → Spoils (sourced m given) (λ x. Live x.0) (λ x. Spoilt x.0)
-sourced_machine_spoils_as_machine_does m Live Spoilt given spoils = record {
+sourced_spoils m Live Spoilt given spoils = record {
   decides = λ x. spoils.decides x.0;
   stays = λ x. spoils.stays x.0;
   spares = λ x. spoils.spares x.0;
 }
 
 -- which acts can be taken goes by which results suit a call alone
-admits_if_fits_functions_equal : {T V : Type 0} (m : Machine T) (w : Machine V) → m.fits ≡ w.fits → (q : Act) (b : Object) → Admits m q b → Admits w q b
-admits_if_fits_functions_equal m w same Silent b h = tt
-admits_if_fits_functions_equal m w same (Replied k v) b h = subst (λ f. f k v ≡ true) same h
-admits_if_fits_functions_equal m w same (Entered o Reading v) b h = h
-admits_if_fits_functions_equal m w same (Entered o Writing v) b h = h
-admits_if_fits_functions_equal m w same (TryFailed o) b h = tt
-admits_if_fits_functions_equal m w same (Left o a) b h = tt
-admits_if_fits_functions_equal m w same (Got o i) b h = tt
-admits_if_fits_functions_equal m w same (Stored o i x) b h = tt
-admits_if_fits_functions_equal m w same Never b h = h
+admits_by_equal_fits : {T V : Type 0} (m : Machine T) (w : Machine V) → m.fits ≡ w.fits → (q : Act) (b : Object) → Admits m q b → Admits w q b
+admits_by_equal_fits m w same Silent b h = tt
+admits_by_equal_fits m w same (Replied k v) b h = subst (λ f. f k v ≡ true) same h
+admits_by_equal_fits m w same (Entered o Reading v) b h = h
+admits_by_equal_fits m w same (Entered o Writing v) b h = h
+admits_by_equal_fits m w same (TryFailed o) b h = tt
+admits_by_equal_fits m w same (Left o a) b h = tt
+admits_by_equal_fits m w same (Got o i) b h = tt
+admits_by_equal_fits m w same (Stored o i x) b h = tt
+admits_by_equal_fits m w same Never b h = h
 
 module _ {T V : Type 0} (m : Machine T) (w : Machine V) (view : T → V) (Live : T → Type 0) (is : IsView m w view Live) where
   viewed_act : (s : State T) (e : Step) → Live (s.now e.0) → act w (viewed view s) e ≡ act m s e
@@ -57,8 +57,8 @@ module _ {T V : Type 0} (m : Machine T) (w : Machine V) (view : T → V) (Live :
   viewed_can : (s : State T) (e : Step) → Live (s.now e.0) → Can m s e ↔ Can w (viewed view s) e
   viewed_can s e live = (
     λ h. subst (λ q. Admits w q (s.objects (target q))) (sym (viewed_act s e live))
-        (admits_if_fits_functions_equal m w (sym is.fits) (act m s e) (s.objects (target (act m s e))) h),
-    λ h. admits_if_fits_functions_equal w m is.fits (act m s e) (s.objects (target (act m s e)))
+        (admits_by_equal_fits m w (sym is.fits) (act m s e) (s.objects (target (act m s e))) h),
+    λ h. admits_by_equal_fits w m is.fits (act m s e) (s.objects (target (act m s e)))
         (subst (λ q. Admits w q (s.objects (target q))) (viewed_act s e live) h),
   )
 
@@ -76,7 +76,7 @@ module _ {T V : Type 0} (m : Machine T) (w : Machine V) (view : T → V) (Live :
       ∙ ap (λ z. cond (is_own (asked w (viewed view s) e.0)) z (e.0 ∷ z)) (viewed_entering (after m s e) run live.1)
       ∙ ap (λ q. cond (is_own q) (entering m (after m s e) run) (e.0 ∷ entering m (after m s e) run)) (is.asks (s.now e.0) live.0)
 
-  module _ (real : Answers T) (seen : Answers V) (agree : (t : ℕ) (x : T) → Live x → seen t (view x) ≡ real t x) where
+  module _ (real : AnswersCall T) (seen : AnswersCall V) (agree : (t : ℕ) (x : T) → Live x → seen t (view x) ≡ real t x) where
     viewed_takes : (s : State T) (e : Step) → Live (s.now e.0) → Takes m real s e ↔ Takes w seen (viewed view s) e
     viewed_takes s e live =
         let can = viewed_can s e live in
@@ -99,47 +99,47 @@ module _ {T V : Type 0} (m : Machine T) (w : Machine V) (view : T → V) (Live :
         )
 
 -- what is spoilt stays so
-thread_stays_spoilt_after_step : {T : Type 0} (m : Machine T) (Live Spoilt : T → Type 0) → Spoils m Live Spoilt → (s : State T) (e : Step) (t : ℕ)
+stays_spoilt_step : {T : Type 0} (m : Machine T) (Live Spoilt : T → Type 0) → Spoils m Live Spoilt → (s : State T) (e : Step) (t : ℕ)
     → Spoilt (s.now t) → Spoilt ((after m s e).now t)
 unfolding after
-thread_stays_spoilt_after_step m Live Spoilt spoils s e t h = elim (cases_eq t e.0) [
+stays_spoilt_step m Live Spoilt spoils s e t h = elim (cases_eq t e.0) [
   | inl same ↦ subst (λ z. Spoilt ((after m s e).now z)) (sym same) (subst Spoilt (sym (upd_at_own_place s.now e.0 _))
       (spoils.stays (s.now e.0) (subst (λ z. Spoilt (s.now z)) same h) (reply (act m s e) (s.objects (target (act m s e))))))
-  | inr other ↦ subst Spoilt (sym (thread_after_step_of_other m s e t other)) h
+  | inr other ↦ subst Spoilt (sym (thread_after_other m s e t other)) h
 ]
 
-thread_stays_spoilt_after_run : {T : Type 0} (m : Machine T) (Live Spoilt : T → Type 0) → Spoils m Live Spoilt → (s : State T) (run : List Step) (t : ℕ)
+stays_spoilt_run : {T : Type 0} (m : Machine T) (Live Spoilt : T → Type 0) → Spoils m Live Spoilt → (s : State T) (run : List Step) (t : ℕ)
     → Spoilt (s.now t) → Spoilt ((end m s run).now t)
-thread_stays_spoilt_after_run m Live Spoilt spoils s [] t h = h
-thread_stays_spoilt_after_run m Live Spoilt spoils s (e ∷ run) t h =
-    thread_stays_spoilt_after_run m Live Spoilt spoils (after m s e) run t (thread_stays_spoilt_after_step m Live Spoilt spoils s e t h)
+stays_spoilt_run m Live Spoilt spoils s [] t h = h
+stays_spoilt_run m Live Spoilt spoils s (e ∷ run) t h =
+    stays_spoilt_run m Live Spoilt spoils (after m s e) run t (stays_spoilt_step m Live Spoilt spoils s e t h)
 
-spoilt_if_each_result_spoils : {T : Type 0} (m : Machine T) (Spoilt : T → Type 0) (s : State T) (e : Step) → ((r : ℕ) → Spoilt (m.take (s.now e.0) r))
+each_result_spoils : {T : Type 0} (m : Machine T) (Spoilt : T → Type 0) (s : State T) (e : Step) → ((r : ℕ) → Spoilt (m.take (s.now e.0) r))
     → Spoilt ((after m s e).now e.0)
 unfolding after
-spoilt_if_each_result_spoils m Spoilt s e dead = subst Spoilt (sym (upd_at_own_place s.now e.0 _)) (dead (reply (act m s e) (s.objects (target (act m s e)))))
+each_result_spoils m Spoilt s e dead = subst Spoilt (sym (upd_at_own_place s.now e.0 _)) (dead (reply (act m s e) (s.objects (target (act m s e)))))
 
 -- a run at whose end no thread is spoilt is one of live threads
-pub run_is_live_if_its_end_is_unspoilt : {T : Type 0} (m : Machine T) (Live Spoilt : T → Type 0) → Spoils m Live Spoilt → (s : State T) (run : List Step)
+pub unspoilt_run_is_live : {T : Type 0} (m : Machine T) (Live Spoilt : T → Type 0) → Spoils m Live Spoilt → (s : State T) (run : List Step)
     → ((t : ℕ) → Spoilt ((end m s run).now t) → ⊥) → IsLiveRun m Live s run
-run_is_live_if_its_end_is_unspoilt m Live Spoilt spoils s [] none = tt
-run_is_live_if_its_end_is_unspoilt m Live Spoilt spoils s (e ∷ run) none = elim (spoils.decides (s.now e.0)) [
-  | inl live ↦ (live, run_is_live_if_its_end_is_unspoilt m Live Spoilt spoils (after m s e) run none)
-  | inr dead ↦ absurd (none e.0 (thread_stays_spoilt_after_run m Live Spoilt spoils (after m s e) run e.0 (spoilt_if_each_result_spoils m Spoilt s e dead)))
+unspoilt_run_is_live m Live Spoilt spoils s [] none = tt
+unspoilt_run_is_live m Live Spoilt spoils s (e ∷ run) none = elim (spoils.decides (s.now e.0)) [
+  | inl live ↦ (live, unspoilt_run_is_live m Live Spoilt spoils (after m s e) run none)
+  | inr dead ↦ absurd (none e.0 (stays_spoilt_run m Live Spoilt spoils (after m s e) run e.0 (each_result_spoils m Spoilt s e dead)))
 ]
 
-take_spoils_if_spoilt_after_step : {T : Type 0} (m : Machine T) (Spoilt : T → Type 0) (s : State T) (e : Step) → Spoilt ((after m s e).now e.0)
+take_spoils : {T : Type 0} (m : Machine T) (Spoilt : T → Type 0) (s : State T) (e : Step) → Spoilt ((after m s e).now e.0)
     → Spoilt (m.take (s.now e.0) (reply (act m s e) (s.objects (target (act m s e)))))
 unfolding after
-take_spoils_if_spoilt_after_step m Spoilt s e h = subst Spoilt (upd_at_own_place s.now e.0 _) h
+take_spoils m Spoilt s e h = subst Spoilt (upd_at_own_place s.now e.0 _) h
 
 -- a run of live threads spoils none
-pub state_stays_unspoilt_after_live_run : {T : Type 0} (m : Machine T) (Live Spoilt : T → Type 0) → Spoils m Live Spoilt → (s : State T) (run : List Step)
+pub stays_unspoilt_live : {T : Type 0} (m : Machine T) (Live Spoilt : T → Type 0) → Spoils m Live Spoilt → (s : State T) (run : List Step)
     → IsLiveRun m Live s run → IsUnspoilt Spoilt s → IsUnspoilt Spoilt (end m s run)
-state_stays_unspoilt_after_live_run m Live Spoilt spoils s [] live none = none
-state_stays_unspoilt_after_live_run m Live Spoilt spoils s (e ∷ run) live none =
-    state_stays_unspoilt_after_live_run m Live Spoilt spoils (after m s e) run live.1 (λ t h. elim (cases_eq t e.0) [
+stays_unspoilt_live m Live Spoilt spoils s [] live none = none
+stays_unspoilt_live m Live Spoilt spoils s (e ∷ run) live none =
+    stays_unspoilt_live m Live Spoilt spoils (after m s e) run live.1 (λ t h. elim (cases_eq t e.0) [
       | inl same ↦ none e.0 (spoils.spares (s.now e.0) live.0 (reply (act m s e) (s.objects (target (act m s e))))
-          (take_spoils_if_spoilt_after_step m Spoilt s e (subst (λ z. Spoilt ((after m s e).now z)) same h)))
-      | inr other ↦ none t (subst Spoilt (thread_after_step_of_other m s e t other) h)
+          (take_spoils m Spoilt s e (subst (λ z. Spoilt ((after m s e).now z)) same h)))
+      | inr other ↦ none t (subst Spoilt (thread_after_other m s e t other) h)
     ])

@@ -4,8 +4,8 @@ use Rattle.ir_runs.specs.Machine.{Ask, Private, Env, Enter, Try, Leave, Get, Put
 use Rattle.ir_runs.specs.Run.{State, Step, asked, Can, after, end, trail}
 
 -- what each thread is answered where it stands at a call of the environment
-abbrev pub Answers : Type 0 → Type 0
-Answers T = ℕ → T → ℕ
+abbrev pub AnswersCall : Type 0 → Type 0
+AnswersCall T = ℕ → T → ℕ
 
 -- a step that asks so has this result, if it calls the environment
 abbrev pub IsAnswered : Ask → ℕ → ℕ → Type 0
@@ -13,11 +13,11 @@ IsAnswered (Env k) answer r = r ≡ answer
 IsAnswered _ answer r = Unit {0}
 
 -- there is such a step, and it counts
-abbrev pub Takes : {T : Type 0} → Machine T → Answers T → State T → Step → Type 0
+abbrev pub Takes : {T : Type 0} → Machine T → AnswersCall T → State T → Step → Type 0
 Takes m answers s e = Can m s e × IsAnswered (asked m s e.0) (answers e.0 (s.now e.0)) e.1
 
 -- a run that counts
-abbrev pub RunCounts : {T : Type 0} → Machine T → Answers T → State T → List Step → Type 0
+abbrev pub RunCounts : {T : Type 0} → Machine T → AnswersCall T → State T → List Step → Type 0
 RunCounts m answers s [] = Unit {0}
 RunCounts m answers s (e ∷ run) = Takes m answers s e × RunCounts m answers (after m s e) run
 
@@ -37,7 +37,7 @@ abbrev pub IsAtRest : {T : Type 0} → Machine T → State T → Type 0
 IsAtRest m s = (t : ℕ) → is_own (asked m s t) ≡ false
 
 -- a run that counts, of such steps alone
-abbrev pub GoesAhead : {T : Type 0} → Machine T → Answers T → State T → List Step → Type 0
+abbrev pub GoesAhead : {T : Type 0} → Machine T → AnswersCall T → State T → List Step → Type 0
 GoesAhead m answers s [] = Unit {0}
 GoesAhead m answers s (e ∷ run) = (is_own (asked m s e.0) ≡ true) × Takes m answers s e × GoesAhead m answers (after m s e) run
 
@@ -47,7 +47,7 @@ entering m s [] = []
 entering m s (e ∷ run) = cond (is_own (asked m s e.0)) (entering m (after m s e) run) (e.0 ∷ entering m (after m s e) run)
 
 -- The run with the steps `ahead` first. What it hasn't of them comes after its end, so of a complete run nothing does.
-pub record Brought {T : Type 0} (m : Machine T) (answers : Answers T) (s : State T) (ahead run : List Step) : Type 0 where
+pub record Brought {T : Type 0} (m : Machine T) (answers : AnswersCall T) (s : State T) (ahead run : List Step) : Type 0 where
   -- what is left of `ahead` at the run's end
   pub left : List Step
   pub goes : GoesAhead m answers (end m s run) left

@@ -2,10 +2,10 @@
 use Rattle.std.specs.Prelude.{◌≡◌, ◌≢◌, ℕ}
 use Rattle.ir_runs.specs.Machine.{Machine, Done}
 use Rattle.ir_runs.specs.Run.{State}
-use Rattle.ir_search_laws.specs.Counting.{Answers}
+use Rattle.ir_search_laws.specs.Counting.{AnswersCall}
 
 -- that threads look the same: they ask the same, hold the same, are answered the same, and look the same after the same reply
-pub record LookSame {T : Type 0} (m : Machine T) (answers : Answers T) (Same : T → T → Type 0) : Type 0 where
+pub record LookSame {T : Type 0} (m : Machine T) (answers : AnswersCall T) (Same : T → T → Type 0) : Type 0 where
   pub asks : (x y : T) → Same x y → m.ask x ≡ m.ask y
   pub holds : (x y : T) → Same x y → (o : ℕ) → m.held x o ≡ m.held y o
   pub answered : (x y : T) → Same x y → (t : ℕ) → answers t x ≡ answers t y

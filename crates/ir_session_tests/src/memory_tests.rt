@@ -2,7 +2,7 @@
 
 ghost use Rattle.std.specs.Prelude.{◌≡◌, ◌≤◌, ℕ, length, map, IfOk};
 ghost use Rattle.ir_cut.specs.Positions.{IsConsistentCut, cut_of};
-ghost use Rattle.ir_weave.specs.Standing.{StandsAt, flat_in, positions};
+ghost use Rattle.ir_weave.specs.Standing.{StandsAtCut, flat_in, positions};
 ghost use Rattle.ir_record.specs.Worlds.{NoneFailed};
 ghost use Rattle.ir_thread.specs.State.{IsAllowed};
 ghost use Rattle.ir_thread.specs.declared.profile.Profile.TheVariants.{One};
@@ -221,7 +221,7 @@ fn is_reached<R: Threads + Clock + Sync>(
     state: State,
     target: &Cut,
 ) -> bool
-    requires state { StandsAt fitted.now (positions (flat_in fitted.now state)) state }
+    requires state { StandsAtCut fitted.now (positions (flat_in fitted.now state)) state }
     requires target { (length target.now ≡ length fitted.now.guest.entries) × IsConsistentCut fitted.now target.now }
     requires below { (t : ℕ) → positions (flat_in fitted.now state) t ≤ cut_of target.now t }
 {

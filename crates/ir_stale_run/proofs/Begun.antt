@@ -10,37 +10,37 @@ use Rattle.ir_past.specs.declared.stale_write.StaleWrite.{StaleWrite}
 use Rattle.ir_opened.specs.Positions.{LeavesAfter}
 use Rattle.ir_stale_run.specs.Rests.{IsRestOf, AreRests}
 use Rattle.ir_stale_run.specs.WhatIf.{known}
-use Rattle.ir_stale_run.specs.Watch.{IsFoundAs, AreFound, is_looked_at, IsBegun, AreBegun}
+use Rattle.ir_stale_run.specs.Watch.{IsFoundAs, AreFound, is_looked_at, IsWatchBegun, AreBegun}
 use Rattle.ir_stale_run.specs.declared.rest.Rest.{Rest}
 use Rattle.ir_stale_run.specs.declared.found.Found.{Found}
 use Rattle.ir_stale_run.specs.declared.found.Found.TheVariants.{Unknown, Known}
 
 -- ---- before a walk
 
-pub rows_are_begun_with_no_rest_known : (f : FittedTrace) (rows : List StaleWrite) (found : List Found) → found ≡ replicate (length rows) (Known None) → AreBegun false f rows found
-rows_are_begun_with_no_rest_known f rows found e r x there = ap (λ (xs : List Found). slice_index_or xs r Unknown) e
+pub begun_without_rests : (f : FittedTrace) (rows : List StaleWrite) (found : List Found) → found ≡ replicate (length rows) (Known None) → AreBegun false f rows found
+begun_without_rests f rows found e r x there = ap (λ (xs : List Found). slice_index_or xs r Unknown) e
     ∙ get_or-replicate (length rows) r (Known None) Unknown (slice_get_within rows r x there)
 
 -- a row that is never left
-pub row_is_found_if_never_left : (copies : Bool) (f : FittedTrace) (x : StaleWrite) (z : Found) → IsBegun copies f x z
+pub never_left_is_found : (copies : Bool) (f : FittedTrace) (x : StaleWrite) (z : Found) → IsWatchBegun copies f x z
     → ((k : ℕ) → LeavesAfter f x.thread x.event k → ⊥) → IsFoundAs copies f x z
-row_is_found_if_never_left false f x z begun never = subst (IsFoundAs false f x) (sym begun) (inr (never, refl))
-row_is_found_if_never_left true f x Unknown begun never = absurd (never begun.1.0 begun.1.1)
-row_is_found_if_never_left true f x (Known r) begun never = begun
+never_left_is_found false f x z begun never = subst (IsFoundAs false f x) (sym begun) (inr (never, refl))
+never_left_is_found true f x Unknown begun never = absurd (never begun.1.0 begun.1.1)
+never_left_is_found true f x (Known r) begun never = begun
 
 -- a row that isn't looked at
-pub row_is_found_unless_looked_at : (copies : Bool) (f : FittedTrace) (x : StaleWrite) (z : Found) → IsBegun copies f x z → is_looked_at copies z ≡ false
+pub unlooked_is_found : (copies : Bool) (f : FittedTrace) (x : StaleWrite) (z : Found) → IsWatchBegun copies f x z → is_looked_at copies z ≡ false
     → IsFoundAs copies f x z
-row_is_found_unless_looked_at copies f x Unknown begun out = absurd (true≢false out)
-row_is_found_unless_looked_at false f x (Known r) begun out = absurd (true≢false out)
-row_is_found_unless_looked_at true f x (Known r) begun out = begun
+unlooked_is_found copies f x Unknown begun out = absurd (true≢false out)
+unlooked_is_found false f x (Known r) begun out = absurd (true≢false out)
+unlooked_is_found true f x (Known r) begun out = begun
 
 -- ---- after the walks
 
 -- no row is unknown
-pub rows_are_found_with_copies_if_none_unknown : (f : FittedTrace) (rows : List StaleWrite) (found : List Found) → length found ≡ length rows → AreFound false f rows found
+pub none_unknown_is_found : (f : FittedTrace) (rows : List StaleWrite) (found : List Found) → length found ≡ length rows → AreFound false f rows found
     → (Contains found Unknown → ⊥) → AreFound true f rows found
-rows_are_found_with_copies_if_none_unknown f rows found size are none r x there = found_known (slice_index_or found r Unknown) (are r x there)
+none_unknown_is_found f rows found size are none r x there = found_known (slice_index_or found r Unknown) (are r x there)
     (λ e. none (r, (let a = slice_get_within rows r x there in omega (arith, a, size)), e))
   where
     found_known : (z : Found) → IsFoundAs false f x z → (z ≡ Unknown → ⊥) → IsFoundAs true f x z

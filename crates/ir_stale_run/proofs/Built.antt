@@ -10,13 +10,13 @@ use Rattle.std.proofs.Math.Seq.{get_or-append_seam}
 use Rattle.ir_fit.specs.Fit.{FittedTrace}
 use Rattle.ir_past.specs.Past.{IsRow}
 use Rattle.ir_past.specs.declared.stale_write.StaleWrite.{StaleWrite}
-use Rattle.ir_stale_run.specs.Watch.{IsFoundAs, IsSpan, IsSpanOf, IsWatch, IsFound, IsBuilt, AreBuilt, IsSorted, AreSorted}
+use Rattle.ir_stale_run.specs.Watch.{IsFoundAs, IsSpan, IsSpanOf, IsWatch, IsWatchFound, IsBuilt, AreBuilt, IsSorted, AreWatchesSorted}
 use Rattle.ir_stale_run.specs.declared.found.Found.{Found}
 use Rattle.ir_stale_run.specs.declared.found.Found.TheVariants.{Unknown}
 use Rattle.ir_stale_run.specs.declared.span.Span.{Span}
 use Rattle.ir_stale_run.specs.declared.kept.Open.{Open}
 use Rattle.ir_stale_run.specs.declared.watch.Watch.{Watch}
-use Rattle.ir_walk.proofs.CallerLemmas.{each_element_after_push, each_element_of_permutation, some_element_of_permutation}
+use Rattle.ir_event_walk.proofs.CallerLemmas.{each_element_after_push, permuted_all_satisfy, permuted_element_exists}
 
 some_row_injective : (x y : StaleWrite) → Some x ≡ Some y → x ≡ y
 some_row_injective x y e = cc e
@@ -32,9 +32,11 @@ built_of_no_row copies f rows found t w next spans opened = record {
 }
 
 -- one row more, which is of another thread or is found
-pub built_after_row_of_other : (copies : Bool) (f : FittedTrace) (rows : List StaleWrite) (found : List Found) (n t : ℕ) (w : Watch) (x : StaleWrite) → IsBuilt copies f rows found n t w → slice_get rows n ≡ Some x
+pub row_of_other_is_built : (copies : Bool) (f : FittedTrace) (rows : List StaleWrite) (found : List Found) (n t : ℕ) (w : Watch)
+    (x : StaleWrite)
+    → IsBuilt copies f rows found n t w → slice_get rows n ≡ Some x
     → (x.thread ≡ t → IsFoundAs copies f x (slice_index_or found n Unknown)) → IsBuilt copies f rows found (n + 1) t w
-built_after_row_of_other copies f rows found n t w x is there none = record {
+row_of_other_is_built copies f rows found n t w x is there none = record {
   next = is.next;
   opened = is.opened;
   spans = is.spans;
@@ -48,7 +50,9 @@ built_after_row_of_other copies f rows found n t w x is there none = record {
 }
 
 -- or is one of this thread
-pub built_after_own_row : (copies : Bool) (f : FittedTrace) (rows : List StaleWrite) (found : List Found) (n t : ℕ) (w new : Watch) (x : StaleWrite) (s : Span) → IsBuilt copies f rows found n t w → slice_get rows n ≡ Some x
+pub built_after_own_row : (copies : Bool) (f : FittedTrace) (rows : List StaleWrite) (found : List Found) (n t : ℕ) (w new : Watch)
+    (x : StaleWrite) (s : Span)
+    → IsBuilt copies f rows found n t w → slice_get rows n ≡ Some x
     → x.thread ≡ t → IsRow f.recorded x → s.row ≡ n → IsSpan f x s → new.next ≡ w.next → new.opened.items ≡ w.opened.items
     → new.spans.items ≡ w.spans.items ++ s ∷ [] → IsBuilt copies f rows found (n + 1) t new
 built_after_own_row copies f rows found n t w new x s is there own stale row span next opened spans = record {
@@ -83,32 +87,35 @@ built_after_own_row copies f rows found n t w new x s is there own stale row spa
 }
 
 -- each thread, where one of them is another
-pub all_built_after_watch_set : (copies : Bool) (f : FittedTrace) (rows : List StaleWrite) (found : List Found) (n u : ℕ) (ws : List Watch) (new : Watch) (x : StaleWrite) → u < length ws
+pub all_built_watch_set : (copies : Bool) (f : FittedTrace) (rows : List StaleWrite) (found : List Found) (n u : ℕ) (ws : List Watch) (new : Watch) (x : StaleWrite) → u < length ws
     → AreBuilt copies f rows found n ws → slice_get rows n ≡ Some x → x.thread ≡ u → IsBuilt copies f rows found (n + 1) u new → AreBuilt copies f rows found (n + 1) (set ws u new)
-all_built_after_watch_set copies f rows found n u ws new x l are there own is t d lt = elim (cases_eq t u) [
+all_built_watch_set copies f rows found n u ws new x l are there own is t d lt = elim (cases_eq t u) [
   | inl same ↦ subst (λ j. IsBuilt copies f rows found (n + 1) j (slice_index_or (set ws u new) j d)) (sym same)
       (subst (IsBuilt copies f rows found (n + 1) u) (sym (get_or-set_same ws u new d l)) is)
   | inr ne ↦ subst (IsBuilt copies f rows found (n + 1) t) (sym (get_or-set_other ws u t new d ne))
-      (built_after_row_of_other copies f rows found n t (slice_index_or ws t d) x (are t d (let m = length-set ws u new in omega (arith, lt, m))) there
+      (row_of_other_is_built copies f rows found n t (slice_index_or ws t d) x (are t d (let m = length-set ws u new in omega (arith, lt, m))) there
       (λ e. absurd (ne (sym e ∙ own))))
 ]
 
-pub all_built_after_found_row : (copies : Bool) (f : FittedTrace) (rows : List StaleWrite) (found : List Found) (n : ℕ) (ws : List Watch) (x : StaleWrite) → AreBuilt copies f rows found n ws → slice_get rows n ≡ Some x
+pub all_built_found_row : (copies : Bool) (f : FittedTrace) (rows : List StaleWrite) (found : List Found) (n : ℕ) (ws : List Watch)
+    (x : StaleWrite)
+    → AreBuilt copies f rows found n ws → slice_get rows n ≡ Some x
     → IsFoundAs copies f x (slice_index_or found n Unknown) → AreBuilt copies f rows found (n + 1) ws
-all_built_after_found_row copies f rows found n ws x are there none t d l = built_after_row_of_other copies f rows found n t (slice_index_or ws t d) x (are t d l) there (λ _. none)
+all_built_found_row copies f rows found n ws x are there none t d l = row_of_other_is_built copies f rows found n t (slice_index_or ws t d) x (are t d l) there (λ _. none)
 
 -- ---- before the first step
 
 -- the rows of a thread in another order
-pub built_after_sorting : (copies : Bool) (f : FittedTrace) (rows : List StaleWrite) (found : List Found) (n t : ℕ) (old new : Watch) → IsBuilt copies f rows found n t old → IsSorted old new → IsBuilt copies f rows found n t new
+pub built_after_sorting : (copies : Bool) (f : FittedTrace) (rows : List StaleWrite) (found : List Found) (n t : ℕ) (old new : Watch)
+    → IsBuilt copies f rows found n t old → IsSorted old new → IsBuilt copies f rows found n t new
 built_after_sorting copies f rows found n t old new is sorted = let none : Span = record { row = 0; object = 0; read = 0; write = 0; end = 0 } in record {
   next = sorted.next ∙ is.next;
   opened = sorted.opened ∙ is.opened;
-  spans = each_element_of_permutation (IsSpanOf f rows t) old.spans.items new.spans.items sorted.same is.spans;
+  spans = permuted_all_satisfy (IsSpanOf f rows t) old.spans.items new.spans.items sorted.same is.spans;
   covered = λ r x l there own. elim (is.covered r x l there own) [
     | inr never ↦ inr never
     | inl p ↦
-        let q = some_element_of_permutation (λ (s : Span). s.row) none old.spans.items new.spans.items sorted.same r p.0 p.2 p.3 in
+        let q = permuted_element_exists (λ (s : Span). s.row) none old.spans.items new.spans.items sorted.same r p.0 p.2 p.3 in
         inl (q.0, (let a = sorted.next in let b = is.next in omega (arith, a, b)), q.1, q.2)
   ];
 }
@@ -123,9 +130,9 @@ watch_at_start_if_built copies f rows found t k w is sorted first = record {
   opened = λ i d l. absurd (let n = ap (λ (xs : List Open). length xs) is.opened in omega (arith, l, n));
 }
 
-pub rows_are_found_at_start_if_built : (copies : Bool) (f : FittedTrace) (rows : List StaleWrite) (found : List Found) (t : ℕ) (w : Watch) → IsBuilt copies f rows found (length rows) t w
-    → IsFound copies f rows found t w
-rows_are_found_at_start_if_built copies f rows found t w is r x there own = elim (is.covered r x (slice_get_within rows r x there) there own) [
+pub built_start_is_found : (copies : Bool) (f : FittedTrace) (rows : List StaleWrite) (found : List Found) (t : ℕ) (w : Watch) → IsBuilt copies f rows found (length rows) t w
+    → IsWatchFound copies f rows found t w
+built_start_is_found copies f rows found t w is r x there own = elim (is.covered r x (slice_get_within rows r x there) there own) [
   | inr known ↦ inr known
   | inl p ↦ inl (inl p)
 ]
@@ -135,19 +142,21 @@ rows_are_found_at_start_if_built copies f rows found t w is r x there own = elim
 pub all_built_of_no_watch : (copies : Bool) (f : FittedTrace) (rows : List StaleWrite) (found : List Found) (ws : List Watch) → ws ≡ [] → AreBuilt copies f rows found 0 ws
 all_built_of_no_watch copies f rows found ws none t d l = absurd (let n = ap (λ (xs : List Watch). length xs) none in omega (arith, l, n))
 
-pub all_built_after_watch_added : (copies : Bool) (f : FittedTrace) (rows : List StaleWrite) (found : List Found) (ws new : List Watch) (w : Watch) → AreBuilt copies f rows found 0 ws → new ≡ ws ++ w ∷ []
+pub all_built_watch_added : (copies : Bool) (f : FittedTrace) (rows : List StaleWrite) (found : List Found) (ws new : List Watch) (w : Watch) → AreBuilt copies f rows found 0 ws → new ≡ ws ++ w ∷ []
     → w.next ≡ 0 → w.spans.items ≡ [] → w.opened.items ≡ [] → AreBuilt copies f rows found 0 new
-all_built_after_watch_added copies f rows found ws new w are e next spans opened t d l = subst (λ (xs : List Watch). IsBuilt copies f rows found 0 t (slice_index_or xs t d)) (sym e) (elim (cases_lt t (length ws)) [
-  | inl before ↦ subst (IsBuilt copies f rows found 0 t) (sym (get_or-append ws (w ∷ []) d t before)) (are t d before)
-  | inr past ↦
-      let size : length new ≡ length ws + 1 = ap (λ (xs : List Watch). length xs) e ∙ length-append ws (w ∷ []) in
-      let at : t ≡ length ws = omega (arith, past, l, size) in
-      subst (λ j. IsBuilt copies f rows found 0 t (slice_index_or (ws ++ w ∷ []) j d)) (sym at)
-      (subst (IsBuilt copies f rows found 0 t) (sym (get_or-append_seam ws w [] d)) (built_of_no_row copies f rows found t w next spans opened))
-])
+all_built_watch_added copies f rows found ws new w are e next spans opened t d l =
+    subst (λ (xs : List Watch). IsBuilt copies f rows found 0 t (slice_index_or xs t d)) (sym e) (elim (cases_lt t (length ws)) [
+      | inl before ↦ subst (IsBuilt copies f rows found 0 t) (sym (get_or-append ws (w ∷ []) d t before)) (are t d before)
+      | inr past ↦
+          let size : length new ≡ length ws + 1 = ap (λ (xs : List Watch). length xs) e ∙ length-append ws (w ∷ []) in
+          let at : t ≡ length ws = omega (arith, past, l, size) in
+          subst (λ j. IsBuilt copies f rows found 0 t (slice_index_or (ws ++ w ∷ []) j d)) (sym at)
+          (subst (IsBuilt copies f rows found 0 t) (sym (get_or-append_seam ws w [] d)) (built_of_no_row copies f rows found t w next spans opened))
+    ])
 
 -- in order
-pub all_built_after_sorting : (copies : Bool) (f : FittedTrace) (rows : List StaleWrite) (found : List Found) (n : ℕ) (old new : List Watch) → AreBuilt copies f rows found n old → AreSorted old new
+pub all_built_after_sorting : (copies : Bool) (f : FittedTrace) (rows : List StaleWrite) (found : List Found) (n : ℕ) (old new : List Watch)
+    → AreBuilt copies f rows found n old → AreWatchesSorted old new
     → length new ≡ length old → AreBuilt copies f rows found n new
 all_built_after_sorting copies f rows found n old new are sorted size t d l =
     let lt : t < length old = omega (arith, l, size) in

@@ -6,9 +6,9 @@ use Rattle.ir_fit.specs.Within.{IsFitted}
 use Rattle.ir_fit.proofs.CallerLemmas.{event_positions_rise}
 use Rattle.ir_past.specs.Past.{IsRow}
 use Rattle.ir_past.specs.declared.stale_write.StaleWrite.{StaleWrite}
-use Rattle.ir_events.specs.Events.{entry_of}
+use Rattle.ir_events.specs.Events.{event_entry}
 use Rattle.ir_opened.specs.Positions.{IsInside, IsLeaveOf}
-use Rattle.ir_opened.proofs.CallerLemmas.{recorded_event_is_inside, leave_is_within_thread}
+use Rattle.ir_opened.proofs.CallerLemmas.{recorded_is_inside, leave_is_within_thread}
 use Rattle.ir_stale_run.specs.Rests.{behind_read, behind_write}
 use Rattle.ir_stale_run.specs.Watch.{IsSpan}
 
@@ -17,13 +17,13 @@ pub record IsPlaced (f : FittedTrace) (x : StaleWrite) : Type 0 where
   pub there : x.thread < length f.guest.entries
   pub read : IsInside f x.thread x.read
   pub event : IsInside f x.thread x.event
-  pub rises : entry_of f x.thread x.read < entry_of f x.thread x.event
+  pub rises : event_entry f x.thread x.read < event_entry f x.thread x.event
 
 pub row_entries_are_placed : (f : FittedTrace) → HasRun f → (x : StaleWrite) → IsRow f.recorded x → IsPlaced f x
 row_entries_are_placed f h x row =
     let stale = row.stale in
-    let read = recorded_event_is_inside f h x.thread x.read (Read x.object x.version) stale.read in
-    let event = recorded_event_is_inside f h x.thread x.event (Write x.object x.written stale.readers) stale.write in
+    let read = recorded_is_inside f h x.thread x.read (Read x.object x.version) stale.read in
+    let event = recorded_is_inside f h x.thread x.event (Write x.object x.written stale.readers) stale.write in
     record {
       there = event.thread;
       read = read;

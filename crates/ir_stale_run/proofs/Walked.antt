@@ -10,7 +10,7 @@ use Rattle.ir_weave.specs.Standing.{Standing, flat_in, positions}
 use Rattle.ir_past.specs.declared.stale_write.StaleWrite.{StaleWrite}
 use Rattle.ir_events.specs.Walk.{IsFurther}
 use Rattle.ir_opened.proofs.CallerLemmas.{leave_is_past_event}
-use Rattle.ir_stale_run.specs.Watch.{IsFoundAs, IsSpanOf, IsOpenAt, IsWatched, IsWatch, IsFound, NoneEnds, IsBeforeStops, AddsRests, AreWatched}
+use Rattle.ir_stale_run.specs.Watch.{IsFoundAs, IsSpanOf, IsOpenAt, IsWatchedWrite, IsWatch, IsWatchFound, NoneEnds, IsBeforeStops, AddsRests, AreWatched}
 use Rattle.ir_stale_run.specs.declared.found.Found.{Found}
 use Rattle.ir_stale_run.specs.declared.found.Found.TheVariants.{Unknown}
 use Rattle.ir_stale_run.specs.declared.span.Span.{Span}
@@ -20,10 +20,10 @@ use Rattle.ir_stale_run.specs.declared.watch.Watch.{Watch}
 -- ---- one thread goes on
 
 -- at most to the next stop
-pub watch_stays_watch_up_to_next_stop : (copies : Bool) (f : FittedTrace) (rows : List StaleWrite) (t from k stop : ℕ) (w new : Watch) → IsWatch copies f rows t from w → IsBeforeStops from stop w → k ≤ stop
+pub watch_stays_to_next_stop : (copies : Bool) (f : FittedTrace) (rows : List StaleWrite) (t from k stop : ℕ) (w new : Watch) → IsWatch copies f rows t from w → IsBeforeStops from stop w → k ≤ stop
     → new.spans ≡ w.spans → new.next ≡ w.next → length new.opened.items ≡ length w.opened.items
     → ((i : ℕ) (d : Open) → i < length w.opened.items → IsOpenAt copies f rows t k (slice_index_or new.opened.items i d)) → IsWatch copies f rows t k new
-watch_stays_watch_up_to_next_stop copies f rows t from k stop w new is stops within spans next size each = record {
+watch_stays_to_next_stop copies f rows t from k stop w new is stops within spans next size each = record {
   sorted = subst (λ v. IsNonDecreasingBy (λ (s : Span). s.read) v.items) (sym spans) is.sorted;
   spans = subst (λ v. (i : ℕ) (d : Span) → i < length v.items → IsSpanOf f rows t (slice_index_or v.items i d)) (sym spans) is.spans;
   next = let m = ap (λ v. length v.items) spans in let a = is.next in omega (arith, a, next, m);
@@ -34,7 +34,7 @@ watch_stays_watch_up_to_next_stop copies f rows t from k stop w new is stops wit
 
 pub watched_if_spans_kept : (w new : Watch) → new.spans ≡ w.spans → new.next ≡ w.next → length new.opened.items ≡ length w.opened.items
     → ((i : ℕ) (d : Open) → i < length w.opened.items → (slice_index_or new.opened.items i d).span ≡ (slice_index_or w.opened.items i d).span)
-    → (r : ℕ) → IsWatched w r → IsWatched new r
+    → (r : ℕ) → IsWatchedWrite w r → IsWatchedWrite new r
 watched_if_spans_kept w new spans next size same r (inl p) = inl (
   p.0,
   (let a = p.1 in omega (arith, a, next)),
@@ -70,31 +70,31 @@ found_row_stays_found copies f rows a b r x adds there found = elim (adds.each r
 ]
 
 -- what was kept is kept or found
-pub watched_or_found_stays_so : (copies : Bool) (f : FittedTrace) (rows : List StaleWrite) (w new : Watch) (a b : List Found) (r : ℕ) (x : StaleWrite) → AddsRests copies f rows a b
-    → slice_get rows r ≡ Some x → (IsWatched w r → IsWatched new r ⊎ IsFoundAs copies f x (slice_index_or b r Unknown))
-    → IsWatched w r ⊎ IsFoundAs copies f x (slice_index_or a r Unknown) → IsWatched new r ⊎ IsFoundAs copies f x (slice_index_or b r Unknown)
-watched_or_found_stays_so copies f rows w new a b r x adds there more (inl watched) = more watched
-watched_or_found_stays_so copies f rows w new a b r x adds there more (inr found) = inr (found_row_stays_found copies f rows a b r x adds there found)
+pub watched_or_found_stays : (copies : Bool) (f : FittedTrace) (rows : List StaleWrite) (w new : Watch) (a b : List Found) (r : ℕ) (x : StaleWrite) → AddsRests copies f rows a b
+    → slice_get rows r ≡ Some x → (IsWatchedWrite w r → IsWatchedWrite new r ⊎ IsFoundAs copies f x (slice_index_or b r Unknown))
+    → IsWatchedWrite w r ⊎ IsFoundAs copies f x (slice_index_or a r Unknown) → IsWatchedWrite new r ⊎ IsFoundAs copies f x (slice_index_or b r Unknown)
+watched_or_found_stays copies f rows w new a b r x adds there more (inl watched) = more watched
+watched_or_found_stays copies f rows w new a b r x adds there more (inr found) = inr (found_row_stays_found copies f rows a b r x adds there found)
 
 -- ---- all threads, one of which has gone on
 
-pub all_watched_after_thread_goes_on : (copies : Bool) (f : FittedTrace) (rows : List StaleWrite) (t : ℕ) (old new : Standing) (ws : List Watch) (w : Watch) (a b : List Found)
+pub watched_after_going_on : (copies : Bool) (f : FittedTrace) (rows : List StaleWrite) (t : ℕ) (old new : Standing) (ws : List Watch) (w : Watch) (a b : List Found)
     → AreWatched copies f rows old ws a → IsFurther f t old new → t < length ws → AddsRests copies f rows a b
     → IsWatch copies f rows t (positions (flat_in f new) t) w
-    → ((d : Watch) (r : ℕ) (x : StaleWrite) → slice_get rows r ≡ Some x → IsWatched (slice_index_or ws t d) r
-    → IsWatched w r ⊎ IsFoundAs copies f x (slice_index_or b r Unknown)) → AreWatched copies f rows new (set ws t w) b
-all_watched_after_thread_goes_on copies f rows t old new ws w a b are further l adds is more u d lu = elim (cases_eq u t) [
+    → ((d : Watch) (r : ℕ) (x : StaleWrite) → slice_get rows r ≡ Some x → IsWatchedWrite (slice_index_or ws t d) r
+    → IsWatchedWrite w r ⊎ IsFoundAs copies f x (slice_index_or b r Unknown)) → AreWatched copies f rows new (set ws t w) b
+watched_after_going_on copies f rows t old new ws w a b are further l adds is more u d lu = elim (cases_eq u t) [
   | inl same ↦ subst (λ j. IsWatch copies f rows j (positions (flat_in f new) j) (slice_index_or (set ws t w) j d)
-      × IsFound copies f rows b j (slice_index_or (set ws t w) j d)) (sym same)
-      (subst (λ z. IsWatch copies f rows t (positions (flat_in f new) t) z × IsFound copies f rows b t z) (sym (get_or-set_same ws t w d l)) (
+      × IsWatchFound copies f rows b j (slice_index_or (set ws t w) j d)) (sym same)
+      (subst (λ z. IsWatch copies f rows t (positions (flat_in f new) t) z × IsWatchFound copies f rows b t z) (sym (get_or-set_same ws t w d l)) (
         is,
-        λ r x there own. watched_or_found_stays_so copies f rows (slice_index_or ws t d) w a b r x adds there (more d r x there) ((are t d l).1 r x there own),
+        λ r x there own. watched_or_found_stays copies f rows (slice_index_or ws t d) w a b r x adds there (more d r x there) ((are t d l).1 r x there own),
       ))
   | inr ne ↦
       let before = are u d (let n = length-set ws t w in omega (arith, n, lu)) in
-      subst (λ z. IsWatch copies f rows u (positions (flat_in f new) u) z × IsFound copies f rows b u z) (sym (get_or-set_other ws t u w d ne)) (
+      subst (λ z. IsWatch copies f rows u (positions (flat_in f new) u) z × IsWatchFound copies f rows b u z) (sym (get_or-set_other ws t u w d ne)) (
         subst (λ k. IsWatch copies f rows u k (slice_index_or ws u d)) (sym (further.others u ne)) before.0,
-        λ r x there own. watched_or_found_stays_so copies f rows (slice_index_or ws u d) (slice_index_or ws u d) a b r x adds there (λ z. inl z) (before.1 r x there own),
+        λ r x there own. watched_or_found_stays copies f rows (slice_index_or ws u d) (slice_index_or ws u d) a b r x adds there (λ z. inl z) (before.1 r x there own),
       )
 ]
 
@@ -102,7 +102,7 @@ all_watched_after_thread_goes_on copies f rows t old new ws w a b are further l 
 
 -- no row is left
 pub no_row_watched_at_end : (copies : Bool) (f : FittedTrace) (rows : List StaleWrite) (t k : ℕ) (w : Watch) (r : ℕ) → IsWatch copies f rows t k w → NoneEnds k w.opened.items
-    → (recorded_thread f.recorded t).steps ≤ k → IsWatched w r → ⊥
+    → (recorded_thread f.recorded t).steps ≤ k → IsWatchedWrite w r → ⊥
 no_row_watched_at_end copies f rows t k w r is ends all (inl p) =
     let any : Span = record { row = 0; object = 0; read = 0; write = 0; end = 0 } in
     let s = is.spans p.0 any p.2 in
@@ -128,9 +128,9 @@ no_row_watched_at_end copies f rows t k w r is ends all (inr q) = no_open q.0 q.
 -- so each is found
 pub row_found_at_end : (copies : Bool) (f : FittedTrace) (rows : List StaleWrite) (t k : ℕ) (w new : Watch) (a b : List Found) (r : ℕ) (x : StaleWrite) → AddsRests copies f rows a b
     → slice_get rows r ≡ Some x → IsWatch copies f rows t k new → NoneEnds k new.opened.items → (recorded_thread f.recorded t).steps ≤ k
-    → (IsWatched w r → IsWatched new r ⊎ IsFoundAs copies f x (slice_index_or b r Unknown))
-    → IsWatched w r ⊎ IsFoundAs copies f x (slice_index_or a r Unknown) → IsFoundAs copies f x (slice_index_or b r Unknown)
-row_found_at_end copies f rows t k w new a b r x adds there is ends all more was = elim (watched_or_found_stays_so copies f rows w new a b r x adds there more was) [
+    → (IsWatchedWrite w r → IsWatchedWrite new r ⊎ IsFoundAs copies f x (slice_index_or b r Unknown))
+    → IsWatchedWrite w r ⊎ IsFoundAs copies f x (slice_index_or a r Unknown) → IsFoundAs copies f x (slice_index_or b r Unknown)
+row_found_at_end copies f rows t k w new a b r x adds there is ends all more was = elim (watched_or_found_stays copies f rows w new a b r x adds there more was) [
   | inr found ↦ found
   | inl watched ↦ absurd (no_row_watched_at_end copies f rows t k new r is ends all watched)
 ]

@@ -7,7 +7,7 @@ use Rattle.ir_past.specs.Lines.{count_line}
 use Rattle.ir_past.specs.declared.place.Place.{Place}
 use Rattle.ir_past.specs.declared.stale_write.StaleWrite.{StaleWrite}
 use Rattle.ir_text.specs.Texts.{hex_word}
-use Rattle.ir_events.specs.Events.{entry_of}
+use Rattle.ir_events.specs.Events.{event_entry}
 use Rattle.ir_stale_run.specs.Rests.{AreRests}
 use Rattle.ir_stale_run.specs.declared.reason.Reason.{Reason}
 use Rattle.ir_stale_run.specs.declared.reason.Reason.TheVariants.{Value, Way}
@@ -15,17 +15,17 @@ use Rattle.ir_stale_run.specs.declared.rest.Rest.{Rest}
 
 -- the write of a row, with the position of its step
 abbrev pub rest_write_part : FittedTrace → StaleWrite → List ℕ
-rest_write_part f x = codes "thread " ++ decimal x.thread ++ codes " event " ++ decimal x.event ++ codes " step " ++ decimal (entry_of f x.thread x.event)
+rest_write_part f x = codes "thread " ++ decimal x.thread ++ codes " event " ++ decimal x.event ++ codes " step " ++ decimal (event_entry f x.thread x.event)
     ++ codes " write " ++ decimal x.object ++ codes " version " ++ decimal x.written
 
 -- its read
 abbrev pub rest_read_part : FittedTrace → StaleWrite → List ℕ
-rest_read_part f x = codes " read event " ++ decimal x.read ++ codes " step " ++ decimal (entry_of f x.thread x.read) ++ codes " version " ++ decimal x.version
+rest_read_part f x = codes " read event " ++ decimal x.read ++ codes " step " ++ decimal (event_entry f x.thread x.read) ++ codes " version " ++ decimal x.version
 
 -- what wrote over it
 abbrev pub rest_over_part : FittedTrace → Place → List ℕ
 rest_over_part f p = codes " overwritten by thread " ++ decimal p.thread ++ codes " event " ++ decimal p.event ++ codes " step "
-    ++ decimal (entry_of f p.thread p.event)
+    ++ decimal (event_entry f p.thread p.event)
 
 -- how the thread would have acted otherwise
 abbrev pub rest_reason_text : Reason → List ℕ
@@ -57,13 +57,13 @@ one_if None = 0
 one_if (Some r) = 1
 
 -- how many of the first n rest on their reads
-unfoldable pub kept_of : List (Option Rest) → ℕ → ℕ
-kept_of rests zero = 0
-kept_of rests (suc n) = kept_of rests n + one_if (slice_index_or rests n None)
+unfoldable pub rows_kept : List (Option Rest) → ℕ → ℕ
+rows_kept rests zero = 0
+rows_kept rests (suc n) = rows_kept rests n + one_if (slice_index_or rests n None)
 
 -- the lines of the rows that rest on their reads, after how many they are, of how many write entries
 abbrev pub rests_text : FittedTrace → List StaleWrite → List (Option Rest) → List ℕ
-rests_text f rows rests = count_line (kept_of rests (length rests)) (write_count f.recorded) ++ first_lines f rows rests (length rows)
+rests_text f rows rests = count_line (rows_kept rests (length rests)) (write_count f.recorded) ++ first_lines f rows rests (length rows)
 
 -- the answer to a trace and the guest that has it
 pub record IsRestsAnswer (f : FittedTrace) (text : List ℕ) : Type 0 where

@@ -4,20 +4,20 @@ use Rattle.std.specs.List.{slice_index_or}
 use Rattle.ir_fit.specs.Fit.{FittedTrace}
 use Rattle.ir_cut.specs.Positions.{EachRun, thread_at}
 use Rattle.ir_past.specs.declared.stale_write.StaleWrite.{StaleWrite}
-use Rattle.ir_events.specs.Events.{entry_of}
+use Rattle.ir_events.specs.Events.{event_entry}
 use Rattle.ir_opened.specs.Positions.{LeavesAfter, IsLeaveOf}
-use Rattle.ir_walk.specs.Words.{AreWordsAt}
-use Rattle.ir_walk.specs.Calls.{calls_in}
+use Rattle.ir_event_walk.specs.Words.{AreWordsAt}
+use Rattle.ir_event_walk.specs.Calls.{calls_in}
 use Rattle.ir_stale_run.specs.WhatIf.{rest_of, more_steps}
 use Rattle.ir_stale_run.specs.declared.rest.Rest.{Rest}
 
 -- the position of a row's thread behind its read entry
 abbrev pub behind_read : FittedTrace → StaleWrite → ℕ
-behind_read f x = entry_of f x.thread x.read + 1
+behind_read f x = event_entry f x.thread x.read + 1
 
 -- and behind its write entry
 abbrev pub behind_write : FittedTrace → StaleWrite → ℕ
-behind_write f x = entry_of f x.thread x.event + 1
+behind_write f x = event_entry f x.thread x.event + 1
 
 -- how a row's write rests on its read, if it does, in each run with the trace: by what its thread would have done from behind the read
 -- entry to the leave after the write entry, had it read the words that are there behind the write entry

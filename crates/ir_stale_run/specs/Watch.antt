@@ -10,12 +10,12 @@ use Rattle.ir_cut.specs.Positions.{EachRun, thread_at}
 use Rattle.ir_weave.specs.Standing.{Standing, flat_in, positions}
 use Rattle.ir_past.specs.Past.{IsRow, AreStaleWrites}
 use Rattle.ir_past.specs.declared.stale_write.StaleWrite.{StaleWrite}
-use Rattle.ir_walk.specs.Route.{IsRoute}
-use Rattle.ir_walk.specs.Words.{AreWordsAt}
-use Rattle.ir_walk.specs.Calls.{calls_in, AllSuit}
+use Rattle.ir_event_walk.specs.Route.{IsRoute}
+use Rattle.ir_event_walk.specs.Words.{AreWordsAt}
+use Rattle.ir_event_walk.specs.Calls.{calls_in, AllSuit}
 use Rattle.ir_opened.specs.Positions.{LeavesAfter, IsLeaveOf}
 use Rattle.ir_stale_run.specs.Rests.{behind_read, behind_write, IsRestOf}
-use Rattle.ir_walk.specs.declared.exchange.Exchange.{Exchange}
+use Rattle.ir_event_walk.specs.declared.exchange.Exchange.{Exchange}
 use Rattle.ir_stale_run.specs.declared.found.Found.{Found}
 use Rattle.ir_stale_run.specs.declared.found.Found.TheVariants.{Unknown, Known}
 use Rattle.ir_stale_run.specs.declared.span.Span.{Span}
@@ -83,12 +83,12 @@ abbrev pub IsPending : Watch → ℕ → Type 0
 IsPending w r = (i : ℕ) × (w.next ≤ i) × (i < length w.spans.items) × ((d : Span) → (slice_index_or w.spans.items i d).row ≡ r)
 
 -- row r is one of those that are open
-abbrev pub IsOpen : Watch → ℕ → Type 0
-IsOpen w r = (i : ℕ) × (i < length w.opened.items) × ((d : Open) → (slice_index_or w.opened.items i d).span.row ≡ r)
+abbrev pub IsOpenWatch : Watch → ℕ → Type 0
+IsOpenWatch w r = (i : ℕ) × (i < length w.opened.items) × ((d : Open) → (slice_index_or w.opened.items i d).span.row ≡ r)
 
 -- row r is one of these
-abbrev pub IsWatched : Watch → ℕ → Type 0
-IsWatched w r = IsPending w r ⊎ IsOpen w r
+abbrev pub IsWatchedWrite : Watch → ℕ → Type 0
+IsWatchedWrite w r = IsPending w r ⊎ IsOpenWatch w r
 
 -- what is kept of thread t at position k: the rows that come, and those that are open
 pub record IsWatch (copies : Bool) (f : FittedTrace) (rows : List StaleWrite) (t k : ℕ) (w : Watch) : Type 0 where
@@ -113,18 +113,18 @@ is_looked_at copies Unknown = true
 is_looked_at copies (Known rest) = not copies
 
 -- what was found of a row before a walk: nothing before the one with no copies, and what that one found before the one with copies
-abbrev pub IsBegun : Bool → FittedTrace → StaleWrite → Found → Type 0
-IsBegun false f x found = found ≡ Known None
-IsBegun true f x found = IsFoundAs false f x found
+abbrev pub IsWatchBegun : Bool → FittedTrace → StaleWrite → Found → Type 0
+IsWatchBegun false f x found = found ≡ Known None
+IsWatchBegun true f x found = IsFoundAs false f x found
 
 -- so of each row
 abbrev pub AreBegun : Bool → FittedTrace → List StaleWrite → List Found → Type 0
-AreBegun copies f rows rests = (r : ℕ) (x : StaleWrite) → slice_get rows r ≡ Some x → IsBegun copies f x (slice_index_or rests r Unknown)
+AreBegun copies f rows rests = (r : ℕ) (x : StaleWrite) → slice_get rows r ≡ Some x → IsWatchBegun copies f x (slice_index_or rests r Unknown)
 
 -- of each row of thread t that isn't one of these it is found how it rests
-abbrev pub IsFound : Bool → FittedTrace → List StaleWrite → List Found → ℕ → Watch → Type 0
-IsFound copies f rows rests t w = (r : ℕ) (x : StaleWrite) → slice_get rows r ≡ Some x → x.thread ≡ t
-    → IsWatched w r ⊎ IsFoundAs copies f x (slice_index_or rests r Unknown)
+abbrev pub IsWatchFound : Bool → FittedTrace → List StaleWrite → List Found → ℕ → Watch → Type 0
+IsWatchFound copies f rows rests t w = (r : ℕ) (x : StaleWrite) → slice_get rows r ≡ Some x → x.thread ≡ t
+    → IsWatchedWrite w r ⊎ IsFoundAs copies f x (slice_index_or rests r Unknown)
 
 -- no row that comes has its read entry at k or below
 abbrev pub NoneDue : ℕ → Watch → Type 0
@@ -156,7 +156,7 @@ pub record IsWithout {X : Type 0} (xs ys : List X) (i : ℕ) : Type 0 where
 -- what is kept of each thread of the guest, and what is found of the other rows
 abbrev pub AreWatched : Bool → FittedTrace → List StaleWrite → Standing → List Watch → List Found → Type 0
 AreWatched copies f rows s watches rests = (t : ℕ) (d : Watch) → t < length watches
-    → IsWatch copies f rows t (positions (flat_in f s) t) (slice_index_or watches t d) × IsFound copies f rows rests t (slice_index_or watches t d)
+    → IsWatch copies f rows t (positions (flat_in f s) t) (slice_index_or watches t d) × IsWatchFound copies f rows rests t (slice_index_or watches t d)
 
 -- what is kept of thread t before the first step, its rows among the first n of all: none is open, and one that isn't among them is found
 pub record IsBuilt (copies : Bool) (f : FittedTrace) (rows : List StaleWrite) (found : List Found) (n t : ℕ) (w : Watch) : Type 0 where
@@ -178,5 +178,5 @@ pub record IsSorted (old new : Watch) : Type 0 where
   pub sorted : IsNonDecreasingBy (λ (s : Span). s.read) new.spans.items
 
 -- so of each thread
-abbrev pub AreSorted : List Watch → List Watch → Type 0
-AreSorted old new = (t : ℕ) (d : Watch) → t < length old → IsSorted (slice_index_or old t d) (slice_index_or new t d)
+abbrev pub AreWatchesSorted : List Watch → List Watch → Type 0
+AreWatchesSorted old new = (t : ℕ) (d : Watch) → t < length old → IsSorted (slice_index_or old t d) (slice_index_or new t d)

@@ -10,7 +10,7 @@ use Rattle.ir_thread.specs.declared.ask.Ask.TheVariants as ask
 use Rattle.ir_thread.specs.declared.ask.Reply.{Reply}
 use Rattle.ir_thread.specs.declared.ask.Reply.TheVariants.{Go, Value}
 use Rattle.ir_fit.specs.Placed.{same_access}
-use Rattle.ir_walk.specs.declared.exchange.Exchange.{Exchange}
+use Rattle.ir_event_walk.specs.declared.exchange.Exchange.{Exchange}
 use Rattle.ir_stale_run.specs.declared.hold.Hold.{Hold}
 use Rattle.ir_stale_run.specs.declared.hold.Hold.TheVariants.{Reading, Between, Writing}
 use Rattle.ir_stale_run.specs.declared.reason.Reason.{Reason}
@@ -96,9 +96,9 @@ difference h o asked was =
     else Some reason.Way
 
 -- a reason, or else the next
-abbrev pub or_later : Option Reason → Option Reason → Option Reason
-or_later (Some r) later = Some r
-or_later None later = later
+abbrev pub call_or_later : Option Reason → Option Reason → Option Reason
+call_or_later (Some r) later = Some r
+call_or_later None later = later
 
 -- whether a step is private
 abbrev pub is_private : Ask → Bool
@@ -113,7 +113,7 @@ what_if code o fresh h zero x (c ∷ cs) = Some reason.Way
 what_if code o fresh h (suc fuel) x (c ∷ cs) =
     if is_private (ask_of code x)
     then what_if code o fresh h fuel (step_of code x) (c ∷ cs)
-    else or_later (difference h o (ask_of code x) c.asked)
+    else call_or_later (difference h o (ask_of code x) c.asked)
     (what_if code o fresh (hold_after o c h) fuel (after_reply code x (answer h o fresh c)) cs)
 
 -- ---- what it got, and whether it put
@@ -134,14 +134,14 @@ gets o i h [] = false
 gets o i h (c ∷ cs) = (is_reading h && is_get o i c.asked) || gets o i (hold_after o c h) cs
 
 -- whether a call puts a word into object o
-abbrev pub is_put : ℕ → Ask → Bool
-is_put o (ask.Put object index value) = object == o
-is_put o _ = false
+abbrev pub is_put_call : ℕ → Ask → Bool
+is_put_call o (ask.Put object index value) = object == o
+is_put_call o _ = false
 
 -- whether the calls put a word into object o in the write's hold
 unfoldable pub puts : ℕ → Hold → List Exchange → Bool
 puts o h [] = false
-puts o h (c ∷ cs) = (is_writing_hold h && is_put o c.asked) || puts o (hold_after o c h) cs
+puts o h (c ∷ cs) = (is_writing_hold h && is_put_call o c.asked) || puts o (hold_after o c h) cs
 
 -- whether the calls get a word of object o in the read's hold that was this and is another
 abbrev pub is_changed : ℕ → List ℕ → List ℕ → List Exchange → ℕ → Bool

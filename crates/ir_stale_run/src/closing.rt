@@ -5,7 +5,7 @@ ghost use Rattle.ir_thread.specs.Permitted.{most_steps};
 ghost use Rattle.ir_past.specs.declared.stale_write.StaleWrite.{StaleWrite};
 ghost use Rattle.ir_stale_run.specs.declared.kept.Open.{Open};
 ghost use Rattle.ir_stale_run.specs.declared.found.Found.TheVariants.{Unknown};
-ghost use Rattle.ir_stale_run.specs.Watch.{IsFoundAs, IsGuide, IsOpenAt, IsWatch, IsWatched, NoneEnds, AddsRests, IsWithout};
+ghost use Rattle.ir_stale_run.specs.Watch.{IsFoundAs, IsGuide, IsOpenAt, IsWatch, IsWatchedWrite, NoneEnds, AddsRests, IsWithout};
 
 use crate::found::Found;
 use crate::guide::Guide;
@@ -68,7 +68,8 @@ pub fn close_due(guide: Guide<'_, '_>, t: usize, k: u64, watch: &mut Watch, rest
     ensures ends { NoneEnds k watch.new.opened.items }
     ensures same { (watch.new.spans ≡ watch.old.spans) × (watch.new.next ≡ watch.old.next) }
     ensures adds { AddsRests guide.entry.copies guide.entry.route.fitted.now guide.entry.rows.now rests.old rests.new }
-    ensures found { (r : ℕ) (x : StaleWrite) → slice_get guide.entry.rows.now r ≡ Some x → IsWatched watch.old r → IsWatched watch.new r ⊎ IsFoundAs guide.entry.copies guide.entry.route.fitted.now x (slice_index_or rests.new r Unknown) }
+    ensures found { (r : ℕ) (x : StaleWrite) → slice_get guide.entry.rows.now r ≡ Some x → IsWatchedWrite watch.old r
+        → IsWatchedWrite watch.new r ⊎ IsFoundAs guide.entry.copies guide.entry.route.fitted.now x (slice_index_or rests.new r Unknown) }
 {
     let mut i = 0;
     'opened: while let Some(ends) = ends_at(&watch.opened, i, k) {

@@ -1,7 +1,7 @@
 //! What a walk over a recorded run that looks at rows goes by.
 
+use ir_event_walk::Route;
 use ir_past::StaleWrite;
-use ir_walk::Route;
 
 /// A recorded run, and the rows that are looked at on a walk over it.
 #[derive(Clone, Copy)]

@@ -4,8 +4,8 @@ ghost use Rattle.std.specs.Prelude.{◌≡◌};
 ghost use Rattle.ir_stale_run.specs.WhatIf.{leaves, enters, hold_after, answer};
 
 use crate::hold::Hold;
+use ir_event_walk::{Exchange, word_of};
 use ir_thread::{Ask, Reply};
-use ir_walk::{Exchange, word_of};
 
 // Whether a call leaves the object.
 fn leaves(object: u8, asked: Ask) -> bool

@@ -1,7 +1,7 @@
 //! Whether a write rests on a read.
 
 ghost use Rattle.std.specs.Prelude.{◌≡◌, Some};
-ghost use Rattle.ir_walk.specs.Calls.{AllSuit};
+ghost use Rattle.ir_event_walk.specs.Calls.{AllSuit};
 ghost use Rattle.ir_stale_run.specs.WhatIf.{rest_by, found_of};
 
 use crate::found::Found;
@@ -10,8 +10,8 @@ use crate::reason::Reason;
 use crate::rest::Rest;
 use crate::what_if::what_if;
 use crate::words::{changed_word, puts};
+use ir_event_walk::word_of;
 use ir_image::Code;
-use ir_walk::word_of;
 
 // How a write rests on a read by this word, if there is a reason.
 fn rest_by(was: &[u32], now: &[u32], word: u8, reason: Option<Reason>) -> Option<Rest>

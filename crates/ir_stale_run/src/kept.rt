@@ -1,8 +1,8 @@
 //! A thread that read an object and then wrote it.
 
 use crate::span::Span;
+use ir_event_walk::Exchange;
 use ir_thread::Thread;
-use ir_walk::Exchange;
 
 /// What is kept of a thread from its read entry of an object to the leave after its write entry.
 #[derive(Drop)]

@@ -7,7 +7,7 @@ ghost use Rattle.arrayvec.specs.ArrayVec.{array_vec_len};
 ghost use Rattle.ir_past.specs.Past.{IsRow, AreStaleWrites};
 ghost use Rattle.ir_past.specs.Lines.{count_line};
 ghost use Rattle.ir_opened.specs.Positions.{IsInside};
-ghost use Rattle.ir_stale_run.specs.Lines.{rest_write_part, rest_read_part, rest_over_part, rest_reason_text, word_part, rest_line, one_if, kept_of, line_if, first_lines, rests_text};
+ghost use Rattle.ir_stale_run.specs.Lines.{rest_write_part, rest_read_part, rest_over_part, rest_reason_text, word_part, rest_line, one_if, rows_kept, line_if, first_lines, rests_text};
 ghost use Rattle.ir_stale_run.specs.declared.rest.Rest.{Rest};
 
 use crate::reason::Reason;
@@ -172,7 +172,7 @@ fn one_if(rest: &Option<Rest>) -> usize
 
 /// How many rows rest on their reads.
 pub fn kept_of(rests: &[Option<Rest>]) -> usize
-    ensures count { result ≡ kept_of rests.now (length rests.now) }
+    ensures count { result ≡ rows_kept rests.now (length rests.now) }
     ensures few { result ≤ length rests.now }
 {
     let mut kept = 0;

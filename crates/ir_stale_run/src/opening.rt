@@ -2,17 +2,17 @@
 
 ghost use Rattle.std.specs.Prelude.{◌≡◌, ◌≢◌, ◌<◌, ℕ, true, false, length, slice_index_or, if◌then◌else◌, Some, None, OnOk, IfOk};
 ghost use Rattle.ir_weave.specs.Standing.{flat_in, positions};
-ghost use Rattle.ir_events.specs.Walk.{IsOnWay};
+ghost use Rattle.ir_events.specs.Walk.{IsOnWalk};
 ghost use Rattle.ir_stale_run.specs.declared.span.Span.{Span};
-ghost use Rattle.ir_stale_run.specs.Watch.{IsGuide, IsSpanOf, IsOpenAt, IsWatch, IsWatched, NoneDue};
+ghost use Rattle.ir_stale_run.specs.Watch.{IsGuide, IsSpanOf, IsOpenAt, IsWatch, IsWatchedWrite, NoneDue};
 
 use crate::guide::Guide;
 use crate::kept::{Kept, Open};
 use crate::span::Span;
 use crate::watch::Watch;
+use ir_event_walk::{thread_of, words_of};
 use ir_replay::State;
 use ir_thread::Thread;
-use ir_walk::{thread_of, words_of};
 use std::alloc::{AllocError, Global};
 
 // A copy of a thread, if threads are copied.
@@ -29,7 +29,7 @@ fn copy_of(copies: bool, thread: &Thread) -> Result<Option<Thread>, AllocError>
 // What is kept of a row of thread t, which is behind its read entry.
 fn open_one(guide: Guide<'_, '_>, state: &State, t: usize, span: Span) -> Result<Open, AllocError>
     requires guide { IsGuide guide.route.fitted.now guide.rows.now guide.route.ends.now guide.route.code.now }
-    requires way { IsOnWay guide.route.fitted.now guide.route.ends.now state.now }
+    requires way { IsOnWalk guide.route.fitted.now guide.route.ends.now state.now }
     requires thread { t < length guide.route.fitted.now.guest.entries }
     requires span { IsSpanOf guide.route.fitted.now guide.rows.now t span }
     requires here { span.read ≡ positions (flat_in guide.route.fitted.now state.now) t }
@@ -65,11 +65,11 @@ pub fn open_due(
     watch: &mut Watch,
 ) -> Result<(), AllocError>
     requires guide { IsGuide guide.route.fitted.now guide.rows.now guide.route.ends.now guide.route.code.now }
-    requires way { IsOnWay guide.route.fitted.now guide.route.ends.now state.now }
+    requires way { IsOnWalk guide.route.fitted.now guide.route.ends.now state.now }
     requires thread { t < length guide.route.fitted.now.guest.entries }
     requires watch { IsWatch guide.copies guide.route.fitted.now guide.rows.now t (positions (flat_in guide.route.fitted.now state.now) t) watch.old }
     ensures watch { OnOk result (IsWatch guide.entry.copies guide.entry.route.fitted.now guide.entry.rows.now t (positions (flat_in guide.entry.route.fitted.now state.now) t) watch.new) }
-    ensures watched { OnOk result ((r : ℕ) → IsWatched watch.old r → IsWatched watch.new r) }
+    ensures watched { OnOk result ((r : ℕ) → IsWatchedWrite watch.old r → IsWatchedWrite watch.new r) }
     ensures due { OnOk result (NoneDue (positions (flat_in guide.entry.route.fitted.now state.now) t) watch.new) }
 {
     let k = thread_of(state, t).steps();

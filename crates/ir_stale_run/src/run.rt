@@ -31,7 +31,9 @@ fn fitted_lines(alloc: Global, fitted: &Fitted) -> Result<Vec<u8>, AllocError>
 // Writes the lines of a fitted trace's writes that rest on stale reads.
 fn show_fitted<O: Sink>(alloc: Global, fitted: &Fitted, out: &mut O) -> Result<ExitStatus, PastErr>
     requires { O.broken out.old ≡ false }
-    ensures ok { IfOk result (λ status. (i t : List ℕ) → IsFit i t fitted.now → Answered (IsFitAnswerOf IsRestsAnswer i t) status (writer_of (O.written out.old) (O.written out.new) (O.broken out.new))) }
+    ensures ok { IfOk result
+        (λ status. (i t : List ℕ) → IsFit i t fitted.now
+        → Answered (IsFitAnswerOf IsRestsAnswer i t) status (writer_of (O.written out.old) (O.written out.new) (O.broken out.new))) }
     ensures fails { IfErr result (λ e. (i t : List ℕ) → IsFit i t fitted.now → NotAnswered (IsFitAnswerOf IsRestsAnswer i t) e (writer_of (O.written out.old) (O.written out.new) (O.broken out.new))) }
 {
     let text = fitted_lines(alloc, fitted)?;
@@ -70,7 +72,10 @@ pub fn rests_run<O: Sink, E: Sink>(
     requires writes { O.broken out.old ≡ false }
     requires reports { E.broken faults.old ≡ false }
     // The answer was written, and no fault reported.
-    ensures done { result ≢ status.Failed → Answered (IsFitAnswerOf IsRestsAnswer image.now trace.now) result (writer_of (O.written out.old) (O.written out.new) (O.broken out.new)) × (faults.new ≡ faults.old) }
+    ensures done { result ≢ status.Failed
+        → Answered (IsFitAnswerOf IsRestsAnswer image.now trace.now) result
+        (writer_of (O.written out.old) (O.written out.new) (O.broken out.new))
+        × (faults.new ≡ faults.old) }
     // Else what stopped it, what that leaves, and that it is reported.
     ensures stopped { result ≡ status.Failed → (e : PastErr)
         × NotAnswered (IsFitAnswerOf IsRestsAnswer image.now trace.now) e (writer_of (O.written out.old) (O.written out.new) (O.broken out.new))

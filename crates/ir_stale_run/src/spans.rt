@@ -2,7 +2,7 @@
 
 ghost use Rattle.std.specs.Prelude.{◌≡◌, ◌+◌, ℕ, IfSome, IfNone};
 ghost use Rattle.ir_past.specs.Past.{IsRow};
-ghost use Rattle.ir_events.specs.Events.{entry_of};
+ghost use Rattle.ir_events.specs.Events.{event_entry};
 ghost use Rattle.ir_opened.specs.Positions.{IsInside, LeavesAfter};
 ghost use Rattle.ir_stale_run.specs.Watch.{IsSpan};
 
@@ -14,7 +14,7 @@ use ir_past::{Place, StaleWrite};
 // The position of a thread behind one of its events.
 fn behind(fitted: &Fitted, thread: u8, event: u32) -> u64
     requires { IsInside fitted.now thread event }
-    ensures { result ≡ entry_of fitted.now thread event + 1 }
+    ensures { result ≡ event_entry fitted.now thread event + 1 }
 {
     fitted.known();
     step_of(fitted, Place { thread, event }) + 1

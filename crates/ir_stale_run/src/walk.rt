@@ -4,7 +4,7 @@ ghost use Rattle.std.specs.Prelude.{◌≡◌, ◌<◌, ◌≤◌, ℕ, true, fa
 ghost use Rattle.ir_trace.specs.Recorded.{recorded_thread};
 ghost use Rattle.ir_weave.specs.Standing.{flat_in, positions};
 ghost use Rattle.ir_past.specs.Past.{AreStaleWrites};
-ghost use Rattle.ir_events.specs.Walk.{IsOnWay, IsPass};
+ghost use Rattle.ir_events.specs.Walk.{IsOnWalk, IsWalkPass};
 ghost use Rattle.ir_stale_run.specs.Rests.{AreRests};
 ghost use Rattle.ir_stale_run.specs.Watch.{IsGuide, AreFound, AreBegun, AreWatched};
 
@@ -16,11 +16,11 @@ use crate::rest::Rest;
 use crate::visit::visit_thread;
 use crate::watch::Watch;
 use crate::watches::watches;
+use ir_event_walk::{Route, thread_of, unmarked};
 use ir_events::{are_done, ends_of};
 use ir_fit::Fitted;
 use ir_past::StaleWrite;
 use ir_replay::State;
-use ir_walk::{Route, thread_of, unmarked};
 use std::alloc::{AllocError, Global};
 
 // Takes each thread in turn as far as it can go by itself.
@@ -31,11 +31,11 @@ fn pass(
     rests: &mut [Found],
 ) -> Result<State, AllocError>
     requires guide { IsGuide guide.route.fitted.now guide.rows.now guide.route.ends.now guide.route.code.now }
-    requires way { IsOnWay guide.route.fitted.now guide.route.ends.now state }
+    requires way { IsOnWalk guide.route.fitted.now guide.route.ends.now state }
     requires watches { length watches.old ≡ length guide.route.fitted.now.guest.entries }
     requires size { length rests.old ≡ length guide.rows.now }
     requires watched { AreWatched guide.copies guide.route.fitted.now guide.rows.now state watches.old rests.old }
-    ensures passed { IfOk result (IsPass guide.entry.route.fitted.now guide.entry.route.ends.now (length watches.old) state) }
+    ensures passed { IfOk result (IsWalkPass guide.entry.route.fitted.now guide.entry.route.ends.now (length watches.old) state) }
     ensures watches { length watches.new ≡ length watches.old }
     ensures size { OnOk result (length rests.new ≡ length rests.old) }
     ensures watched { IfOk result (λ s. AreWatched guide.entry.copies guide.entry.route.fitted.now guide.entry.rows.now s watches.new rests.new) }
@@ -50,7 +50,7 @@ fn pass(
 // Closes the rows that end where the threads do, at whose ends the state is.
 fn close_all(guide: Guide<'_, '_>, state: &State, watches: &mut [Watch], rests: &mut [Found])
     requires guide { IsGuide guide.route.fitted.now guide.rows.now guide.route.ends.now guide.route.code.now }
-    requires way { IsOnWay guide.route.fitted.now guide.route.ends.now state.now }
+    requires way { IsOnWalk guide.route.fitted.now guide.route.ends.now state.now }
     requires size { length rests.old ≡ length guide.rows.now }
     requires watches { length watches.old ≡ length guide.route.fitted.now.guest.entries }
     requires watched { AreWatched guide.copies guide.route.fitted.now guide.rows.now state.now watches.old rests.old }
@@ -72,7 +72,7 @@ fn walk_on(
     rests: &mut [Found],
 ) -> Result<(), AllocError>
     requires guide { IsGuide guide.route.fitted.now guide.rows.now guide.route.ends.now guide.route.code.now }
-    requires way { IsOnWay guide.route.fitted.now guide.route.ends.now state }
+    requires way { IsOnWalk guide.route.fitted.now guide.route.ends.now state }
     requires watches { length watches.old ≡ length guide.route.fitted.now.guest.entries }
     requires size { length rests.old ≡ length guide.rows.now }
     requires watched { AreWatched guide.copies guide.route.fitted.now guide.rows.now state watches.old rests.old }

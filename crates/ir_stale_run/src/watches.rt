@@ -4,7 +4,7 @@ ghost use Rattle.std.specs.Prelude.{◌≡◌, ◌+◌, ◌++◌, ◌∷◌, [],
 ghost use Rattle.std.specs.List.Sorted.{IsNonDecreasingBy};
 ghost use Rattle.ir_stale_run.specs.declared.span.Span.{Span};
 ghost use Rattle.ir_stale_run.specs.declared.watch.Watch.{Watch};
-ghost use Rattle.ir_stale_run.specs.Watch.{IsGuide, is_looked_at, AreBegun, AreBuilt, IsSorted, AreSorted};
+ghost use Rattle.ir_stale_run.specs.Watch.{IsGuide, is_looked_at, AreBegun, AreBuilt, IsSorted, AreWatchesSorted};
 
 use crate::found::Found;
 use crate::guide::Guide;
@@ -94,7 +94,7 @@ fn empty_watches(guide: Guide<'_, '_>, found: &[Found]) -> Result<Vec<Watch>, Al
 // Sorts the rows of each thread.
 fn sort_all(watches: &mut [Watch]) -> Result<(), AllocError>
     ensures size { length watches.new ≡ length watches.old }
-    ensures sorted { OnOk result (AreSorted watches.old watches.new) }
+    ensures sorted { OnOk result (AreWatchesSorted watches.old watches.new) }
 {
     for t in 0..watches.len() {
         sort(&mut watches[t])?;

@@ -1,7 +1,7 @@
 //! What a thread would have done, had it read other words.
 
 ghost use Rattle.std.specs.Prelude.{◌≡◌};
-ghost use Rattle.ir_walk.specs.Calls.{AllSuit};
+ghost use Rattle.ir_event_walk.specs.Calls.{AllSuit};
 ghost use Rattle.ir_stale_run.specs.WhatIf.{what_if};
 ghost use Rattle.ir_stale_run.specs.declared.hold.Hold.TheVariants.{Reading};
 
@@ -9,9 +9,9 @@ use crate::differences::difference;
 use crate::hold::Hold;
 use crate::holding::{answer, hold_after};
 use crate::reason::Reason;
+use ir_event_walk::Exchange;
 use ir_image::Code;
 use ir_thread::Thread;
-use ir_walk::Exchange;
 
 // How a thread that is answered as in these calls, but for the fresh words of the object, first differs from them. It takes no
 // memory, and at most `fuel` steps.

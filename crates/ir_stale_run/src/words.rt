@@ -1,14 +1,14 @@
 //! Which words of an object were got and are others, and whether any was put.
 
 ghost use Rattle.std.specs.Prelude.{◌≡◌, ◌&&◌};
-ghost use Rattle.ir_stale_run.specs.WhatIf.{is_reading, is_get, gets, is_writing_hold, is_put, puts, is_changed, changed_word};
+ghost use Rattle.ir_stale_run.specs.WhatIf.{is_reading, is_get, gets, is_writing_hold, is_put_call, puts, is_changed, changed_word};
 ghost use Rattle.ir_stale_run.specs.declared.hold.Hold.TheVariants.{Reading};
 
 use crate::hold::Hold;
 use crate::holding::hold_after;
+use ir_event_walk::{Exchange, word_of};
 use ir_image::MOST_OBJECT_WORDS;
 use ir_thread::Ask;
-use ir_walk::{Exchange, word_of};
 
 // Whether a call gets this word of the object, in the read's hold.
 fn gets_now(object: u8, index: u8, hold: Hold, asked: Ask) -> bool
@@ -36,7 +36,7 @@ fn gets(object: u8, index: u8, calls: &[Exchange]) -> bool
 
 // Whether a call puts a word into the object, in the write's hold.
 fn puts_now(object: u8, hold: Hold, asked: Ask) -> bool
-    ensures { result ≡ (is_writing_hold hold && is_put object asked) }
+    ensures { result ≡ (is_writing_hold hold && is_put_call object asked) }
 {
     match (hold, asked) {
         (Hold::Writing, Ask::Put(written, _, _)) => written == object,

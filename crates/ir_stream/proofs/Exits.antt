@@ -1,5 +1,6 @@
 -- What holds after each byte that was read, and at each end.
-use Rattle.std.proofs.Common.{◌≡◌, ℕ, ◌+◌, ◌<◌, Bool, true, false, eqb, List, [], ◌∷◌, ◌++◌, take, length, refl, sym, ap, subst, ◌∙◌, append_assoc, arith, IfSome, IfOk, IfErr, OnOk, OnErr, Ok, Err, length-append}
+use Rattle.std.proofs.Common.{◌≡◌, ℕ, ◌+◌, ◌<◌, Bool, true, false, eqb, List, [], ◌∷◌, ◌++◌, take, length, refl, sym, ap, subst, ◌∙◌}
+use Rattle.std.proofs.Common.{append_assoc, arith, IfSome, IfOk, IfErr, OnOk, OnErr, Ok, Err, length-append}
 use Rattle.std.specs.Prelude.{Option, Result}
 use Rattle.std.proofs.lemmas.List.{append-nil}
 use Rattle.std.proofs.KnownBytes.{Consumes-nil, Consumes-trans, Consumes-kept, Consumes-whole, Appends-nil, Appends-trans}
@@ -8,12 +9,15 @@ use Rattle.ir_stream.specs.declared.serving.Served.{Served}
 use Rattle.ir_stream.specs.declared.serving.Served.TheVariants.{Quit}
 use Rattle.ir_stream.specs.declared.serving.Fault.{Fault}
 use Rattle.ir_stream.specs.declared.serving.Fault.TheVariants.{Read, Write, TooLong}
-use Rattle.ir_stream.specs.Answers.{SplitBytes, split_lines, last_line, lines_of, Replying, LinesAnswered, RepliedPrefix, through, some_quits, ReadsUpTo}
+use Rattle.ir_stream.specs.Answers.{SplitBytes, split_lines, last_line, lines_of, Replying, LinesAnswered, RepliedPrefix, through, some_quits, ReadsUpTo, AppendsPrefix}
 use Rattle.ir_stream.specs.Written.{most_kept_bytes, Wrote, WroteInPart, Replied}
 use Rattle.ir_stream.specs.Endings.{served_after, IfEnded, LeadsTo}
-use Rattle.ir_stream.proofs.Cuts.{split_lines_ends_line_at_line_feed, split_lines_adds_other_byte_to_rest, take_of_append_ignores_inner_take}
-use Rattle.ir_stream.proofs.Replies.{last_line_of_nonempty_is_line_alone, lines_answered_of_append, answered_no_lines, answered_one_line, answered_last_line_if_prefix_answered, some_quits_of_append_after_no_quit, some_quits_of_one_line, some_quits_of_no_lines_is_false, through_of_append_after_no_quit, through_keeps_last_line, through_of_one_line, some_quits_of_last_line_ignores_take}
-use Rattle.ir_stream.proofs.Hearing.{input_has_property_if_each_continuation_has, leads_quit, leads_end, leads_long}
+use Rattle.ir_stream.proofs.Cuts.{split_ends_at_feed, split_adds_to_rest, take_append_inner_take}
+use Rattle.ir_stream.proofs.Replies.{last_line_nonempty, lines_answered_append, answered_no_lines, answered_one_line}
+use Rattle.ir_stream.proofs.Replies.{answered_last_by_prefix, some_quits_append, some_quits_of_one_line, some_quits_nil}
+use Rattle.ir_stream.proofs.Replies.{through_append_no_quit, through_keeps_last_line, through_of_one_line, quits_ignores_take}
+use Rattle.ir_stream.proofs.Replies.{appends_prefix_append}
+use Rattle.ir_stream.proofs.Hearing.{consumed_input_satisfies, leads_quit, leads_end, leads_long}
 
 -- after these bytes: what is left, what was written, the machine and the line that has begun
 pub record IsSessionAt {S : Type 0} (R : Replying S) (quits : List ℕ → Bool) (s0 : S) (input w0 left written : Option (List ℕ)) (s : S)
@@ -28,10 +32,10 @@ pub record IsSessionAt {S : Type 0} (R : Replying S) (quits : List ℕ → Bool)
   pub quiet : some_quits quits (split_lines bytes).whole ≡ false
 
 -- the line and the count under other names
-pub session_at_equal_line_and_count : {S : Type 0} (R : Replying S) (quits : List ℕ → Bool) (s0 : S) (input w0 left written : Option (List ℕ)) (s : S)
+pub session_at_equal_count : {S : Type 0} (R : Replying S) (quits : List ℕ → Bool) (s0 : S) (input w0 left written : Option (List ℕ)) (s : S)
     (line line' : List ℕ) (n n' : ℕ)
     → IsSessionAt R quits s0 input w0 left written s line n → line' ≡ line → n ≡ n' → IsSessionAt R quits s0 input w0 left written s line' n'
-session_at_equal_line_and_count R quits s0 input w0 left written s line line' n n' at e f =
+session_at_equal_count R quits s0 input w0 left written s line line' n n' at e f =
     record {
       bytes = at.bytes;
       count = at.count ∙ f;
@@ -58,7 +62,7 @@ module _ {S : Type 0} (R : Replying S) (quits : List ℕ → Bool)
     grown =
         Appends-nil w0;
     begun = refl;
-    quiet = some_quits_of_no_lines_is_false quits;
+    quiet = some_quits_nil quits;
   }
 
   module _ (left left' written : Option (List ℕ)) (s : S) (line : List ℕ) (n : ℕ) (at : IsSessionAt R quits s0 input w0 left written s line n) where
@@ -66,7 +70,7 @@ module _ {S : Type 0} (R : Replying S) (quits : List ℕ → Bool)
     pub at_byte : (line' : List ℕ) (b : ℕ) → Consumes left left' (b ∷ []) → eqb b 10 ≡ false → line' ≡ take most_kept_bytes (line ++ b ∷ [])
         → IsSessionAt R quits s0 input w0 left' written s line' (n + 1)
     at_byte line' b took ne kept =
-        let k = split_lines_adds_other_byte_to_rest at.bytes b ne in
+        let k = split_adds_to_rest at.bytes b ne in
         let P : SplitBytes → Type 0 = λ c. LinesAnswered R s0 c.whole at.text s in
         record {
           bytes = at.bytes ++ b ∷ [];
@@ -75,7 +79,7 @@ module _ {S : Type 0} (R : Replying S) (quits : List ℕ → Bool)
           text = at.text;
           answered = subst P (sym k) at.answered;
           grown = at.grown;
-          begun = kept ∙ ap (λ (r : List ℕ). take most_kept_bytes (r ++ b ∷ [])) at.begun ∙ take_of_append_ignores_inner_take most_kept_bytes (split_lines at.bytes).rest (b ∷ [])
+          begun = kept ∙ ap (λ (r : List ℕ). take most_kept_bytes (r ++ b ∷ [])) at.begun ∙ take_append_inner_take most_kept_bytes (split_lines at.bytes).rest (b ∷ [])
               ∙ ap (λ (c : SplitBytes). take most_kept_bytes c.rest) (sym k);
           quiet = ap (λ (c : SplitBytes). some_quits quits c.whole) k ∙ at.quiet;
         }
@@ -91,7 +95,7 @@ module _ {S : Type 0} (R : Replying S) (quits : List ℕ → Bool)
     -- the answers with that to the line whose line feed comes
     fed : (text : List ℕ) (next : S) → R s line text next
         → LinesAnswered R s0 ((split_lines at.bytes).whole ++ (split_lines at.bytes).rest ∷ []) (at.text ++ text) next
-    fed text next is = lines_answered_of_append R s0 (split_lines at.bytes).whole ((split_lines at.bytes).rest ∷ []) at.text text s next at.answered
+    fed text next is = lines_answered_append R s0 (split_lines at.bytes).whole ((split_lines at.bytes).rest ∷ []) at.text text s next at.answered
         (answered_one_line R s (split_lines at.bytes).rest text next (whole_reply text next is))
 
     fed_wrote : (next : S) (written' : Option (List ℕ)) → Replied R s line next written written'
@@ -120,7 +124,7 @@ module _ {S : Type 0} (R : Replying S) (quits : List ℕ → Bool)
         → quits line ≡ false → IsSessionAt R quits s0 input w0 left' written' s' [] (n + 1)
     unfolding split_lines
     at_feed written' s' took p q =
-        let k = split_lines_ends_line_at_line_feed at.bytes [] in
+        let k = split_ends_at_feed at.bytes [] in
         let P : SplitBytes → Type 0 = λ c. LinesAnswered R s0 c.whole (at.text ++ p.text) s' in
         record {
           bytes = at.bytes ++ 10 ∷ [];
@@ -131,7 +135,7 @@ module _ {S : Type 0} (R : Replying S) (quits : List ℕ → Bool)
           grown = Appends-trans w0 written written' at.text p.text at.grown p.grown;
           begun = ap (λ (c : SplitBytes). take most_kept_bytes c.rest) (sym k);
           quiet = ap (λ (c : SplitBytes). some_quits quits c.whole) k
-              ∙ some_quits_of_append_after_no_quit quits (split_lines at.bytes).whole ((split_lines at.bytes).rest ∷ []) at.quiet ∙ some_quits_of_one_line quits (split_lines at.bytes).rest
+              ∙ some_quits_append quits (split_lines at.bytes).whole ((split_lines at.bytes).rest ∷ []) at.quiet ∙ some_quits_of_one_line quits (split_lines at.bytes).rest
               ∙ sym same_quits ∙ q;
         }
 
@@ -151,7 +155,7 @@ module _ {S : Type 0} (R : Replying S) (quits : List ℕ → Bool)
 
       pub quit_known : (next : S) (written' : Option (List ℕ)) → Consumes left left' (10 ∷ []) → Replied R s line next written written'
           → quits line ≡ true → IfSome input (LeadsTo R quits s0 limit (Ok Quit) w0 written')
-      quit_known next written' took p q = input_has_property_if_each_continuation_has input left' (at.bytes ++ 10 ∷ []) (LeadsTo R quits s0 limit (Ok Quit) w0 written')
+      quit_known next written' took p q = consumed_input_satisfies input left' (at.bytes ++ 10 ∷ []) (LeadsTo R quits s0 limit (Ok Quit) w0 written')
           (Consumes-trans input left left' at.bytes (10 ∷ []) at.parts took)
           (λ (r : List ℕ). subst (LeadsTo R quits s0 limit (Ok Quit) w0 written') (sym (append_assoc at.bytes (10 ∷ []) r))
           (leads_quit R quits s0 limit w0 written' at.bytes at.quiet r short (sym same_quits ∙ q) (fed_wrote next written' p)))
@@ -162,7 +166,7 @@ module _ {S : Type 0} (R : Replying S) (quits : List ℕ → Bool)
           × (((split_lines consumed).rest ≡ [] → ⊥) → IsAtEnd left') × WroteInPart R s0 (lines_of consumed) w0 written')
       unfolding split_lines
       feed_failed written' took p =
-          let k = split_lines_ends_line_at_line_feed at.bytes [] in
+          let k = split_ends_at_feed at.bytes [] in
           let lines : lines_of (at.bytes ++ 10 ∷ []) ≡ (split_lines at.bytes).whole ++ (split_lines at.bytes).rest ∷ [] =
           ap (λ (c : SplitBytes). c.whole ++ last_line c.rest) k ∙ append-nil ((split_lines at.bytes).whole ++ (split_lines at.bytes).rest ∷ []) in
           let none : (split_lines (at.bytes ++ 10 ∷ [])).rest ≡ [] = ap (λ (c : SplitBytes). c.rest) k in
@@ -172,7 +176,7 @@ module _ {S : Type 0} (R : Replying S) (quits : List ℕ → Bool)
             taken = Consumes-trans input left left' at.bytes (10 ∷ []) at.parts took;
             within = omega (arith, length-append at.bytes (10 ∷ []), at.count);
             holds = (
-              ap (through quits) lines ∙ through_of_append_after_no_quit quits (split_lines at.bytes).whole ((split_lines at.bytes).rest ∷ []) at.quiet
+              ap (through quits) lines ∙ through_append_no_quit quits (split_lines at.bytes).whole ((split_lines at.bytes).rest ∷ []) at.quiet
                   ∙ ap (λ (t : List (List ℕ)). (split_lines at.bytes).whole ++ t) (through_of_one_line quits (split_lines at.bytes).rest) ∙ sym lines,
               λ some. absurd (some none),
               subst P (sym lines) (fed_part written' p),
@@ -191,14 +195,14 @@ module _ {S : Type 0} (R : Replying S) (quits : List ℕ → Bool)
 
       last_quits : some_quits quits (last_line line) ≡ some_quits quits (last_line (split_lines at.bytes).rest)
       last_quits = ap (λ (l : List ℕ). some_quits quits (last_line l)) at.begun
-          ∙ some_quits_of_last_line_ignores_take quits 1024 (split_lines at.bytes).rest long_quits
+          ∙ quits_ignores_take quits 1024 (split_lines at.bytes).rest long_quits
 
       -- the answers with that to what the input ended in
       all : (text : List ℕ) (last : S) → LinesAnswered R s (last_line line) text last → LinesAnswered R s0 (lines_of at.bytes) (at.text ++ text) last
       all text last done =
           let P : List ℕ → Type 0 = λ l. LinesAnswered R s (last_line l) text last in
-          lines_answered_of_append R s0 (split_lines at.bytes).whole (last_line (split_lines at.bytes).rest) at.text text s last at.answered
-          (answered_last_line_if_prefix_answered R long_replies s (split_lines at.bytes).rest text last (subst P at.begun done))
+          lines_answered_append R s0 (split_lines at.bytes).whole (last_line (split_lines at.bytes).rest) at.text text s last at.answered
+          (answered_last_by_prefix R long_replies s (split_lines at.bytes).rest text last (subst P at.begun done))
 
       all_wrote : (written' : Option (List ℕ)) → Wrote R s (last_line line) written written' → Wrote R s0 (lines_of at.bytes) w0 written'
       all_wrote written' p = record {
@@ -212,7 +216,7 @@ module _ {S : Type 0} (R : Replying S) (quits : List ℕ → Bool)
       -- what the input ended in isn't empty, as what was kept of it isn't
       ended_line : (line ≡ [] → ⊥) → lines_of at.bytes ≡ (split_lines at.bytes).whole ++ (split_lines at.bytes).rest ∷ []
       ended_line some = ap (λ (ls : List (List ℕ)). (split_lines at.bytes).whole ++ ls)
-          (last_line_of_nonempty_is_line_alone (split_lines at.bytes).rest (λ none. some (at.begun ∙ ap (take most_kept_bytes) none)))
+          (last_line_nonempty (split_lines at.bytes).rest (λ none. some (at.begun ∙ ap (take most_kept_bytes) none)))
 
       module _ (took : Consumes left left' []) where
         ended_bytes : Consumes input left' at.bytes
@@ -250,7 +254,7 @@ module _ {S : Type 0} (R : Replying S) (quits : List ℕ → Bool)
               taken = ended_bytes;
               within = omega (arith, at.count);
               holds = (
-                through_of_append_after_no_quit quits (split_lines at.bytes).whole (last_line (split_lines at.bytes).rest) at.quiet
+                through_append_no_quit quits (split_lines at.bytes).whole (last_line (split_lines at.bytes).rest) at.quiet
                     ∙ ap (λ (t : List (List ℕ)). (split_lines at.bytes).whole ++ t) (through_keeps_last_line quits (split_lines at.bytes).rest),
                 λ _. gone,
                 subst P (sym (ended_line some)) (fed_part written' p),
@@ -299,5 +303,11 @@ module _ {S : Type 0} (R : Replying S) (quits : List ℕ → Bool)
     }
 
     pub long_known : IfSome input (LeadsTo R quits s0 limit (Err TooLong) w0 written)
-    long_known = input_has_property_if_each_continuation_has input left at.bytes (LeadsTo R quits s0 limit (Err TooLong) w0 written) at.parts
+    long_known = consumed_input_satisfies input left at.bytes (LeadsTo R quits s0 limit (Err TooLong) w0 written) at.parts
         (λ (r : List ℕ). leads_long R quits s0 limit w0 written at.bytes at.quiet r at.count so_far)
+
+-- a prefix of a text after all of another, where a write may have failed
+pub prefix_after_whole : {A E : Type 0} (r : Result A E) (a b c : Option (List ℕ)) (done text : List ℕ) → Appends a b done
+    → OnErr r (AppendsPrefix b c text) → OnErr r (AppendsPrefix a c (done ++ text))
+prefix_after_whole (Ok x) a b c done text begun f = tt
+prefix_after_whole (Err e) a b c done text begun f = appends_prefix_append a b c done text begun f

@@ -17,38 +17,38 @@ use Rattle.ir_symbols.specs.declared.entry.Entry.TheVariants.{Nothing, Names, Fa
 abbrev is_line_feed : ℕ → Bool
 is_line_feed b = b == 10
 
-test_and_value_if_conditional_is_some : (b : Bool) (m n : ℕ) → cond b (Some m) None ≡ Some n → (b ≡ true) × (m ≡ n)
-test_and_value_if_conditional_is_some true m n e = (refl, cc e)
-test_and_value_if_conditional_is_some false m n e = cc e
+conditional_some_parts : (b : Bool) (m n : ℕ) → cond b (Some m) None ≡ Some n → (b ≡ true) × (m ≡ n)
+conditional_some_parts true m n e = (refl, cc e)
+conditional_some_parts false m n e = cc e
 
-test_is_false_if_conditional_is_none : (b : Bool) (m : ℕ) → cond b (Some m) None ≡ None → b ≡ false
-test_is_false_if_conditional_is_none true m e = cc e
-test_is_false_if_conditional_is_none false m e = refl
+conditional_none_test : (b : Bool) (m : ℕ) → cond b (Some m) None ≡ None → b ≡ false
+conditional_none_test true m e = cc e
+conditional_none_test false m e = refl
 
-split_at_found_line_feed : (text : List ℕ) (n : ℕ) → position is_line_feed text ≡ Some n
+split_at_line_feed : (text : List ℕ) (n : ℕ) → position is_line_feed text ≡ Some n
     → slice_split is_line_feed text ≡ take n text ∷ slice_split is_line_feed (drop (n + 1) text)
-split_at_found_line_feed text n e =
-    let p = test_and_value_if_conditional_is_some (ltb (position_or_len is_line_feed text) (length text)) (position_or_len is_line_feed text) n e in
+split_at_line_feed text n e =
+    let p = conditional_some_parts (ltb (position_or_len is_line_feed text) (length text)) (position_or_len is_line_feed text) n e in
     slice_split_first is_line_feed text 0 (ltb-true _ _ p.0)
     ∙ ap (λ (k : ℕ). take k text ∷ slice_split is_line_feed (drop (k + 1) text)) p.1
 
 split_without_line_feed : (text : List ℕ) → position is_line_feed text ≡ None → slice_split is_line_feed text ≡ text ∷ []
 split_without_line_feed text e =
     let past : length text ≤ position_or_len is_line_feed text =
-    ltb-false _ _ (test_is_false_if_conditional_is_none (ltb (position_or_len is_line_feed text) (length text)) (position_or_len is_line_feed text) e) in
+    ltb-false _ _ (conditional_none_test (ltb (position_or_len is_line_feed text) (length text)) (position_or_len is_line_feed text) e) in
     slice_split_none is_line_feed text (λ k d l. fails_before_first is_line_feed text k d (omega (arith, past, l)))
 
 -- the first line, where a line feed ends it
-pub lines_of_text_by_first_line : (text line : List ℕ) (n : ℕ) → position is_line_feed text ≡ Some n → line ≡ strip_carriage_return (take n text)
+pub map_lines_first : (text line : List ℕ) (n : ℕ) → position is_line_feed text ≡ Some n → line ≡ strip_carriage_return (take n text)
     → map_lines text ≡ line ∷ map_lines (take (length text - (n + 1)) (drop (n + 1) text))
-lines_of_text_by_first_line text line n e f =
-    ap (λ (parts : List (List ℕ)). map strip_carriage_return parts) (split_at_found_line_feed text n e)
+map_lines_first text line n e f =
+    ap (λ (parts : List (List ℕ)). map strip_carriage_return parts) (split_at_line_feed text n e)
     ∙ ap (λ (first : List ℕ). first ∷ map_lines (drop (n + 1) text)) (sym f)
     ∙ ap (λ (rest : List ℕ). line ∷ map_lines rest) (sym (take_rest text (n + 1)))
 
 -- the last line
-pub lines_of_text_without_line_feed : (text line : List ℕ) → position is_line_feed text ≡ None → line ≡ strip_carriage_return text → map_lines text ≡ line ∷ []
-lines_of_text_without_line_feed text line e f =
+pub map_lines_single : (text line : List ℕ) → position is_line_feed text ≡ None → line ≡ strip_carriage_return text → map_lines text ≡ line ∷ []
+map_lines_single text line e f =
     ap (λ (parts : List (List ℕ)). map strip_carriage_return parts) (split_without_line_feed text e) ∙ ap (λ (first : List ℕ). first ∷ []) (sym f)
 
 -- ---- reading
@@ -68,10 +68,10 @@ abbrev pub with_all : List Symbol → Result (List Symbol) ℕ → Result (List 
 with_all first (Ok symbols) = Ok (first ++ symbols)
 with_all first (Err number) = Err number
 
-with_all_of_with_first_pushes_symbol : (first : List Symbol) (s : Symbol) (read : Result (List Symbol) ℕ)
+with_first_pushes : (first : List Symbol) (s : Symbol) (read : Result (List Symbol) ℕ)
     → with_all first (with_first s read) ≡ with_all (first ++ s ∷ []) read
-with_all_of_with_first_pushes_symbol first s (Ok symbols) = ap (λ (l : List Symbol). Ok l) (sym (append_assoc first (s ∷ []) symbols))
-with_all_of_with_first_pushes_symbol first s (Err number) = refl
+with_first_pushes first s (Ok symbols) = ap (λ (l : List Symbol). Ok l) (sym (append_assoc first (s ∷ []) symbols))
+with_first_pushes first s (Err number) = refl
 
 -- the next of the lines that are left
 lines_left_by_next_line : (left after : Option (Bor (List ℕ))) (text : Bor (List ℕ)) (line : List ℕ) → left ≡ Some text
@@ -81,46 +81,46 @@ lines_left_by_next_line left None text line e h = ap lines_left e ∙ h
 lines_left_by_next_line left (Some rest) text line e h = ap lines_left e ∙ h
 
 -- what it says, and the others
-symbols_from_by_next_line : (number : ℕ) (left after : Option (Bor (List ℕ))) (text : Bor (List ℕ)) (line : List ℕ) (entry : Entry) → left ≡ Some text
+symbols_next_line : (number : ℕ) (left after : Option (Bor (List ℕ))) (text : Bor (List ℕ)) (line : List ℕ) (entry : Entry) → left ≡ Some text
     → MatchOption after (map_lines text.now ≡ line ∷ []) (λ rest. map_lines text.now ≡ line ∷ map_lines rest.now)
     → entry ≡ map_entry line
     → symbols_from (number + 1) (lines_left left) ≡ with_entry (number + 1) entry (symbols_from (number + 1 + 1) (lines_left after))
 unfolding symbols_from
-symbols_from_by_next_line number left after text line entry e h f =
+symbols_next_line number left after text line entry e h f =
     ap (symbols_from (number + 1)) (lines_left_by_next_line left after text line e h)
     ∙ ap (λ (said : Entry). with_entry (number + 1) said (symbols_from (number + 1 + 1) (lines_left after))) (sym f)
 
 -- of an empty rest
-pub symbols_from_no_lines_left : (number : ℕ) (left : Option (Bor (List ℕ))) → ((text : Bor (List ℕ)) → left ≡ Some text → ⊥)
+pub symbols_no_lines : (number : ℕ) (left : Option (Bor (List ℕ))) → ((text : Bor (List ℕ)) → left ≡ Some text → ⊥)
     → symbols_from number (lines_left left) ≡ Ok []
 unfolding symbols_from
-symbols_from_no_lines_left number None h = refl
-symbols_from_no_lines_left number (Some text) h = absurd (h text refl)
+symbols_no_lines number None h = refl
+symbols_no_lines number (Some text) h = absurd (h text refl)
 
 -- a line that says nothing, one of a symbol, and a faulty one
-pub symbols_after_line_that_says_nothing : (whole : Result (List Symbol) ℕ) (first : List Symbol) (number : ℕ) (left after : Option (Bor (List ℕ))) (text : Bor (List ℕ))
+pub symbols_silent_line : (whole : Result (List Symbol) ℕ) (first : List Symbol) (number : ℕ) (left after : Option (Bor (List ℕ))) (text : Bor (List ℕ))
     (line : List ℕ) → left ≡ Some text
     → MatchOption after (map_lines text.now ≡ line ∷ []) (λ rest. map_lines text.now ≡ line ∷ map_lines rest.now) → Nothing ≡ map_entry line
     → with_all first (symbols_from (number + 1) (lines_left left)) ≡ whole
     → with_all first (symbols_from (number + 1 + 1) (lines_left after)) ≡ whole
-symbols_after_line_that_says_nothing whole first number left after text line e h f done =
-    sym (ap (with_all first) (symbols_from_by_next_line number left after text line Nothing e h f)) ∙ done
+symbols_silent_line whole first number left after text line e h f done =
+    sym (ap (with_all first) (symbols_next_line number left after text line Nothing e h f)) ∙ done
 
-pub symbols_after_symbol_line : (whole : Result (List Symbol) ℕ) (first : List Symbol) (number : ℕ) (left after : Option (Bor (List ℕ))) (text : Bor (List ℕ))
+pub symbols_symbol_line : (whole : Result (List Symbol) ℕ) (first : List Symbol) (number : ℕ) (left after : Option (Bor (List ℕ))) (text : Bor (List ℕ))
     (line : List ℕ) (s : Symbol) → left ≡ Some text
     → MatchOption after (map_lines text.now ≡ line ∷ []) (λ rest. map_lines text.now ≡ line ∷ map_lines rest.now) → Names s ≡ map_entry line
     → with_all first (symbols_from (number + 1) (lines_left left)) ≡ whole
     → with_all (first ++ s ∷ []) (symbols_from (number + 1 + 1) (lines_left after)) ≡ whole
-symbols_after_symbol_line whole first number left after text line s e h f done =
-    sym (ap (with_all first) (symbols_from_by_next_line number left after text line (Names s) e h f)
-    ∙ with_all_of_with_first_pushes_symbol first s (symbols_from (number + 1 + 1) (lines_left after))) ∙ done
+symbols_symbol_line whole first number left after text line s e h f done =
+    sym (ap (with_all first) (symbols_next_line number left after text line (Names s) e h f)
+    ∙ with_first_pushes first s (symbols_from (number + 1 + 1) (lines_left after))) ∙ done
 
-pub symbols_stop_at_faulty_line : (whole : Result (List Symbol) ℕ) (first : List Symbol) (number : ℕ) (left after : Option (Bor (List ℕ))) (text : Bor (List ℕ))
+pub symbols_faulty_line : (whole : Result (List Symbol) ℕ) (first : List Symbol) (number : ℕ) (left after : Option (Bor (List ℕ))) (text : Bor (List ℕ))
     (line : List ℕ) → left ≡ Some text
     → MatchOption after (map_lines text.now ≡ line ∷ []) (λ rest. map_lines text.now ≡ line ∷ map_lines rest.now) → Faulty ≡ map_entry line
     → with_all first (symbols_from (number + 1) (lines_left left)) ≡ whole → whole ≡ Err (number + 1)
-symbols_stop_at_faulty_line whole first number left after text line e h f done =
-    sym done ∙ ap (with_all first) (symbols_from_by_next_line number left after text line Faulty e h f)
+symbols_faulty_line whole first number left after text line e h f done =
+    sym done ∙ ap (with_all first) (symbols_next_line number left after text line Faulty e h f)
 
 -- there are fewer bytes left
 pub size_left_falls : (left after : Option (Bor (List ℕ))) (text : Bor (List ℕ)) → left ≡ Some text

@@ -1,5 +1,6 @@
 -- Maps that were written are read again.
-use Rattle.std.proofs.Common.{◌≡◌, ◌+◌, ◌-◌, ◌^◌, ◌<◌, ℕ, zero, suc, Bool, true, false, cond, List, [], ◌∷◌, ◌++◌, length, take, drop, get_or, refl, sym, ap, subst, ◌∙◌, arith, append_assoc, length-append}
+use Rattle.std.proofs.Common.{◌≡◌, ◌+◌, ◌-◌, ◌^◌, ◌<◌, ℕ, zero, suc, Bool, true, false, cond, List, [], ◌∷◌, ◌++◌, length, take, drop}
+use Rattle.std.proofs.Common.{get_or, refl, sym, ap, subst, ◌∙◌, arith, append_assoc, length-append}
 use Rattle.std.specs.Prelude.{Some, None, option_and_then, Ok, map, ◌==◌, ◌&&◌}
 use Rattle.std.specs.Int.{w32, to_be_bytes}
 use Rattle.std.specs.List.Sorted.{IsNonDecreasingBy}
@@ -13,10 +14,11 @@ use Rattle.std.proofs.lemmas.List.Elements.{All-nil, All-cons, All-head, All-tai
 use Rattle.std.proofs.lemmas.List.Splits.{slice_split_at}
 use Rattle.hex.specs.Hex.{IsBytes, decode_sized, is_hex_digit}
 use Rattle.hex.proofs.HexLemmas.{length-encode_with, decode_of-encode_lower, decode_of-ok, decode_sized-twice}
-use Rattle.ir_symbols.specs.Symbols.{Symbol, IsSymbol, address_of, is_kind, is_mark, is_printable, is_name}
-use Rattle.ir_symbols.specs.Maps.{map_word, line_of, map_text, address_in, symbol_by, symbol_in, leading_blanks, is_undefined, is_passed_over, map_entry, map_lines, symbols_from, symbols_at, with_first, with_entry, IsTableOf}
+use Rattle.ir_symbols.specs.Symbols.{Symbol, IsSymbol, symbol_address, is_kind, is_mark, is_printable, is_name}
+use Rattle.ir_symbols.specs.Maps.{map_word, map_line, map_text, address_in, symbol_by, symbol_in, leading_blanks, is_undefined}
+use Rattle.ir_symbols.specs.Maps.{is_passed_over, map_entry, map_lines, symbols_from, symbols_at, with_first, with_entry, IsTableOf}
 use Rattle.ir_symbols.specs.Tables.{IsSortOf}
-use Rattle.ir_symbols.proofs.OneSort.{sorts_of_symbols_equal, sorted_symbols_are_own_sort}
+use Rattle.ir_symbols.proofs.OneSort.{sorts_of_symbols_equal, sorted_is_own_sort}
 use Rattle.ir_symbols.specs.declared.entry.Entry.{Entry}
 use Rattle.ir_symbols.specs.declared.entry.Entry.TheVariants.{Names}
 
@@ -47,8 +49,8 @@ address_in_hex_word n h =
 abbrev line_without_feed : Symbol → List ℕ
 line_without_feed s = map_word s.address ++ 32 ∷ s.kind ∷ 32 ∷ s.name
 
-line_of_splits_off_line_feed : (s : Symbol) (rest : List ℕ) → line_of s ++ rest ≡ line_without_feed s ++ 10 ∷ rest
-line_of_splits_off_line_feed s rest =
+line_of_ends_in_feed : (s : Symbol) (rest : List ℕ) → map_line s ++ rest ≡ line_without_feed s ++ 10 ∷ rest
+line_of_ends_in_feed s rest =
     append_assoc (map_word s.address) (32 ∷ s.kind ∷ 32 ∷ (s.name ++ 10 ∷ [])) rest
     ∙ ap (λ (l : List ℕ). map_word s.address ++ 32 ∷ s.kind ∷ 32 ∷ l) (append_assoc s.name (10 ∷ []) rest)
     ∙ sym (append_assoc (map_word s.address) (32 ∷ s.kind ∷ 32 ∷ s.name) (10 ∷ rest))
@@ -57,8 +59,8 @@ line_of_splits_off_line_feed s rest =
 abbrev IsNoLineFeed : ℕ → Type 0
 IsNoLineFeed b = b == 10 ≡ false
 
-hex_digit_is_no_line_feed : (b : ℕ) → is_hex_digit b ≡ true → IsNoLineFeed b
-hex_digit_is_no_line_feed b h = grind (arith, nat_tests)
+hex_digit_no_line_feed : (b : ℕ) → is_hex_digit b ≡ true → IsNoLineFeed b
+hex_digit_no_line_feed b h = grind (arith, nat_tests)
 
 kind_is_no_line_feed : (b : ℕ) → is_kind b ≡ true → IsNoLineFeed b
 kind_is_no_line_feed b h = grind (arith, nat_tests)
@@ -70,18 +72,18 @@ name_has_no_line_feed (b ∷ name) h =
     let first : IsNoLineFeed b = let q = p.0 in grind (arith, nat_tests) in
     All-cons IsNoLineFeed b name first (name_has_no_line_feed name p.1)
 
-line_without_feed_has_no_feed : (s : Symbol) → IsSymbol s → All IsNoLineFeed (line_without_feed s)
-line_without_feed_has_no_feed s h =
+line_has_no_feed : (s : Symbol) → IsSymbol s → All IsNoLineFeed (line_without_feed s)
+line_has_no_feed s h =
     let digits : All IsNoLineFeed (map_word s.address) =
-    All-weaker (λ b. is_hex_digit b ≡ true) IsNoLineFeed hex_digit_is_no_line_feed (map_word s.address) (hex_word_is_hex_digits s.address) in
+    All-weaker (λ b. is_hex_digit b ≡ true) IsNoLineFeed hex_digit_no_line_feed (map_word s.address) (hex_word_is_hex_digits s.address) in
     let name : All IsNoLineFeed s.name = name_has_no_line_feed s.name (and_parts (list_all is_printable s.name) _ h.name_is).0 in
     All-append IsNoLineFeed (map_word s.address) (32 ∷ s.kind ∷ 32 ∷ s.name) digits
     (All-cons IsNoLineFeed 32 (s.kind ∷ 32 ∷ s.name) refl (All-cons IsNoLineFeed s.kind (32 ∷ s.name) (kind_is_no_line_feed s.kind h.kind_is)
     (All-cons IsNoLineFeed 32 s.name refl name)))
 
 -- a name has a first byte and ends with a mark
-name_is_nonempty_and_its_last_byte_is_mark : (name : List ℕ) → is_name name ≡ true → (0 < length name) × (is_mark (get_or name (length name - 1) 0) ≡ true)
-name_is_nonempty_and_its_last_byte_is_mark name h =
+name_ends_in_mark : (name : List ℕ) → is_name name ≡ true → (0 < length name) × (is_mark (get_or name (length name - 1) 0) ≡ true)
+name_ends_in_mark name h =
     let ends = and_parts (is_mark (get_or name 0 0)) (is_mark (get_or name (length name - 1) 0))
     (and_parts (list_all is_printable name) _ h).1 in
     (some name ends.0, ends.1)
@@ -90,31 +92,31 @@ name_is_nonempty_and_its_last_byte_is_mark name h =
     some [] e = cc e
     some (b ∷ l) e = omega arith
 
-length_of_line_without_feed : (s : Symbol) → length (line_without_feed s) ≡ 11 + length s.name
-length_of_line_without_feed s =
+length-line_without_feed : (s : Symbol) → length (line_without_feed s) ≡ 11 + length s.name
+length-line_without_feed s =
     length-append (map_word s.address) (32 ∷ s.kind ∷ 32 ∷ s.name)
     ∙ (let size = length_of_hex_word s.address in omega (arith, size))
 
-last_byte_of_line_is_that_of_name : (s : Symbol) → 0 < length s.name → get_or (line_without_feed s) (length (line_without_feed s) - 1) 0 ≡ get_or s.name (length s.name - 1) 0
-last_byte_of_line_is_that_of_name s some =
-    let size = length_of_line_without_feed s in
+last_byte_is_of_name : (s : Symbol) → 0 < length s.name → get_or (line_without_feed s) (length (line_without_feed s) - 1) 0 ≡ get_or s.name (length s.name - 1) 0
+last_byte_is_of_name s some =
+    let size = length-line_without_feed s in
     let place : length (line_without_feed s) - 1 - 8 ≡ suc (suc (suc (length s.name - 1))) = omega (arith, size, some) in
     get_or-append_right (map_word s.address) (32 ∷ s.kind ∷ 32 ∷ s.name) 8 (length (line_without_feed s) - 1) 0 (length_of_hex_word s.address) (omega (arith, size))
     ∙ ap (λ (k : ℕ). get_or (32 ∷ s.kind ∷ 32 ∷ s.name) k 0) place
 
-mark_is_no_carriage_return : (b : ℕ) → is_mark b ≡ true → b == 13 ≡ false
-mark_is_no_carriage_return b h = grind (arith, nat_tests)
+mark_is_no_return : (b : ℕ) → is_mark b ≡ true → b == 13 ≡ false
+mark_is_no_return b h = grind (arith, nat_tests)
 
-strip_leaves_line_without_feed_unchanged : (s : Symbol) → IsSymbol s → strip_carriage_return (line_without_feed s) ≡ line_without_feed s
-strip_leaves_line_without_feed_unchanged s h =
-    let ends = name_is_nonempty_and_its_last_byte_is_mark s.name h.name_is in
+strip_leaves_line : (s : Symbol) → IsSymbol s → strip_carriage_return (line_without_feed s) ≡ line_without_feed s
+strip_leaves_line s h =
+    let ends = name_ends_in_mark s.name h.name_is in
     let last : get_or (line_without_feed s) (length (line_without_feed s) - 1) 0 == 13 ≡ false =
-    ap (λ (b : ℕ). b == 13) (last_byte_of_line_is_that_of_name s ends.0) ∙ mark_is_no_carriage_return (get_or s.name (length s.name - 1) 0) ends.1 in
+    ap (λ (b : ℕ). b == 13) (last_byte_is_of_name s ends.0) ∙ mark_is_no_return (get_or s.name (length s.name - 1) 0) ends.1 in
     rw last refl
 
 -- what the line says
-symbol_in_line_without_feed : (s : Symbol) → IsSymbol s → symbol_in (line_without_feed s) ≡ Some s
-symbol_in_line_without_feed s h =
+symbol_in-own_line : (s : Symbol) → IsSymbol s → symbol_in (line_without_feed s) ≡ Some s
+symbol_in-own_line s h =
     let size = length_of_hex_word s.address in
     let first : take 8 (line_without_feed s) ≡ map_word s.address = take_at (map_word s.address) (32 ∷ s.kind ∷ 32 ∷ s.name) 8 size in
     let rest : drop 8 (line_without_feed s) ≡ 32 ∷ s.kind ∷ 32 ∷ s.name = drop_at (map_word s.address) (32 ∷ s.kind ∷ 32 ∷ s.name) 8 size in
@@ -133,33 +135,33 @@ symbol_in_line_without_feed s h =
 hex_digit_is_no_blank : (b : ℕ) → is_hex_digit b ≡ true → b == 32 ≡ false
 hex_digit_is_no_blank b h = grind (arith, nat_tests)
 
-leading_blanks_of_digits_are_zero : (digits rest : List ℕ) → 0 < length digits → AllPass is_hex_digit digits → leading_blanks (digits ++ rest) ≡ 0
-leading_blanks_of_digits_are_zero [] rest some h = absurd (omega arith)
-leading_blanks_of_digits_are_zero (b ∷ digits) rest some h = let e = hex_digit_is_no_blank b (All-head (λ c. is_hex_digit c ≡ true) b digits h) in rw e refl
+digits_no_blanks : (digits rest : List ℕ) → 0 < length digits → AllPass is_hex_digit digits → leading_blanks (digits ++ rest) ≡ 0
+digits_no_blanks [] rest some h = absurd (omega arith)
+digits_no_blanks (b ∷ digits) rest some h = let e = hex_digit_is_no_blank b (All-head (λ c. is_hex_digit c ≡ true) b digits h) in rw e refl
 
-symbol_line_is_not_undefined : (s : Symbol) → is_undefined (line_without_feed s) ≡ false
-symbol_line_is_not_undefined s =
+line_is_not_undefined : (s : Symbol) → is_undefined (line_without_feed s) ≡ false
+line_is_not_undefined s =
     let size = length_of_hex_word s.address in
-    let none : leading_blanks (line_without_feed s) ≡ 0 = leading_blanks_of_digits_are_zero (map_word s.address) (32 ∷ s.kind ∷ 32 ∷ s.name) (omega (arith, size)) (hex_word_is_hex_digits s.address) in
+    let none : leading_blanks (line_without_feed s) ≡ 0 = digits_no_blanks (map_word s.address) (32 ∷ s.kind ∷ 32 ∷ s.name) (omega (arith, size)) (hex_word_is_hex_digits s.address) in
     rw none refl
 
 entry_of_symbol_line : (s : Symbol) → IsSymbol s → is_passed_over s.kind ≡ false → map_entry (line_without_feed s) ≡ Names s
 unfolding map_entry
 entry_of_symbol_line s h placed =
-    let size = length_of_line_without_feed s in
+    let size = length-line_without_feed s in
     let some : length (line_without_feed s) == 0 ≡ false = grind (arith, nat_tests) in
-    let other = symbol_line_is_not_undefined s in
-    let read = symbol_in_line_without_feed s h in
+    let other = line_is_not_undefined s in
+    let read = symbol_in-own_line s h in
     rw (some, other, read, placed) refl
 
 -- ---- all lines
 
-lines_of_symbol_line : (s : Symbol) (rest : List ℕ) → IsSymbol s → map_lines (line_of s ++ rest) ≡ line_without_feed s ∷ map_lines rest
+lines_of_symbol_line : (s : Symbol) (rest : List ℕ) → IsSymbol s → map_lines (map_line s ++ rest) ≡ line_without_feed s ∷ map_lines rest
 lines_of_symbol_line s rest h =
-    ap map_lines (line_of_splits_off_line_feed s rest)
+    ap map_lines (line_of_ends_in_feed s rest)
     ∙ ap (λ (parts : List (List ℕ)). map strip_carriage_return parts)
-    (slice_split_at (λ b. b == 10) (line_without_feed s) 10 rest (line_without_feed_has_no_feed s h) refl)
-    ∙ ap (λ (line : List ℕ). line ∷ map_lines rest) (strip_leaves_line_without_feed_unchanged s h)
+    (slice_split_at (λ b. b == 10) (line_without_feed s) 10 rest (line_has_no_feed s h) refl)
+    ∙ ap (λ (line : List ℕ). line ∷ map_lines rest) (strip_leaves_line s h)
 
 -- a symbol that names a place
 abbrev pub NamesPlace : Symbol → Type 0
@@ -177,8 +179,8 @@ symbols_from_map_text number (s ∷ symbols) h placed =
     ∙ ap (with_first s) (symbols_from_map_text (number + 1) symbols (All-tail IsSymbol s symbols h) (All-tail NamesPlace s symbols placed))
 
 -- a table of what was written is the table
-pub table_of_map_text : (symbols table : List Symbol) → IsNonDecreasingBy address_of symbols → All IsSymbol symbols → All NamesPlace symbols
+pub table_of_map_text : (symbols table : List Symbol) → IsNonDecreasingBy symbol_address symbols → All IsSymbol symbols → All NamesPlace symbols
     → IsTableOf (symbols_at (map_text symbols)) table → table ≡ symbols
 table_of_map_text symbols table rising h placed t =
     let same : t.symbols ≡ symbols = let e = sym t.all_read ∙ symbols_from_map_text 1 symbols h placed in cc in
-    sorts_of_symbols_equal symbols table symbols (subst (λ (l : List Symbol). IsSortOf l table) same t.sorted) (sorted_symbols_are_own_sort symbols rising)
+    sorts_of_symbols_equal symbols table symbols (subst (λ (l : List Symbol). IsSortOf l table) same t.sorted) (sorted_is_own_sort symbols rising)

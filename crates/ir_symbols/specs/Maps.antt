@@ -1,5 +1,6 @@
 -- Maps: symbols in lines, as `nm -n` prints them.
-use Rattle.std.specs.Prelude.{◌≡◌, ℕ, ◌+◌, ◌==◌, ◌||◌, ◌&&◌, nat_le, Bool, false, List, [], ◌∷◌, ◌++◌, length, take, drop, map, flat_map, Option, Some, None, option_map, option_and_then, Result, Ok, Err, if◌then◌else◌}
+use Rattle.std.specs.Prelude.{◌≡◌, ℕ, ◌+◌, ◌==◌, ◌||◌, ◌&&◌, nat_le, Bool, false, List, [], ◌∷◌, ◌++◌, length, take, drop, map, flat_map}
+use Rattle.std.specs.Prelude.{Option, Some, None, option_map, option_and_then, Result, Ok, Err, if◌then◌else◌}
 use Rattle.std.specs.Result.{result_ok}
 use Rattle.std.specs.Int.{w32, to_be_bytes, from_be_bytes}
 use Rattle.std.specs.List.{slice_split, prefix_len}
@@ -19,12 +20,12 @@ abbrev pub map_word : ℕ → List ℕ
 map_word word = encode_lower (to_be_bytes w32 word)
 
 -- the line of a symbol: its address, its kind and its name
-abbrev pub line_of : Symbol → List ℕ
-line_of s = map_word s.address ++ 32 ∷ s.kind ∷ 32 ∷ (s.name ++ 10 ∷ [])
+abbrev pub map_line : Symbol → List ℕ
+map_line s = map_word s.address ++ 32 ∷ s.kind ∷ 32 ∷ (s.name ++ 10 ∷ [])
 
 -- the lines of all symbols
 abbrev pub map_text : List Symbol → List ℕ
-map_text symbols = flat_map line_of symbols
+map_text symbols = flat_map map_line symbols
 
 -- ---- a line
 

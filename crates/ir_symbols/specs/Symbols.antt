@@ -12,8 +12,8 @@ pub record Symbol : Type 0 where
   pub name : List ℕ
 
 -- where a symbol is
-abbrev pub address_of : Symbol → ℕ
-address_of s = s.address
+abbrev pub symbol_address : Symbol → ℕ
+symbol_address s = s.address
 
 -- a letter of either case, or `?`
 abbrev pub is_kind : ℕ → Bool

@@ -3,13 +3,13 @@ use Rattle.std.specs.Prelude.{◌≡◌, ℕ, ◌/◌, ◌^◌, ◌<◌, ◌≤�
 use Rattle.std.specs.Ordering.{nat_cmp}
 use Rattle.std.specs.List.{All}
 use Rattle.std.specs.List.Sorted.{IsPermutation, IsNonDecreasingBy, IsStableByKey}
-use Rattle.ir_symbols.specs.Symbols.{Symbol, address_of}
+use Rattle.ir_symbols.specs.Symbols.{Symbol, symbol_address}
 
 -- the second are the first, put in the order of their addresses; those of one address stay in their order
 pub record IsSortOf (given sorted : List Symbol) : Type 0 where
   pub permutation : IsPermutation given sorted
-  pub rising : IsNonDecreasingBy address_of sorted
-  pub stable : IsStableByKey address_of nat_cmp given sorted
+  pub rising : IsNonDecreasingBy symbol_address sorted
+  pub stable : IsStableByKey symbol_address nat_cmp given sorted
 
 -- ---- the symbols of a range
 
@@ -28,7 +28,7 @@ abbrev pub reaches : ℕ → Symbol → Bool
 reaches address s = nat_le s.address address && s.address / 2 ^ 16 == address / 2 ^ 16
 
 -- of the symbols that reach the address, one at the greatest address, and of those the first
-pub record IsNearest (symbols : List Symbol) (address : ℕ) (s : Symbol) : Type 0 where
+pub record IsNearestSymbol (symbols : List Symbol) (address : ℕ) (s : Symbol) : Type 0 where
   pub before : List Symbol
   pub after : List Symbol
   pub parts : symbols ≡ before ++ s ∷ after

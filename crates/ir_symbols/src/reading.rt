@@ -2,7 +2,8 @@
 
 ghost use Rattle.std.specs.Prelude.{◌≡◌, ◌==◌, ◌<◌, ◌≤◌, [], ◌∷◌, length, position, IfOk, IfErr, IfSome, MatchOption};
 ghost use Rattle.std.specs.Str.Lines.{strip_carriage_return};
-ghost use Rattle.ir_symbols.specs.Maps.{address_in, symbol_by, symbol_in, leading_blanks, is_label, is_undefined, is_passed_over, map_entry, map_lines, symbols_at, GivesSymbols, IsMapFault, IsTableOf};
+ghost use Rattle.ir_symbols.specs.Maps.{address_in, symbol_by, symbol_in, leading_blanks, is_label, is_undefined, is_passed_over};
+ghost use Rattle.ir_symbols.specs.Maps.{map_entry, map_lines, symbols_at, GivesSymbols, IsMapFault, IsTableOf};
 
 use crate::entry::Entry;
 use crate::legal::{is_kind, is_name};

@@ -4,8 +4,8 @@ ghost use Rattle.std.specs.Prelude.{◌≡◌, ◌<◌, ◌≤◌, List, length,
 ghost use Rattle.std.specs.Option.{option_copied};
 ghost use Rattle.std.specs.List.{AllPass};
 ghost use Rattle.std.specs.List.Sorted.{IsNonDecreasingBy, IsPartitionPoint};
-ghost use Rattle.ir_symbols.specs.Symbols.{address_of};
-ghost use Rattle.ir_symbols.specs.Tables.{IsSortOf, symbols_within, reaches, IsNearest, nearest};
+ghost use Rattle.ir_symbols.specs.Symbols.{symbol_address};
+ghost use Rattle.ir_symbols.specs.Tables.{IsSortOf, symbols_within, reaches, IsNearestSymbol, nearest};
 
 use crate::symbol::Symbol;
 use std::alloc::{AllocError, Global};
@@ -20,37 +20,37 @@ pub struct SymbolTable {
 impl Model for SymbolTable {
     ghost use Rattle.std.specs.Prelude.{List};
     ghost use Rattle.std.specs.List.Sorted.{IsNonDecreasingBy};
-    ghost use Rattle.ir_symbols.specs.Symbols.{Symbol, address_of};
+    ghost use Rattle.ir_symbols.specs.Symbols.{Symbol, symbol_address};
 
     ghost Value = { List Symbol };
 
     ghost view = { λ t. t.symbols.items };
 
-    ghost invariant = { λ t. IsNonDecreasingBy address_of t.symbols.items };
+    ghost invariant = { λ t. IsNonDecreasingBy symbol_address t.symbols.items };
 }
 
 // How many symbols are below the address.
 fn count_below(symbols: &[Symbol], address: u32) -> usize
-    requires { IsNonDecreasingBy address_of symbols.now }
+    requires { IsNonDecreasingBy symbol_address symbols.now }
     ensures bound { result ≤ length symbols.now }
-    ensures point { IsPartitionPoint (λ s. address_of s < address) (λ s. address ≤ address_of s) symbols.now result }
+    ensures point { IsPartitionPoint (λ s. symbol_address s < address) (λ s. address ≤ symbol_address s) symbols.now result }
 {
     symbols.partition_point(|symbol| symbol.address() < address)
 }
 
 // How many symbols are at the address or below it.
 fn count_up_to(symbols: &[Symbol], address: u32) -> usize
-    requires { IsNonDecreasingBy address_of symbols.now }
+    requires { IsNonDecreasingBy symbol_address symbols.now }
     ensures bound { result ≤ length symbols.now }
-    ensures point { IsPartitionPoint (λ s. address_of s ≤ address) (λ s. address < address_of s) symbols.now result }
+    ensures point { IsPartitionPoint (λ s. symbol_address s ≤ address) (λ s. address < symbol_address s) symbols.now result }
 {
     symbols.partition_point(|symbol| symbol.address() <= address)
 }
 
 // The nearest of symbols that are in the order of their addresses.
 fn nearest_of(symbols: &[Symbol], address: u32) -> Option<&Symbol>
-    requires { IsNonDecreasingBy address_of symbols.now }
-    ensures { MatchOption result (AllPass (λ s. not (reaches address s)) symbols.now) (λ s. IsNearest symbols.now address s.now) }
+    requires { IsNonDecreasingBy symbol_address symbols.now }
+    ensures { MatchOption result (AllPass (λ s. not (reaches address s)) symbols.now) (λ s. IsNearestSymbol symbols.now address s.now) }
 {
     let reached = &symbols[..count_up_to(symbols, address)];
     let highest = reached.last()?.address();
@@ -77,7 +77,7 @@ impl SymbolTable {
     /// The symbols.
     pub fn as_slice(&self) -> &[Symbol]
         ensures value { result.now ≡ self.now }
-        ensures rising { IsNonDecreasingBy address_of result.now }
+        ensures rising { IsNonDecreasingBy symbol_address result.now }
     {
         self.symbols.as_slice()
     }
@@ -94,8 +94,8 @@ impl SymbolTable {
     /// Of the symbols that reach the address, one at the greatest address, and of those the first. A symbol reaches its
     /// own address and those after it in the same 64 KiB.
     pub fn nearest(&self, address: u32) -> Option<&Symbol>
-        ensures found { IfSome result (λ symbol. IsNearest self.now address symbol.now) }
-        ensures none { IfNone result ((symbol : _) → IsNearest self.now address symbol → ⊥) }
+        ensures found { IfSome result (λ symbol. IsNearestSymbol self.now address symbol.now) }
+        ensures none { IfNone result ((symbol : _) → IsNearestSymbol self.now address symbol → ⊥) }
         ensures value { option_copied result ≡ nearest self.now address }
     {
         nearest_of(self.symbols.as_slice(), address)

@@ -2,14 +2,14 @@
 
 ghost use Rattle.std.specs.Prelude.{◌≡◌, IfOk};
 ghost use Rattle.std.specs.String.{string_bytes};
-ghost use Rattle.ir_symbols.specs.Maps.{line_of, map_text};
+ghost use Rattle.ir_symbols.specs.Maps.{map_line, map_text};
 
 use crate::symbol::Symbol;
 use crate::table::SymbolTable;
 use std::alloc::{AllocError, Global};
 
 fn line(alloc: Global, symbol: &Symbol) -> Result<String, AllocError>
-    ensures { IfOk result (λ line. string_bytes line ≡ line_of symbol.now) }
+    ensures { IfOk result (λ line. string_bytes line ≡ map_line symbol.now) }
 {
     let digits = hex::encode(alloc, symbol.address().to_be_bytes())?;
     let (kind, name) = (symbol.kind(), symbol.name());

@@ -1,7 +1,7 @@
 //! A guest of two threads that is brought back and forth, and what is kept of it.
 
 ghost use Rattle.std.specs.Prelude.{◌<◌, length, IfOk};
-ghost use Rattle.ir_moves.specs.Checkpoints.{AreCheckpoints, Stands};
+ghost use Rattle.ir_moves.specs.Checkpoints.{AreCheckpoints, StandsAtState};
 
 use crate::guests::COUNTDOWN;
 use crate::replays::{fitted, is_cut};
@@ -45,9 +45,9 @@ fn brought<R: Threads + Clock + Sync>(
     at: Pair,
 ) -> Result<Option<Pair>, Fail>
     requires checkpoints { AreCheckpoints fitted.now checkpoints.old }
-    requires stands { Stands fitted.now state.old }
+    requires stands { StandsAtState fitted.now state.old }
     ensures checkpoints { AreCheckpoints fitted.now checkpoints.new }
-    ensures stands { Stands fitted.now state.new }
+    ensures stands { StandsAtState fitted.now state.new }
 {
     let target = Cut::new(Vec::from_slice(alloc, &[at.0, at.1])?);
     if !is_cut(fitted, &target) {
@@ -71,9 +71,9 @@ fn seen_at<R: Threads + Clock + Sync>(
     at: Pair,
 ) -> Result<Seen, Fail>
     requires checkpoints { AreCheckpoints fitted.now checkpoints.old }
-    requires stands { Stands fitted.now state.old }
+    requires stands { StandsAtState fitted.now state.old }
     ensures checkpoints { AreCheckpoints fitted.now checkpoints.new }
-    ensures stands { Stands fitted.now state.new }
+    ensures stands { StandsAtState fitted.now state.new }
 {
     let there = brought(rt, alloc, fitted, checkpoints, state, at)?;
     Ok((there, checkpoints.passed().last()))
@@ -88,7 +88,7 @@ fn walk<R: Threads + Clock + Sync>(
     state: &mut State,
 ) -> Result<[Seen; 3], Fail>
     requires checkpoints { AreCheckpoints fitted.now checkpoints.old }
-    requires stands { Stands fitted.now state.old }
+    requires stands { StandsAtState fitted.now state.old }
 {
     Ok([
         seen_at(rt, alloc, fitted, checkpoints, state, (LAST, LAST))?,
@@ -165,7 +165,7 @@ fn keep_one<R: Threads + Clock + Sync>(
     state: &mut State,
 ) -> Result<(), Fail>
     requires checkpoints { AreCheckpoints fitted.now checkpoints.old }
-    requires stands { Stands fitted.now state.old }
+    requires stands { StandsAtState fitted.now state.old }
     ensures checkpoints { AreCheckpoints fitted.now checkpoints.new }
 {
     brought(rt, alloc, fitted, checkpoints, state, (9, 3))?;

@@ -2,7 +2,7 @@
 use Rattle.std.proofs.Common.{◌≡◌, ℕ, List, [], ◌++◌, Option, Bool, Result, Ok, Err, refl, sym, ap, ◌∙◌, subst, append_assoc, append-nil}
 use Rattle.std.specs.Io.KnownBytes.{Appends}
 use Rattle.std.proofs.KnownBytes.{Appends-nil, Appends-trans}
-use Rattle.ir_stream.proofs.CallerLemmas.{appends_prefix_of_append_if_first_appended, appends_prefix_of_longer_text, writes_or_fails_if_all_written, writes_or_fails_if_part_written}
+use Rattle.ir_stream.proofs.CallerLemmas.{appends_prefix_append, appends_prefix_longer, writes_or_fails_whole, writes_or_fails_part}
 use Rattle.ir_stream.specs.Answers.{AppendsPrefix}
 use Rattle.ir_stream.specs.Writing.{WritesText}
 use Rattle.ir_text.specs.Buffered.{Buffered}
@@ -12,8 +12,8 @@ pub buffered_at_start : (a : Option (List ℕ)) (rest text : List ℕ) → rest 
 buffered_at_start a rest text e = record { part = []; written = Appends-nil a; others = e }
 
 -- the whole buffer was written
-pub buffered_after_whole_write : (a b : Option (List ℕ)) (buffer after : List ℕ) → Appends a b buffer → after ≡ [] → Buffered a b after buffer
-buffered_after_whole_write a b buffer after done none = record {
+pub buffered_whole_write : (a b : Option (List ℕ)) (buffer after : List ℕ) → Appends a b buffer → after ≡ [] → Buffered a b after buffer
+buffered_whole_write a b buffer after done none = record {
   part = buffer;
   written = done;
   others = ap (λ (x : List ℕ). buffer ++ x) none ∙ append-nil buffer;
@@ -36,45 +36,45 @@ buffered_after_line_put a b c buffer kept after line left more text f g put e = 
 }
 
 -- of what is left, the first line was written
-pub buffered_after_line_written : (a b c : Option (List ℕ)) (left line more text : List ℕ) → Buffered a b left text → left ≡ line ++ more
+pub buffered_line : (a b c : Option (List ℕ)) (left line more text : List ℕ) → Buffered a b left text → left ≡ line ++ more
     → Appends b c line → Buffered a c more text
-buffered_after_line_written a b c left line more text f e done = record {
+buffered_line a b c left line more text f e done = record {
   part = f.part ++ line;
   written = Appends-trans a b c f.part line f.written done;
   others = append_assoc f.part line more ∙ ap (λ (x : List ℕ). f.part ++ x) (sym e) ∙ f.others;
 }
 
 -- nothing is left
-pub text_written_if_nothing_left : (a b : Option (List ℕ)) (left text : List ℕ) → Buffered a b left text → left ≡ [] → Appends a b text
-text_written_if_nothing_left a b left text f none =
+pub written_none_left : (a b : Option (List ℕ)) (left text : List ℕ) → Buffered a b left text → left ≡ [] → Appends a b text
+written_none_left a b left text f none =
     subst (Appends a b) (sym (append-nil f.part) ∙ ap (λ (x : List ℕ). f.part ++ x) (sym none) ∙ f.others) f.written
 
 -- the buffer was written at the end
-pub text_written_after_last_write : (a b c : Option (List ℕ)) (buffer left text : List ℕ) → Buffered a b (buffer ++ left) text → Appends b c buffer
+pub written_after_last : (a b c : Option (List ℕ)) (buffer left text : List ℕ) → Buffered a b (buffer ++ left) text → Appends b c buffer
     → left ≡ [] → Appends a c text
-text_written_after_last_write a b c buffer left text f done none =
-    text_written_if_nothing_left a c left text (buffered_after_line_written a b c (buffer ++ left) buffer left text f refl done) none
+written_after_last a b c buffer left text f done none =
+    written_none_left a c left text (buffered_line a b c (buffer ++ left) buffer left text f refl done) none
 
 -- a write of the buffer failed
-pub prefix_written_if_write_fails : (a b c : Option (List ℕ)) (buffer left text : List ℕ) → Buffered a b (buffer ++ left) text → AppendsPrefix b c buffer
+pub prefix_by_failed_write : (a b c : Option (List ℕ)) (buffer left text : List ℕ) → Buffered a b (buffer ++ left) text → AppendsPrefix b c buffer
     → AppendsPrefix a c text
-prefix_written_if_write_fails a b c buffer left text f prefix =
+prefix_by_failed_write a b c buffer left text f prefix =
     subst (AppendsPrefix a c) (append_assoc f.part buffer left ∙ f.others)
-    (appends_prefix_of_longer_text a c (f.part ++ buffer) left (appends_prefix_of_append_if_first_appended a b c f.part buffer f.written prefix))
+    (appends_prefix_longer a c (f.part ++ buffer) left (appends_prefix_append a b c f.part buffer f.written prefix))
 
 -- the write of a line failed
-pub prefix_written_if_line_fails : (a b c : Option (List ℕ)) (left line more text : List ℕ) → Buffered a b left text → left ≡ line ++ more
+pub prefix_by_failed_line : (a b c : Option (List ℕ)) (left line more text : List ℕ) → Buffered a b left text → left ≡ line ++ more
     → AppendsPrefix b c line → AppendsPrefix a c text
-prefix_written_if_line_fails a b c left line more text f e prefix =
-    prefix_written_if_write_fails a b c line more text (subst (λ (x : List ℕ). Buffered a b x text) e f) prefix
+prefix_by_failed_line a b c left line more text f e prefix =
+    prefix_by_failed_write a b c line more text (subst (λ (x : List ℕ). Buffered a b x text) e f) prefix
 
 -- the last call, which writes the buffer
-pub writes_text_by_last_buffer : {D A E : Type 0} (written : D → Option (List ℕ)) {broken : D → Bool} {a b c : D} (buffer left text slice : List ℕ)
+pub writes_by_last_buffer : {D A E : Type 0} (written : D → Option (List ℕ)) {broken : D → Bool} {a b c : D} (buffer left text slice : List ℕ)
     (r : Result A E) → Buffered (written a) (written b) (buffer ++ left) text → left ≡ [] → slice ≡ buffer → broken b ≡ broken a
     → WritesText written broken b c slice r → WritesText written broken a c text r
-writes_text_by_last_buffer written {broken} {a} {b} {c} buffer left text slice (Ok x) f none same stays w = writes_or_fails_if_all_written
-    (text_written_after_last_write (written a) (written b) (written c) buffer left text f (subst (Appends (written b) (written c)) same w.ok) none)
+writes_by_last_buffer written {broken} {a} {b} {c} buffer left text slice (Ok x) f none same stays w = writes_or_fails_whole
+    (written_after_last (written a) (written b) (written c) buffer left text f (subst (Appends (written b) (written c)) same w.ok) none)
     (w.stays ∙ stays)
-writes_text_by_last_buffer written {broken} {a} {b} {c} buffer left text slice (Err e) f none same stays w = writes_or_fails_if_part_written
-    (prefix_written_if_write_fails (written a) (written b) (written c) buffer left text f
+writes_by_last_buffer written {broken} {a} {b} {c} buffer left text slice (Err e) f none same stays w = writes_or_fails_part
+    (prefix_by_failed_write (written a) (written b) (written c) buffer left text f
     (subst (AppendsPrefix (written b) (written c)) same w.prefix)) w.err

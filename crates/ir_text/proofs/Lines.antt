@@ -9,12 +9,12 @@ use Rattle.ir_text.specs.Parts.{lines_for}
 use Rattle.ir_log.specs.Logging.{label_of}
 use Rattle.ir_log.specs.declared.event.Event.{Event}
 
-count_of_memory_lines_step : (n : ℕ) → 0 < n → lines_for 16 n ≡ suc (lines_for 16 (n - 16))
-count_of_memory_lines_step n some = omega arith
+memory_line_count_step : (n : ℕ) → 0 < n → lines_for 16 n ≡ suc (lines_for 16 (n - 16))
+memory_line_count_step n some = omega arith
 
 -- a line of output, and the lines of the bytes after it
-count_of_output_lines_step : (n : ℕ) → 0 < n → lines_for 32 n ≡ suc (lines_for 32 (n - 32))
-count_of_output_lines_step n some = omega arith
+output_line_count_step : (n : ℕ) → 0 < n → lines_for 32 n ≡ suc (lines_for 32 (n - 32))
+output_line_count_step n some = omega arith
 
 pub output_lines_step : (rest line more : List ℕ) (k : ℕ) → 0 < length rest → k ≡ min 32 (length rest) → line ≡ take k rest → more ≡ drop k rest
     → output_lines (lines_for 32 (length rest)) rest
@@ -24,7 +24,7 @@ output_lines_step rest line more k some is prefix back =
     let l : line ≡ take 32 rest = prefix ∙ ap (λ (n : ℕ). take n rest) is ∙ take_min 32 rest in
     let m : more ≡ drop 32 rest = back ∙ ap (λ (n : ℕ). drop n rest) is ∙ drop_min 32 rest in
     let n : ℕ = lines_for 32 (length (drop 32 rest)) in
-    let e : lines_for 32 (length rest) ≡ suc n = count_of_output_lines_step (length rest) some
+    let e : lines_for 32 (length rest) ≡ suc n = output_line_count_step (length rest) some
     ∙ ap (λ (k : ℕ). suc (lines_for 32 k)) (sym (length-drop 32 rest)) in
     ap (λ (k : ℕ). output_lines k rest) e
     ∙ ap (λ (x : List ℕ). (encode_lower x ++ codes "\n") ++ output_lines n (drop 32 rest)) (sym l)
@@ -45,20 +45,20 @@ event_lines_step events i d below =
     let F : List Event → List ℕ = λ xs. event_lines i (map label_of xs) in
     at_drop_more F events i d below
 
-pub event_lines_at_end_are_empty : (events : List Event) (i : ℕ) → length events ≤ i → event_lines i (map label_of (drop i events)) ≡ []
+pub event_lines_at_end : (events : List Event) (i : ℕ) → length events ≤ i → event_lines i (map label_of (drop i events)) ≡ []
 unfolding event_lines
-event_lines_at_end_are_empty events i past =
+event_lines_at_end events i past =
     let F : List Event → List ℕ = λ xs. event_lines i (map label_of xs) in
     at_drop_all F events i past
 
 -- a line, and the lines of the bytes after it
-pub memory_text_by_first_line : (address : ℕ) (bytes : List ℕ) → 0 < length bytes
+pub memory_text_first_line : (address : ℕ) (bytes : List ℕ) → 0 < length bytes
     → memory_text address bytes ≡ (hex_word address ++ codes ": " ++ encode_lower (take 16 bytes) ++ codes "\n") ++ memory_text
     (address + 16) (drop 16 bytes)
 unfolding memory_lines
-memory_text_by_first_line address bytes some =
+memory_text_first_line address bytes some =
     let n : ℕ = lines_for 16 (length (drop 16 bytes)) in
-    let e : lines_for 16 (length bytes) ≡ suc n = count_of_memory_lines_step (length bytes) some
+    let e : lines_for 16 (length bytes) ≡ suc n = memory_line_count_step (length bytes) some
     ∙ ap (λ (k : ℕ). suc (lines_for 16 k)) (sym (length-drop 16 bytes)) in
     ap (λ (k : ℕ). memory_lines k address bytes) e
 
@@ -67,11 +67,11 @@ unfolding memory_lines
 memory_text_of_nothing address = refl
 
 -- a line more is put
-pub put_memory_text_is_whole_step : (before after all line rest more : List ℕ) (at k : ℕ) → 0 < length rest → k ≡ min 16 (length rest) → line ≡ take k rest
+pub memory_text_step : (before after all line rest more : List ℕ) (at k : ℕ) → 0 < length rest → k ≡ min 16 (length rest) → line ≡ take k rest
     → more ≡ drop k rest
     → after ≡ before ++ (hex_word at ++ codes ": " ++ encode_lower line ++ codes "\n") → before ++ memory_text at rest ≡ all
     → after ++ memory_text (at + 16) more ≡ all
-put_memory_text_is_whole_step before after all line rest more at k some is prefix back put so_far =
+memory_text_step before after all line rest more at k some is prefix back put so_far =
     let l : line ≡ take 16 rest = prefix ∙ ap (λ (n : ℕ). take n rest) is ∙ take_min 16 rest in
     let m : more ≡ drop 16 rest = back ∙ ap (λ (n : ℕ). drop n rest) is ∙ drop_min 16 rest in
     let first : List ℕ = hex_word at ++ codes ": " ++ encode_lower line ++ codes "\n" in
@@ -79,24 +79,24 @@ put_memory_text_is_whole_step before after all line rest more at k some is prefi
     ∙ append_assoc before first (memory_text (at + 16) more)
     ∙ ap (λ (x : List ℕ). before ++ ((hex_word at ++ codes ": " ++ encode_lower x ++ codes "\n") ++ memory_text (at + 16) more)) l
     ∙ ap (λ (x : List ℕ). before ++ ((hex_word at ++ codes ": " ++ encode_lower (take 16 rest) ++ codes "\n") ++ memory_text (at + 16) x)) m
-    ∙ ap (λ (x : List ℕ). before ++ x) (sym (memory_text_by_first_line at rest some))
+    ∙ ap (λ (x : List ℕ). before ++ x) (sym (memory_text_first_line at rest some))
     ∙ so_far
 
 -- no byte is left
-pub put_memory_text_is_whole_at_end : (before all rest : List ℕ) (at : ℕ) → length rest ≡ 0 → before ++ memory_text at rest ≡ all → before ≡ all
-put_memory_text_is_whole_at_end before all [] at none so_far = sym (append-nil before) ∙ ap (λ (x : List ℕ). before ++ x) (sym (memory_text_of_nothing at)) ∙ so_far
-put_memory_text_is_whole_at_end before all (b ∷ rest) at none so_far = absurd cc
+pub memory_text_at_end : (before all rest : List ℕ) (at : ℕ) → length rest ≡ 0 → before ++ memory_text at rest ≡ all → before ≡ all
+memory_text_at_end before all [] at none so_far = sym (append-nil before) ∙ ap (λ (x : List ℕ). before ++ x) (sym (memory_text_of_nothing at)) ∙ so_far
+memory_text_at_end before all (b ∷ rest) at none so_far = absurd cc
 
 -- a line of 43 bytes fits for each 16 bytes that are left
-pub room_for_memory_line_step : (before after rest more at k : ℕ) → k ≡ min 16 rest → more + k ≡ rest → after ≤ before + 43
+pub memory_line_has_room : (before after rest more at k : ℕ) → k ≡ min 16 rest → more + k ≡ rest → after ≤ before + 43
     → (16 * before + 43 * rest ≤ 16 * 200 + 43 * 256) × (at + rest ≤ 2 ^ 31 + 256) → 0 < more
     → (16 * after + 43 * more ≤ 16 * 200 + 43 * 256) × (at + 16 + more ≤ 2 ^ 31 + 256)
-room_for_memory_line_step before after rest more at k is left grown fits some = (omega arith, omega arith)
+memory_line_has_room before after rest more at k is left grown fits some = (omega arith, omega arith)
 
 -- a number is put after what was put before
-pub append_in_two_steps_is_one_append : (before first words digits now after : List ℕ) → now ≡ before ++ first → after ≡ now ++ (words ++ digits)
+pub append_two_steps : (before first words digits now after : List ℕ) → now ≡ before ++ first → after ≡ now ++ (words ++ digits)
     → after ≡ before ++ (first ++ words ++ digits)
-append_in_two_steps_is_one_append before first words digits now after e f =
+append_two_steps before first words digits now after e f =
     f ∙ ap (λ (x : List ℕ). x ++ (words ++ digits)) e
     ∙ append_assoc before first (words ++ digits)
     ∙ ap (λ (x : List ℕ). before ++ x) (sym (append_assoc first words digits))

@@ -8,13 +8,13 @@ use Rattle.ir_mach.specs.Core.{Core}
 use Rattle.ir_text.specs.Texts.{registers_text}
 use Rattle.ir_text.specs.Parts.{register_text}
 
-listed_name_has_at_most_four_bytes : (names : List (List ℕ)) (i : ℕ) → list_all (λ name. leb (length name) 4) names ≡ true → length (slice_index_or names i []) ≤ 4
-listed_name_has_at_most_four_bytes [] i e = omega arith
-listed_name_has_at_most_four_bytes (name ∷ names) zero e = leb-true _ _ (and_parts _ _ e).0
-listed_name_has_at_most_four_bytes (name ∷ names) (suc i) e = listed_name_has_at_most_four_bytes names i (and_parts _ _ e).1
+listed_name_short : (names : List (List ℕ)) (i : ℕ) → list_all (λ name. leb (length name) 4) names ≡ true → length (slice_index_or names i []) ≤ 4
+listed_name_short [] i e = omega arith
+listed_name_short (name ∷ names) zero e = leb-true _ _ (and_parts _ _ e).0
+listed_name_short (name ∷ names) (suc i) e = listed_name_short names i (and_parts _ _ e).1
 
-pub register_name_has_at_most_four_bytes : (n : ℕ) → length (register_name n) ≤ 4
-register_name_has_at_most_four_bytes n = listed_name_has_at_most_four_bytes register_names n refl
+pub register_name_short : (n : ℕ) → length (register_name n) ≤ 4
+register_name_short n = listed_name_short register_names n refl
 
 -- one register more
 pub registers_text_step : (m : Core) (n : ℕ) → registers_text m (n + 1) ≡ registers_text m n ++ register_text m n

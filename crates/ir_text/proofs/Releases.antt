@@ -13,13 +13,13 @@ abbrev pub next_line_of_ask : Ask → List ℕ
 next_line_of_ask (Leave o a) = number_line (codes "next give back ") o
 next_line_of_ask q = codes "next done\n"
 
-next_line_of_release_ask_is_released : (top : Option (ℕ × Access)) → next_line_of_ask (release_ask top) ≡ released top
-next_line_of_release_ask_is_released (Some (o, a)) = refl
-next_line_of_release_ask_is_released None = refl
+release_line_released : (top : Option (ℕ × Access)) → next_line_of_ask (release_ask top) ≡ released top
+release_line_released (Some (o, a)) = refl
+release_line_released None = refl
 
-pub next_text_of_ended_thread_is_next_line_of_its_ask : (code : List ℕ) (s : ThreadState) (q : Ask) (e : End) → s.ended ≡ Some e → q ≡ ask_of code s → next_text code s ≡ next_line_of_ask q
-next_text_of_ended_thread_is_next_line_of_its_ask code s q e ended asked =
-    ap (λ x. next_by x code s) ended ∙ sym (next_line_of_release_ask_is_released (highest s.held)) ∙ ap next_line_of_ask (sym (asked ∙ asks code s e ended))
+pub ended_text_is_line : (code : List ℕ) (s : ThreadState) (q : Ask) (e : End) → s.ended ≡ Some e → q ≡ ask_of code s → next_text code s ≡ next_line_of_ask q
+ended_text_is_line code s q e ended asked =
+    ap (λ x. next_by x code s) ended ∙ sym (release_line_released (highest s.held)) ∙ ap next_line_of_ask (sym (asked ∙ asks code s e ended))
   where
     asks : (code : List ℕ) (s : ThreadState) (e : End) → s.ended ≡ Some e → ask_of code s ≡ release_ask (highest s.held)
     asks code s e ended = rw ended refl

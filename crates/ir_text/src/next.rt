@@ -61,7 +61,7 @@ fn release_line(alloc: Global, object: u8) -> Result<Vec<u8>, AllocError>
 ///
 /// # Errors
 /// Out of memory.
-#[tactic(auto, using(crate::proofs::Releases::next_text_of_ended_thread_is_next_line_of_its_ask))]
+#[tactic(auto, using(crate::proofs::Releases::ended_text_is_line))]
 pub fn next_line(alloc: Global, code: &Code, thread: &Thread) -> Result<Vec<u8>, AllocError>
     ensures { IfOk result (λ line. line.items ≡ next_text code.now thread.now) }
 {

@@ -26,9 +26,9 @@ put_held_by_condition o i w None = refl
 put_held_by_condition o i w (Some Reading) = refl
 put_held_by_condition o i w (Some Writing) = refl
 
-conditional_swaps_under_negation : (b : Bool) (p q : Ask) → cond b p q ≡ cond (not b) q p
-conditional_swaps_under_negation true p q = refl
-conditional_swaps_under_negation false p q = refl
+conditional_negated : (b : Bool) (p q : Ask) → cond b p q ≡ cond (not b) q p
+conditional_negated true p q = refl
+conditional_negated false p q = refl
 
 call_ask_by_conditions : (c : Option Call) (s : ThreadState) → call_ask c s ≡ first_end_or (call_conditions c s) (call_wants c s)
 call_ask_by_conditions None s = refl
@@ -43,16 +43,16 @@ call_ask_by_conditions (Some call.Put) s = ap (λ q. cond (has_word s) q (ask.En
 call_ask_by_conditions (Some call.OwnNumber) s = refl
 call_ask_by_conditions (Some call.TryWrite) s = refl
 
-outcome_ask_by_conditions : (x : Outcome) (s : ThreadState) → outcome_ask x s ≡ first_end_or (outcome_conditions x s) (outcome_wants x s)
-outcome_ask_by_conditions (Goes core) s = refl
-outcome_ask_by_conditions (Ends fault) s = refl
-outcome_ask_by_conditions Calls s = call_ask_by_conditions (call_at s) s
+outcome_ask_conditions : (x : Outcome) (s : ThreadState) → outcome_ask x s ≡ first_end_or (outcome_conditions x s) (outcome_wants x s)
+outcome_ask_conditions (Goes core) s = refl
+outcome_ask_conditions (Ends fault) s = refl
+outcome_ask_conditions Calls s = call_ask_by_conditions (call_at s) s
 
 -- the law
-pub ask_of_running_thread_by_conditions : (code : List ℕ) (s : ThreadState) → s.ended ≡ None
+pub running_ask_conditions : (code : List ℕ) (s : ThreadState) → s.ended ≡ None
     → ask_of code s ≡ first_end_or (step_conditions code s) (outcome_wants (outcome_of code s.core) s)
-ask_of_running_thread_by_conditions code s lives =
+running_ask_conditions code s lives =
     ap (λ e. ask_by code e s) lives
-    ∙ ap (λ q. cond (nat_le s.budget s.steps) (ask.End end.BudgetSpent) q) (outcome_ask_by_conditions (outcome_of code s.core) s)
-    ∙ conditional_swaps_under_negation (nat_le s.budget s.steps) (ask.End end.BudgetSpent)
+    ∙ ap (λ q. cond (nat_le s.budget s.steps) (ask.End end.BudgetSpent) q) (outcome_ask_conditions (outcome_of code s.core) s)
+    ∙ conditional_negated (nat_le s.budget s.steps) (ask.End end.BudgetSpent)
     (first_end_or (outcome_conditions (outcome_of code s.core) s) (outcome_wants (outcome_of code s.core) s))

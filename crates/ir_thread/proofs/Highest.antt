@@ -13,10 +13,10 @@ abbrev pub higher_with_later_place : ℕ → Option Access → Option (ℕ × Ac
 higher_with_later_place i (Some access) before = Some (i, access)
 higher_with_later_place i None before = before
 
-higher_of_commutes_with_later_place : (first : Option Access) (i : ℕ) (x : Option Access) (before : Option (ℕ × Access))
+higher_of_later_place : (first : Option Access) (i : ℕ) (x : Option Access) (before : Option (ℕ × Access))
     → higher_of first (higher_with_later_place i x before) ≡ higher_with_later_place (suc i) x (higher_of first before)
-higher_of_commutes_with_later_place first i (Some access) before = refl
-higher_of_commutes_with_later_place first i None before = refl
+higher_of_later_place first i (Some access) before = refl
+higher_of_later_place first i None before = refl
 
 higher_of_single_place : (x : Option Access) → higher_of x None ≡ higher_with_later_place 0 x None
 higher_of_single_place (Some access) = refl
@@ -28,7 +28,7 @@ pub highest_of_take_step : (xs : List (Option Access)) (i : ℕ) → i < length 
 highest_of_take_step [] i l = absurd (omega arith)
 highest_of_take_step (x ∷ xs) zero l = higher_of_single_place x
 highest_of_take_step (x ∷ xs) (suc i) l = ap (higher_of x) (highest_of_take_step xs i (omega arith))
-    ∙ higher_of_commutes_with_later_place x i (get_or xs i None) (highest (take i xs))
+    ∙ higher_of_later_place x i (get_or xs i None) (highest (take i xs))
 
 -- the greatest is held, and none above it
 pub record IsHighestHeld (xs : List (Option Access)) (top : ℕ × Access) : Type 0 where
@@ -36,64 +36,64 @@ pub record IsHighestHeld (xs : List (Option Access)) (top : ℕ × Access) : Typ
   pub held : held_at xs top.0 ≡ Some top.1
   pub others : (i : ℕ) → top.0 < i → held_at xs i ≡ None
 
-both_none_if_higher_of_is_none : (x : Option Access) (h : Option (ℕ × Access)) → higher_of x h ≡ None → (x ≡ None) × (h ≡ None)
-both_none_if_higher_of_is_none None None e = (refl, refl)
-both_none_if_higher_of_is_none (Some a) None e = absurd (cc e)
-both_none_if_higher_of_is_none x (Some t) e = absurd (cc e)
+higher_of_none_parts : (x : Option Access) (h : Option (ℕ × Access)) → higher_of x h ≡ None → (x ≡ None) × (h ≡ None)
+higher_of_none_parts None None e = (refl, refl)
+higher_of_none_parts (Some a) None e = absurd (cc e)
+higher_of_none_parts x (Some t) e = absurd (cc e)
 
 -- where there is no greatest, none is held
-pub nothing_held_if_no_highest : (xs : List (Option Access)) → highest xs ≡ None → (i : ℕ) → held_at xs i ≡ None
-nothing_held_if_no_highest [] e i = refl
-nothing_held_if_no_highest (x ∷ xs) e zero = (both_none_if_higher_of_is_none x (highest xs) e).0
-nothing_held_if_no_highest (x ∷ xs) e (suc i) = nothing_held_if_no_highest xs (both_none_if_higher_of_is_none x (highest xs) e).1 i
+pub no_highest_holds_none : (xs : List (Option Access)) → highest xs ≡ None → (i : ℕ) → held_at xs i ≡ None
+no_highest_holds_none [] e i = refl
+no_highest_holds_none (x ∷ xs) e zero = (higher_of_none_parts x (highest xs) e).0
+no_highest_holds_none (x ∷ xs) e (suc i) = no_highest_holds_none xs (higher_of_none_parts x (highest xs) e).1 i
 
-pub held_count_zero_if_no_highest : (xs : List (Option Access)) → highest xs ≡ None → held_count xs ≡ 0
-held_count_zero_if_no_highest [] e = refl
-held_count_zero_if_no_highest (x ∷ xs) e =
-    let p = both_none_if_higher_of_is_none x (highest xs) e in
+pub no_highest_count_zero : (xs : List (Option Access)) → highest xs ≡ None → held_count xs ≡ 0
+no_highest_count_zero [] e = refl
+no_highest_count_zero (x ∷ xs) e =
+    let p = higher_of_none_parts x (highest xs) e in
     let first : one_if_held x ≡ 0 = ap one_if_held p.0 in
-    let rest : held_count xs ≡ 0 = held_count_zero_if_no_highest xs p.1 in
+    let rest : held_count xs ≡ 0 = no_highest_count_zero xs p.1 in
     let sum : held_count (x ∷ xs) ≡ one_if_held x + held_count xs = sum_by-cons one_if_held x xs in
     omega (arith, first, rest, sum)
 
-front_access_is_highest_if_rest_holds_none : (xs : List (Option Access)) (access : Access) → highest xs ≡ None → IsHighestHeld (Some access ∷ xs) (0, access)
-front_access_is_highest_if_rest_holds_none xs access e = record { below = omega arith; held = refl; others = above }
+front_is_highest : (xs : List (Option Access)) (access : Access) → highest xs ≡ None → IsHighestHeld (Some access ∷ xs) (0, access)
+front_is_highest xs access e = record { below = omega arith; held = refl; others = above }
   where
     above : (i : ℕ) → 0 < i → held_at (Some access ∷ xs) i ≡ None
     above zero l = absurd (omega arith)
-    above (suc i) l = nothing_held_if_no_highest xs e i
+    above (suc i) l = no_highest_holds_none xs e i
 
-is_highest_held_after_cons : (x : Option Access) (xs : List (Option Access)) (top : ℕ × Access) → IsHighestHeld xs top → IsHighestHeld (x ∷ xs) (suc top.0, top.1)
-is_highest_held_after_cons x xs top rest = record { below = omega (arith, rest.below); held = rest.held; others = above }
+is_highest_cons : (x : Option Access) (xs : List (Option Access)) (top : ℕ × Access) → IsHighestHeld xs top → IsHighestHeld (x ∷ xs) (suc top.0, top.1)
+is_highest_cons x xs top rest = record { below = omega (arith, rest.below); held = rest.held; others = above }
   where
     above : (i : ℕ) → suc top.0 < i → held_at (x ∷ xs) i ≡ None
     above zero l = absurd (omega arith)
     above (suc i) l = rest.others i (omega arith)
 
-higher_of_is_highest_held : (xs : List (Option Access)) (top : ℕ × Access) → ((t : ℕ × Access) → highest xs ≡ Some t → IsHighestHeld xs t)
+higher_of_is_highest : (xs : List (Option Access)) (top : ℕ × Access) → ((t : ℕ × Access) → highest xs ≡ Some t → IsHighestHeld xs t)
     → (x : Option Access) (h : Option (ℕ × Access)) → highest xs ≡ h → higher_of x h ≡ Some top → IsHighestHeld (x ∷ xs) top
-higher_of_is_highest_held xs top rest None None g e = absurd (cc e)
-higher_of_is_highest_held xs top rest (Some a) None g e = subst (IsHighestHeld (Some a ∷ xs)) (let p : ◌≡◌ {A = ℕ × Access} (0, a) top = cc e in p)
-    (front_access_is_highest_if_rest_holds_none xs a g)
-higher_of_is_highest_held xs top rest x (Some t) g e = subst (IsHighestHeld (x ∷ xs)) (let p : ◌≡◌ {A = ℕ × Access} (suc t.0, t.1) top = cc e in p)
-    (is_highest_held_after_cons x xs t (rest t g))
+higher_of_is_highest xs top rest None None g e = absurd (cc e)
+higher_of_is_highest xs top rest (Some a) None g e = subst (IsHighestHeld (Some a ∷ xs)) (let p : ◌≡◌ {A = ℕ × Access} (0, a) top = cc e in p)
+    (front_is_highest xs a g)
+higher_of_is_highest xs top rest x (Some t) g e = subst (IsHighestHeld (x ∷ xs)) (let p : ◌≡◌ {A = ℕ × Access} (suc t.0, t.1) top = cc e in p)
+    (is_highest_cons x xs t (rest t g))
 
 pub highest_is_highest_held : (xs : List (Option Access)) (top : ℕ × Access) → highest xs ≡ Some top → IsHighestHeld xs top
 highest_is_highest_held [] top e = absurd (cc e)
-highest_is_highest_held (x ∷ xs) top e = higher_of_is_highest_held xs top (highest_is_highest_held xs) x (highest xs) refl e
+highest_is_highest_held (x ∷ xs) top e = higher_of_is_highest xs top (highest_is_highest_held xs) x (highest xs) refl e
 
 -- what is above the greatest isn't held, nor is what is greater
-pub nothing_held_above_highest : (xs : List (Option Access)) (object : ℕ) → is_above (highest xs) object ≡ true → (i : ℕ) → object ≤ i → held_at xs i ≡ None
-nothing_held_above_highest xs object e i l = by (highest xs) refl e
+pub none_held_above : (xs : List (Option Access)) (object : ℕ) → is_above (highest xs) object ≡ true → (i : ℕ) → object ≤ i → held_at xs i ≡ None
+none_held_above xs object e i l = by (highest xs) refl e
   where
     by : (h : Option (ℕ × Access)) → highest xs ≡ h → is_above h object ≡ true → held_at xs i ≡ None
-    by None g e = nothing_held_if_no_highest xs g i
+    by None g e = no_highest_holds_none xs g i
     by (Some top) g e = let less : top.0 < object = grind (arith, nat_tests) in (highest_is_highest_held xs top g).others i (omega arith)
 
 -- where neither an object nor a greater one is held, it is above the greatest
-pub object_above_highest_if_none_held : (xs : List (Option Access)) (object : ℕ) → ((i : ℕ) → object ≤ i → i < length xs → held_at xs i ≡ None)
+pub object_above_highest : (xs : List (Option Access)) (object : ℕ) → ((i : ℕ) → object ≤ i → i < length xs → held_at xs i ≡ None)
     → is_above (highest xs) object ≡ true
-object_above_highest_if_none_held xs object none = by (highest xs) refl
+object_above_highest xs object none = by (highest xs) refl
   where
     by : (h : Option (ℕ × Access)) → highest xs ≡ h → is_above h object ≡ true
     by None g = refl
@@ -104,13 +104,13 @@ object_above_highest_if_none_held xs object none = by (highest xs) refl
         ]
 
 -- where an object or a greater one is held, it isn't
-pub object_not_above_highest_if_held : (xs : List (Option Access)) (object i : ℕ) → object ≤ i → is_some (held_at xs i) ≡ true
+pub object_not_above : (xs : List (Option Access)) (object i : ℕ) → object ≤ i → is_some (held_at xs i) ≡ true
     → is_above (highest xs) object ≡ false
-object_not_above_highest_if_held xs object i l held = by (is_above (highest xs) object) refl
+object_not_above xs object i l held = by (is_above (highest xs) object) refl
   where
     by : (b : Bool) → is_above (highest xs) object ≡ b → is_above (highest xs) object ≡ false
     by false e = e
-    by true e = let none : held_at xs i ≡ None = nothing_held_above_highest xs object e i l in absurd (cc (none, held))
+    by true e = let none : held_at xs i ≡ None = none_held_above xs object e i l in absurd (cc (none, held))
 
 -- one more place that isn't held
 pub none_held_between_step : (xs : List (Option Access)) (object next : ℕ) → is_some (get_or xs next None) ≡ false
@@ -124,15 +124,15 @@ none_held_between_step xs object next free none i from below = elim (cases_lt i 
     place_is_free None e = refl
     place_is_free (Some a) e = absurd (cc e)
 
-one_if_held_of_held_is_one : (x : Option Access) → x ≢ None → one_if_held x ≡ 1
-one_if_held_of_held_is_one None e = absurd (e refl)
-one_if_held_of_held_is_one (Some access) e = refl
+one_if_held_is_one : (x : Option Access) → x ≢ None → one_if_held x ≡ 1
+one_if_held_is_one None e = absurd (e refl)
+one_if_held_is_one (Some access) e = refl
 
 -- with one object left, one fewer is held
 pub held_count_after_leave : (xs : List (Option Access)) (object : ℕ) → object < length xs → held_at xs object ≢ None
     → held_count xs ≡ suc (held_count (set xs object None))
 held_count_after_leave xs object l e =
-    let weight : one_if_held (get_or xs object None) ≡ 1 = one_if_held_of_held_is_one _ e in
+    let weight : one_if_held (get_or xs object None) ≡ 1 = one_if_held_is_one _ e in
     let sums = sum_by-set one_if_held xs object None None l in
     omega (arith, weight, sums)
 
@@ -140,17 +140,17 @@ one_if_held_at_most_one : (x : Option Access) → one_if_held x ≤ 1
 one_if_held_at_most_one None = omega arith
 one_if_held_at_most_one (Some access) = omega arith
 
-pub held_count_at_most_length : (xs : List (Option Access)) → held_count xs ≤ length xs
-held_count_at_most_length [] = omega arith
-held_count_at_most_length (x ∷ xs) =
+pub held_count_le_length : (xs : List (Option Access)) → held_count xs ≤ length xs
+held_count_le_length [] = omega arith
+held_count_le_length (x ∷ xs) =
     let first = one_if_held_at_most_one x in
-    let rest = held_count_at_most_length xs in
+    let rest = held_count_le_length xs in
     let sum : held_count (x ∷ xs) ≡ one_if_held x + held_count xs = sum_by-cons one_if_held x xs in
     omega (arith, first, rest, sum)
 
 -- the loop that looks at one place after another
-pub highest_of_take_by_element : (xs : List (Option Access)) (i : ℕ) (x : Option Access) → i < length xs → get_or xs i None ≡ x
+pub highest-take_suc : (xs : List (Option Access)) (i : ℕ) (x : Option Access) → i < length xs → get_or xs i None ≡ x
     → highest (take (i + 1) xs) ≡ higher_with_later_place i x (highest (take i xs))
-highest_of_take_by_element xs i x l e =
+highest-take_suc xs i x l e =
     subst (λ n. highest (take n xs) ≡ higher_with_later_place i x (highest (take i xs))) (let p : suc i ≡ i + 1 = omega arith in p)
     (highest_of_take_step xs i l ∙ ap (λ y. higher_with_later_place i y (highest (take i xs))) e)

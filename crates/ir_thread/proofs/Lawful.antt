@@ -1,5 +1,6 @@
 -- A thread enters in order, uses what it holds, and releases it after its end.
-use Rattle.std.proofs.Common.{◌≡◌, ◌≢◌, ℕ, zero, suc, ◌<◌, List, length, get_or, set, Option, Some, None, refl, sym, ap, ◌∙◌, subst, inl, inr, eqb, cond, eq-eqb, ne_eqb, get_or-set_same, get_or-set_other, arith}
+use Rattle.std.proofs.Common.{◌≡◌, ◌≢◌, ℕ, zero, suc, ◌<◌, List, length, get_or, set, Option, Some, None, refl, sym, ap, ◌∙◌, subst, inl}
+use Rattle.std.proofs.Common.{inr, eqb, cond, eq-eqb, ne_eqb, get_or-set_same, get_or-set_other, arith}
 use Rattle.std.proofs.lemmas.Bool.{cases_eq}
 use Rattle.std.specs.Prelude.{option_map}
 use Rattle.ir_thread.specs.Permitted.{Permits, held_count}
@@ -15,7 +16,7 @@ use Rattle.ir_thread.specs.declared.ask.Reply.{Reply}
 use Rattle.ir_thread.specs.declared.ask.Reply.TheVariants.{Value}
 use Rattle.ir_thread.specs.declared.end.End as end
 use Rattle.ir_thread.proofs.Asked.{ask_of_permitted}
-use Rattle.ir_thread.proofs.Highest.{nothing_held_if_no_highest, held_count_zero_if_no_highest, nothing_held_above_highest, held_count_after_leave}
+use Rattle.ir_thread.proofs.Highest.{no_highest_holds_none, no_highest_count_zero, none_held_above, held_count_after_leave}
 
 -- a write to the list is a change of the table
 pub held_at_after_set : (held : List (Option Access)) (o : ℕ) (x : Option Access) (i : ℕ) → o < length held
@@ -30,44 +31,44 @@ held_at_after_set held o x i l = elim (cases_eq i o) [
 permitted_ask_holds : (s : ThreadState) (q : Ask) → Permits s q → Holds (shared_ask q) (held_at s.held)
 permitted_ask_holds s Private p = tt
 permitted_ask_holds s (Env kind) p = tt
-permitted_ask_holds s (Enter object access) p = nothing_held_above_highest s.held object p.3
-permitted_ask_holds s (Try object) p = nothing_held_above_highest s.held object p.3
+permitted_ask_holds s (Enter object access) p = none_held_above s.held object p.3
+permitted_ask_holds s (Try object) p = none_held_above s.held object p.3
 permitted_ask_holds s (Leave object access) p = p.2
 permitted_ask_holds s (Get object index) p = p.3
 permitted_ask_holds s (Put object index value) p = p.3
 permitted_ask_holds s Print p = tt
 permitted_ask_holds s (End e) p = tt
-permitted_ask_holds s Done p = nothing_held_if_no_highest s.held p.1
+permitted_ask_holds s Done p = no_highest_holds_none s.held p.1
 
 -- any other value than 1 leaves what is held
-pub held_is_unchanged_by_other_try_answer : (held : List (Option Access)) (object value : ℕ) → held_after_try (Value (suc (suc value))) object held ≡ held
-held_is_unchanged_by_other_try_answer held object value = ap (λ b. cond b (set held object (Some Writing)) held) (ne_eqb (suc (suc value)) 1 (λ e. omega (arith, e)))
+pub other_answer_keeps_held : (held : List (Option Access)) (object value : ℕ) → held_after_try (Value (suc (suc value))) object held ≡ held
+other_answer_keeps_held held object value = ap (λ b. cond b (set held object (Some Writing)) held) (ne_eqb (suc (suc value)) 1 (λ e. omega (arith, e)))
 
 -- a try that is answered 1 enters, any other leaves what is held
-held_at_after_try_is_held_after_act : (s : ThreadState) (object r i : ℕ) → object < length s.held
+held_after_try_is_act : (s : ThreadState) (object r i : ℕ) → object < length s.held
     → held_at (held_after_try (Value r) object s.held) i ≡ held_after (act_of (machine.Try object) r) (held_at s.held) i
-held_at_after_try_is_held_after_act s object zero i l = refl
-held_at_after_try_is_held_after_act s object (suc zero) i l = held_at_after_set s.held object (Some Writing) i l
-held_at_after_try_is_held_after_act s object (suc (suc r)) i l = ap (λ held. held_at held i) (held_is_unchanged_by_other_try_answer s.held object r)
+held_after_try_is_act s object zero i l = refl
+held_after_try_is_act s object (suc zero) i l = held_at_after_set s.held object (Some Writing) i l
+held_after_try_is_act s object (suc (suc r)) i l = ap (λ held. held_at held i) (other_answer_keeps_held s.held object r)
 
-held_at_after_ask_is_held_after_act : (code : List ℕ) (s : ThreadState) (r i : ℕ) (q : Ask) → Permits s q
+held_after_ask_is_act : (code : List ℕ) (s : ThreadState) (r i : ℕ) (q : Ask) → Permits s q
     → held_at (after_ask code s q (reply_of q r)).held i ≡ held_after (act_of (shared_ask q) r) (held_at s.held) i
-held_at_after_ask_is_held_after_act code s r i Private p = refl
-held_at_after_ask_is_held_after_act code s r i (Env kind) p = refl
-held_at_after_ask_is_held_after_act code s r i (Enter object access) p = held_at_after_set s.held object (Some access) i p.2
-held_at_after_ask_is_held_after_act code s r i (Try object) p = held_at_after_try_is_held_after_act s object r i p.2
-held_at_after_ask_is_held_after_act code s r i (Leave object access) p = held_at_after_set s.held object None i p.1
-held_at_after_ask_is_held_after_act code s r i (Get object index) p = refl
-held_at_after_ask_is_held_after_act code s r i (Put object index value) p = refl
-held_at_after_ask_is_held_after_act code s r i Print p = refl
-held_at_after_ask_is_held_after_act code s r i (End e) p = refl
-held_at_after_ask_is_held_after_act code s r i Done p = refl
+held_after_ask_is_act code s r i Private p = refl
+held_after_ask_is_act code s r i (Env kind) p = refl
+held_after_ask_is_act code s r i (Enter object access) p = held_at_after_set s.held object (Some access) i p.2
+held_after_ask_is_act code s r i (Try object) p = held_after_try_is_act s object r i p.2
+held_after_ask_is_act code s r i (Leave object access) p = held_at_after_set s.held object None i p.1
+held_after_ask_is_act code s r i (Get object index) p = refl
+held_after_ask_is_act code s r i (Put object index value) p = refl
+held_after_ask_is_act code s r i Print p = refl
+held_after_ask_is_act code s r i (End e) p = refl
+held_after_ask_is_act code s r i Done p = refl
 
-pub thread_machine_is_lawful : (code : List ℕ) → IsLawful (thread_machine code)
+pub thread_machine_lawful : (code : List ℕ) → IsLawful (thread_machine code)
 unfolding after_reply
-thread_machine_is_lawful code = record {
+thread_machine_lawful code = record {
   holds = λ s. permitted_ask_holds s (ask_of code s) (ask_of_permitted code s);
-  takes = λ s r i. held_at_after_ask_is_held_after_act code s r i (ask_of code s) (ask_of_permitted code s);
+  takes = λ s r i. held_after_ask_is_act code s r i (ask_of code s) (ask_of_permitted code s);
 }
 
 -- the end's number and code, once there is one
@@ -99,51 +100,51 @@ ending_ask_is_private code s reply Print p h g = (refl, refl)
 ending_ask_is_private code s reply (End e) p h g = (refl, refl)
 ending_ask_is_private code s reply Done p h g = absurd (end_if_end_code s.ended p g (no_end_if_no_end_code s.ended h))
 
-ended_thread_stays_ended : (code : List ℕ) (s : ThreadState) (reply : Reply) (q : Ask) (p : ℕ × ℕ) → Permits s q → end_number_and_code s.ended ≡ Some p
+ended_stays_ended : (code : List ℕ) (s : ThreadState) (reply : Reply) (q : Ask) (p : ℕ × ℕ) → Permits s q → end_number_and_code s.ended ≡ Some p
     → end_number_and_code (after_ask code s q reply).ended ≡ Some p
-ended_thread_stays_ended code s reply Private p k h = h
-ended_thread_stays_ended code s reply (Env kind) p k h = h
-ended_thread_stays_ended code s reply (Enter object access) p k h = h
-ended_thread_stays_ended code s reply (Try object) p k h = h
-ended_thread_stays_ended code s reply (Leave object access) p k h = h
-ended_thread_stays_ended code s reply (Get object index) p k h = h
-ended_thread_stays_ended code s reply (Put object index value) p k h = h
-ended_thread_stays_ended code s reply Print p k h = h
-ended_thread_stays_ended code s reply (End e) p k h = absurd (end_if_end_code s.ended p h k)
-ended_thread_stays_ended code s reply Done p k h = h
+ended_stays_ended code s reply Private p k h = h
+ended_stays_ended code s reply (Env kind) p k h = h
+ended_stays_ended code s reply (Enter object access) p k h = h
+ended_stays_ended code s reply (Try object) p k h = h
+ended_stays_ended code s reply (Leave object access) p k h = h
+ended_stays_ended code s reply (Get object index) p k h = h
+ended_stays_ended code s reply (Put object index value) p k h = h
+ended_stays_ended code s reply Print p k h = h
+ended_stays_ended code s reply (End e) p k h = absurd (end_if_end_code s.ended p h k)
+ended_stays_ended code s reply Done p k h = h
 
-ask_of_ended_thread_is_leave : (code : List ℕ) (s : ThreadState) (reply : Reply) (q : Ask) (p : ℕ × ℕ) → Permits s q → end_number_and_code s.ended ≡ Some p
+ended_asks_leave : (code : List ℕ) (s : ThreadState) (reply : Reply) (q : Ask) (p : ℕ × ℕ) → Permits s q → end_number_and_code s.ended ≡ Some p
     → shared_ask q ≢ machine.Done
     → (o : ℕ) × (a : Access) × (shared_ask q ≡ machine.Leave o a) × (held_count s.held ≡ suc (held_count (after_ask code s q reply).held))
-ask_of_ended_thread_is_leave code s reply Private p k h ne = absurd (end_if_end_code s.ended p h k.lives)
-ask_of_ended_thread_is_leave code s reply (Env kind) p k h ne = absurd (end_if_end_code s.ended p h k.0.lives)
-ask_of_ended_thread_is_leave code s reply (Enter object access) p k h ne = absurd (end_if_end_code s.ended p h k.0.lives)
-ask_of_ended_thread_is_leave code s reply (Try object) p k h ne = absurd (end_if_end_code s.ended p h k.0.lives)
-ask_of_ended_thread_is_leave code s reply (Leave object access) p k h ne = (object, access, refl, held_count_after_leave s.held object k.1 (λ none. cc (k.2, none)))
-ask_of_ended_thread_is_leave code s reply (Get object index) p k h ne = absurd (end_if_end_code s.ended p h k.0.lives)
-ask_of_ended_thread_is_leave code s reply (Put object index value) p k h ne = absurd (end_if_end_code s.ended p h k.0.lives)
-ask_of_ended_thread_is_leave code s reply Print p k h ne = absurd (end_if_end_code s.ended p h k.0.lives)
-ask_of_ended_thread_is_leave code s reply (End e) p k h ne = absurd (end_if_end_code s.ended p h k)
-ask_of_ended_thread_is_leave code s reply Done p k h ne = absurd (ne refl)
+ended_asks_leave code s reply Private p k h ne = absurd (end_if_end_code s.ended p h k.lives)
+ended_asks_leave code s reply (Env kind) p k h ne = absurd (end_if_end_code s.ended p h k.0.lives)
+ended_asks_leave code s reply (Enter object access) p k h ne = absurd (end_if_end_code s.ended p h k.0.lives)
+ended_asks_leave code s reply (Try object) p k h ne = absurd (end_if_end_code s.ended p h k.0.lives)
+ended_asks_leave code s reply (Leave object access) p k h ne = (object, access, refl, held_count_after_leave s.held object k.1 (λ none. cc (k.2, none)))
+ended_asks_leave code s reply (Get object index) p k h ne = absurd (end_if_end_code s.ended p h k.0.lives)
+ended_asks_leave code s reply (Put object index value) p k h ne = absurd (end_if_end_code s.ended p h k.0.lives)
+ended_asks_leave code s reply Print p k h ne = absurd (end_if_end_code s.ended p h k.0.lives)
+ended_asks_leave code s reply (End e) p k h ne = absurd (end_if_end_code s.ended p h k)
+ended_asks_leave code s reply Done p k h ne = absurd (ne refl)
 
-done_thread_holds_nothing : (s : ThreadState) (q : Ask) → Permits s q → shared_ask q ≡ machine.Done → (p : ℕ × ℕ) × (end_number_and_code s.ended ≡ Some p)
+done_holds_nothing : (s : ThreadState) (q : Ask) → Permits s q → shared_ask q ≡ machine.Done → (p : ℕ × ℕ) × (end_number_and_code s.ended ≡ Some p)
     × (held_count s.held ≡ 0)
-done_thread_holds_nothing s Private k h = absurd (cc h)
-done_thread_holds_nothing s (Env kind) k h = absurd (cc h)
-done_thread_holds_nothing s (Enter object access) k h = absurd (cc h)
-done_thread_holds_nothing s (Try object) k h = absurd (cc h)
-done_thread_holds_nothing s (Leave object access) k h = absurd (cc h)
-done_thread_holds_nothing s (Get object index) k h = absurd (cc h)
-done_thread_holds_nothing s (Put object index value) k h = absurd (cc h)
-done_thread_holds_nothing s Print k h = absurd (cc h)
-done_thread_holds_nothing s (End e) k h = absurd (cc h)
-done_thread_holds_nothing s Done k h = let o = end_code_if_end s.ended k.0 in (o.0, o.1, held_count_zero_if_no_highest s.held k.1)
+done_holds_nothing s Private k h = absurd (cc h)
+done_holds_nothing s (Env kind) k h = absurd (cc h)
+done_holds_nothing s (Enter object access) k h = absurd (cc h)
+done_holds_nothing s (Try object) k h = absurd (cc h)
+done_holds_nothing s (Leave object access) k h = absurd (cc h)
+done_holds_nothing s (Get object index) k h = absurd (cc h)
+done_holds_nothing s (Put object index value) k h = absurd (cc h)
+done_holds_nothing s Print k h = absurd (cc h)
+done_holds_nothing s (End e) k h = absurd (cc h)
+done_holds_nothing s Done k h = let o = end_code_if_end s.ended k.0 in (o.0, o.1, no_highest_count_zero s.held k.1)
 
-pub thread_machine_is_closing : (code : List ℕ) → IsClosing (thread_machine code)
+pub thread_machine_closing : (code : List ℕ) → IsClosing (thread_machine code)
 unfolding after_reply
-thread_machine_is_closing code = record {
+thread_machine_closing code = record {
   ends = λ s r p h g. ending_ask_is_private code s (reply_of (ask_of code s) r) (ask_of code s) p h g;
-  stays = λ s r p h. ended_thread_stays_ended code s (reply_of (ask_of code s) r) (ask_of code s) p (ask_of_permitted code s) h;
-  leaves = λ s r p h ne. ask_of_ended_thread_is_leave code s (reply_of (ask_of code s) r) (ask_of code s) p (ask_of_permitted code s) h ne;
-  done = λ s h. done_thread_holds_nothing s (ask_of code s) (ask_of_permitted code s) h;
+  stays = λ s r p h. ended_stays_ended code s (reply_of (ask_of code s) r) (ask_of code s) p (ask_of_permitted code s) h;
+  leaves = λ s r p h ne. ended_asks_leave code s (reply_of (ask_of code s) r) (ask_of code s) p (ask_of_permitted code s) h ne;
+  done = λ s h. done_holds_nothing s (ask_of code s) (ask_of_permitted code s) h;
 }

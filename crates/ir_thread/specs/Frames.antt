@@ -35,8 +35,8 @@ frame_of s = record {
 }
 
 -- the thread with this frame and these pages
-abbrev pub thread_of : ThreadFrame → List (List ℕ) → ThreadState
-thread_of frame pages = record {
+abbrev pub framed_thread : ThreadFrame → List (List ℕ) → ThreadState
+framed_thread frame pages = record {
   core = core_of frame.registers pages;
   number = frame.number;
   held = frame.held;

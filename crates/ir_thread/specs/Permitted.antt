@@ -1,7 +1,8 @@
 -- Replies that suit what a thread asks, and steps that are permitted.
 use Rattle.std.specs.Prelude.{◌≡◌, ◌⊎◌, ℕ, zero, suc, ◌+◌, ◌≢◌, ◌<◌, ◌≤◌, true, List, length, Some, None, ⊤, Option, nat_le, if◌then◌else◌, [], ◌∷◌}
 use Rattle.ir_image.specs.Guest.{most_objects, most_object_words}
-use Rattle.ir_thread.specs.State.{held_at, highest, is_above, ThreadState, most_output, most_events, most_budget, after_reply, call_output, call_at, outcome_ask, one_if_held, a1, a0, leave_held, has_word, a2, put_held, is_object, get_held}
+use Rattle.ir_thread.specs.State.{held_at, highest, is_above, ThreadState, most_output, most_events, most_budget, after_reply, call_output}
+use Rattle.ir_thread.specs.State.{call_at, outcome_ask, one_if_held, a1, a0, leave_held, has_word, a2, put_held, is_object, get_held}
 use Rattle.ir_runs.specs.declared.access.Access.TheVariants.{Writing}
 use Rattle.ir_thread.specs.declared.ask.Ask.{Ask}
 use Rattle.ir_thread.specs.declared.ask.Ask.TheVariants as ask
@@ -11,7 +12,9 @@ use Rattle.ir_thread.specs.declared.end.End.{End}
 use Rattle.ir_thread.specs.declared.profile.Profile.TheVariants.{Two}
 use Rattle.ir_mach.specs.Core.{register}
 use Rattle.ir_runs.specs.declared.access.Access.{Access}
-use Rattle.ir_thread.specs.declared.end.End.TheVariants.{BudgetSpent, NoSuchObject, Exit, Breakpoint, IllegalWord, TargetMisaligned, OutsideCode, BadLoad, BadStore, UnknownCall, EntryOutOfOrder, NotHeld, OutputFull, LogFull}
+use Rattle.ir_thread.specs.declared.end.End.TheVariants.{BudgetSpent, NoSuchObject, Exit, Breakpoint, IllegalWord, TargetMisaligned}
+use Rattle.ir_thread.specs.declared.end.End.TheVariants.{OutsideCode, BadLoad, BadStore, UnknownCall, EntryOutOfOrder, NotHeld, OutputFull}
+use Rattle.ir_thread.specs.declared.end.End.TheVariants.{LogFull}
 use Rattle.std.specs.List.{sum_by}
 use Rattle.ir_mach.specs.Execution.{outcome_of}
 

@@ -1,5 +1,6 @@
 -- A thread, however the code keeps it: what it is at one moment, what it asks, and what it is after the reply.
-use Rattle.std.specs.Prelude.{ℕ, List, [], replicate, Option, None, ◌==◌, ◌&&◌, ◌∷◌, find, suc, Bool, true, Some, nat_lt, ◌≤◌, length, ◌+◌, ◌%◌, ◌^◌, ◌++◌, slice_set, nat_le, if◌then◌else◌, ◌||◌, option_map}
+use Rattle.std.specs.Prelude.{ℕ, List, [], replicate, Option, None, ◌==◌, ◌&&◌, ◌∷◌, find, suc, Bool, true, Some, nat_lt, ◌≤◌, length, ◌+◌}
+use Rattle.std.specs.Prelude.{◌%◌, ◌^◌, ◌++◌, slice_set, nat_le, if◌then◌else◌, ◌||◌, option_map}
 use Rattle.ir_image.specs.Guest.{Guest, object_count, limits_of}
 use Rattle.ir_image.specs.declared.form.ImageForm.{ImageForm}
 use Rattle.ir_mach.specs.Core.{Core, start_core, Outcome, Goes, Calls, Ends, register}
@@ -8,7 +9,9 @@ use Rattle.ir_thread.specs.declared.end.End.{End}
 use Rattle.ir_thread.specs.declared.profile.Profile.{Profile}
 use Rattle.ir_mach.specs.declared.outcome.Fault.{Fault}
 use Rattle.ir_mach.specs.declared.outcome.Fault.TheVariants as fault
-use Rattle.ir_thread.specs.declared.end.End.TheVariants.{Exit, Breakpoint, IllegalWord, TargetMisaligned, OutsideCode, BadLoad, BadStore, UnknownCall, NoSuchObject, EntryOutOfOrder, NotHeld, OutputFull, BudgetSpent, LogFull}
+use Rattle.ir_thread.specs.declared.end.End.TheVariants.{Exit, Breakpoint, IllegalWord, TargetMisaligned, OutsideCode, BadLoad, BadStore}
+use Rattle.ir_thread.specs.declared.end.End.TheVariants.{UnknownCall, NoSuchObject, EntryOutOfOrder, NotHeld, OutputFull, BudgetSpent}
+use Rattle.ir_thread.specs.declared.end.End.TheVariants.{LogFull}
 use Rattle.std.specs.List.{slice_index_or, sum_by}
 use Rattle.ir_image.specs.declared.form.ImageForm.TheVariants.{Small, Large}
 use Rattle.ir_thread.specs.declared.profile.Profile.TheVariants.{One, Two}

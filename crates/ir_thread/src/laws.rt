@@ -5,7 +5,7 @@ ghost use Rattle.ir_mach.specs.Core.{memory_size};
 ghost use Rattle.ir_mach.specs.Pages.{ArePages, pages_of};
 ghost use Rattle.ir_thread.specs.Alone.{RunsAlone};
 ghost use Rattle.ir_thread.specs.Conditions.{EndsByTheFirst};
-ghost use Rattle.ir_thread.specs.Frames.{frame_of, thread_of};
+ghost use Rattle.ir_thread.specs.Frames.{frame_of, framed_thread};
 ghost use Rattle.ir_thread.specs.Closing.{ThreadsClose};
 ghost use Rattle.ir_thread.specs.State.{ThreadState};
 
@@ -29,5 +29,5 @@ pub fn ends_by_the_first()
 /// A thread's private memory is 16 pages of 4,096 bytes, and building from its frame and these pages gives that thread.
 pub fn built_again()
     ensures pages { (s : ThreadState) → length s.core.memory ≡ memory_size → ArePages (pages_of s.core.memory) }
-    ensures same { (s : ThreadState) → length s.core.memory ≡ memory_size → thread_of (frame_of s) (pages_of s.core.memory) ≡ s }
+    ensures same { (s : ThreadState) → length s.core.memory ≡ memory_size → framed_thread (frame_of s) (pages_of s.core.memory) ≡ s }
 {}

@@ -62,7 +62,7 @@ impl Thread {
     ///
     /// # Errors
     /// Out of memory.
-    #[tactic(auto, using(ir_image::proofs::CallerLemmas::guest_threads_at_most_limit))]
+    #[tactic(auto, using(ir_image::proofs::CallerLemmas::guest_threads_within))]
     pub fn new(
         alloc: Global,
         image: &Image,
@@ -95,7 +95,7 @@ impl Thread {
     }
 
     /// Becomes the thread of this number at its start, as `new` makes it, in the memory that it has.
-    #[tactic(auto, using(ir_image::proofs::CallerLemmas::guest_threads_at_most_limit))]
+    #[tactic(auto, using(ir_image::proofs::CallerLemmas::guest_threads_within))]
     pub fn restart(&mut self, image: &Image, thread: usize, budget: u64, profile: Profile)
         requires thread { thread < length image.now.entries }
         requires budget { budget ≤ most_budget }

@@ -54,7 +54,7 @@ impl Timeline {
     ghost use Rattle.ir_hits.specs.Searching.{IsNextHit};
     ghost use Rattle.ir_hits.specs.Hits.{Finds};
     ghost use Rattle.ir_timeline.specs.Hand.{IsCutOf};
-    ghost use Rattle.ir_timeline.specs.Replaying.{IsThere};
+    ghost use Rattle.ir_timeline.specs.Replaying.{IsReplayedTo};
 
     /// The guest at its start, with states that a run along the trace passed. Those for which memory runs out aren't kept.
     ///
@@ -67,7 +67,7 @@ impl Timeline {
     ) -> Result<Timeline, AllocError>
         requires { ArePassed fitted.guest fitted.recorded passed.items }
         ensures fitted { IfOk result (λ l. l.fitted ≡ fitted) }
-        ensures start { IfOk result (λ l. IsThere l (first_cut fitted)) }
+        ensures start { IfOk result (λ l. IsReplayedTo l (first_cut fitted)) }
     {
         fitted.known();
         let state = State::start(alloc, &fitted)?;
@@ -106,8 +106,8 @@ impl Timeline {
     pub fn go_to<H: Hands>(&mut self, hands: &H, to: &Cut) -> Result<(), AllocError>
         requires { IsCutOf self.old.fitted to.now }
         ensures fitted { self.new.fitted ≡ self.old.fitted }
-        ensures there { OnOk result (IsThere self.new to.now) }
-        ensures already { IsThere self.old to.now → IsOk result }
+        ensures there { OnOk result (IsReplayedTo self.new to.now) }
+        ensures already { IsReplayedTo self.old to.now → IsOk result }
     {
         let state = &mut self.hand.state;
         self.hand.checkpoints.bring(hands, &self.fitted, state, to)

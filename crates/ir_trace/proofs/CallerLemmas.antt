@@ -1,3 +1,3 @@
 -- What callers may cite of traces.
 -- what is recorded is within the limits of any profile
-pub use Rattle.ir_trace.proofs.Limits.{recorded_threads_at_most_limit, recorded_objects_at_most_limit}
+pub use Rattle.ir_trace.proofs.Limits.{recorded_threads_within, recorded_objects_within}

@@ -11,7 +11,7 @@ event_room_step One i bytes rest after so_far one = omega (arith, so_far, one)
 event_room_step Two i bytes rest after so_far one = omega (arith, so_far, one)
 
 -- there is room for an event that was there
-pub event_room_for_next_event : (p : Profile) (i count bytes rest after : ℕ) → i < count → i * shortest p + rest ≤ bytes → after + shortest p ≤ rest
+pub next_event_has_room : (p : Profile) (i count bytes rest after : ℕ) → i < count → i * shortest p + rest ≤ bytes → after + shortest p ≤ rest
     → i < min count (bytes / shortest p)
-event_room_for_next_event One i count bytes rest after lt so_far one = omega (arith, lt, so_far, one)
-event_room_for_next_event Two i count bytes rest after lt so_far one = omega (arith, lt, so_far, one)
+next_event_has_room One i count bytes rest after lt so_far one = omega (arith, lt, so_far, one)
+next_event_has_room Two i count bytes rest after lt so_far one = omega (arith, lt, so_far, one)

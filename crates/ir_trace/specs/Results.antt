@@ -8,20 +8,20 @@ use Rattle.ir_trace.specs.declared.trace_err.TraceErr.{TraceErr}
 use Rattle.ir_trace.specs.declared.trace_err.TraceErr.TheVariants.{Short, Magic, Count, Tag, Reserved, Range, Trailing, NoMem}
 
 -- reading meets this fault, or memory ran out
-abbrev pub Fails : {Y : Type 0} → TraceErr → Result Y TraceErr → Type 0
-Fails NoMem read = Unit {0}
-Fails Short read = read ≡ Err Short
-Fails Magic read = read ≡ Err Magic
-Fails Count read = read ≡ Err Count
-Fails Tag read = read ≡ Err Tag
-Fails Reserved read = read ≡ Err Reserved
-Fails Range read = read ≡ Err Range
-Fails Trailing read = read ≡ Err Trailing
+abbrev pub FailsAsTrace : {Y : Type 0} → TraceErr → Result Y TraceErr → Type 0
+FailsAsTrace NoMem read = Unit {0}
+FailsAsTrace Short read = read ≡ Err Short
+FailsAsTrace Magic read = read ≡ Err Magic
+FailsAsTrace Count read = read ≡ Err Count
+FailsAsTrace Tag read = read ≡ Err Tag
+FailsAsTrace Reserved read = read ≡ Err Reserved
+FailsAsTrace Range read = read ≡ Err Range
+FailsAsTrace Trailing read = read ≡ Err Trailing
 
 -- an answer, seen by a view, is what reading gives, unless memory ran out
-abbrev pub Gives : {X Y : Type 0} → (X → Y) → Result X TraceErr → Result Y TraceErr → Type 0
-Gives view (Ok x) read = read ≡ Ok (view x)
-Gives view (Err e) read = Fails e read
+abbrev pub YieldsTrace : {X Y : Type 0} → (X → Y) → Result X TraceErr → Result Y TraceErr → Type 0
+YieldsTrace view (Ok x) read = read ≡ Ok (view x)
+YieldsTrace view (Err e) read = FailsAsTrace e read
 
 -- ---- the fields that are tested
 

@@ -5,7 +5,7 @@ ghost use Rattle.ir_bytes.specs.Reading.{field_at, fields_at};
 ghost use Rattle.ir_trace.specs.declared.trace_err.TraceErr.TheVariants.{Short};
 ghost use Rattle.ir_trace.specs.Recorded.{answer_at, input_at, read_at, write_at, try_at, try_by, event_by, event_reading};
 ghost use Rattle.ir_trace.specs.Fields.{object_field};
-ghost use Rattle.ir_trace.specs.Results.{Gives, shortest};
+ghost use Rattle.ir_trace.specs.Results.{YieldsTrace, shortest};
 ghost use Rattle.ir_thread.specs.State.{most_events};
 
 use crate::layout::{ANSWER_LENGTH, INPUT_END, TRY_LENGTH};
@@ -18,7 +18,7 @@ use std::alloc::Global;
 
 #[tactic(auto, unfolding(crate::specs::Recorded::answer_at))]
 fn answer(kind: EnvKind, bytes: &[u8]) -> Result<(Event, &[u8]), TraceErr>
-    ensures exact { Gives (λ x. (x.0, x.1.now)) result (answer_at kind bytes.now) }
+    ensures exact { YieldsTrace (λ x. (x.0, x.1.now)) result (answer_at kind bytes.now) }
     ensures taken { IfOk result (λ x. length x.1.now + 4 ≤ length bytes.now) }
 {
     let (value, rest) = word(bytes, TraceErr::Short)?;
@@ -27,7 +27,7 @@ fn answer(kind: EnvKind, bytes: &[u8]) -> Result<(Event, &[u8]), TraceErr>
 
 #[tactic(auto, unfolding(crate::specs::Recorded::input_at, ir_bytes::specs::Reading::field_at))]
 fn input(bytes: &[u8]) -> Result<(Event, &[u8]), TraceErr>
-    ensures exact { Gives (λ x. (x.0, x.1.now)) result (input_at bytes.now) }
+    ensures exact { YieldsTrace (λ x. (x.0, x.1.now)) result (input_at bytes.now) }
     ensures taken { IfOk result (λ x. length x.1.now + 4 ≤ length bytes.now) }
 {
     let (value, rest) = word(bytes, TraceErr::Short)?;
@@ -40,7 +40,7 @@ fn input(bytes: &[u8]) -> Result<(Event, &[u8]), TraceErr>
 
 #[tactic(auto, unfolding(ir_bytes::specs::Reading::field_at))]
 fn object(objects: u8, bytes: &[u8]) -> Result<(u8, &[u8]), TraceErr>
-    ensures exact { Gives (λ x. (x.0, x.1.now)) result (field_at Short (object_field objects) bytes.now) }
+    ensures exact { YieldsTrace (λ x. (x.0, x.1.now)) result (field_at Short (object_field objects) bytes.now) }
     ensures taken { IfOk result (λ x. length x.1.now + 1 ≡ length bytes.now) }
 {
     let (object, rest) = byte(bytes, TraceErr::Short)?;
@@ -53,7 +53,7 @@ fn object(objects: u8, bytes: &[u8]) -> Result<(u8, &[u8]), TraceErr>
 
 #[tactic(auto, unfolding(crate::specs::Recorded::read_at))]
 fn read_entry(objects: u8, bytes: &[u8]) -> Result<(Event, &[u8]), TraceErr>
-    ensures exact { Gives (λ x. (x.0, x.1.now)) result (read_at objects bytes.now) }
+    ensures exact { YieldsTrace (λ x. (x.0, x.1.now)) result (read_at objects bytes.now) }
     ensures taken { IfOk result (λ x. length x.1.now + 4 ≤ length bytes.now) }
 {
     let (object, rest) = object(objects, bytes)?;
@@ -63,7 +63,7 @@ fn read_entry(objects: u8, bytes: &[u8]) -> Result<(Event, &[u8]), TraceErr>
 
 #[tactic(auto, unfolding(crate::specs::Recorded::write_at))]
 fn write_entry(objects: u8, bytes: &[u8]) -> Result<(Event, &[u8]), TraceErr>
-    ensures exact { Gives (λ x. (x.0, x.1.now)) result (write_at objects bytes.now) }
+    ensures exact { YieldsTrace (λ x. (x.0, x.1.now)) result (write_at objects bytes.now) }
     ensures taken { IfOk result (λ x. length x.1.now + 4 ≤ length bytes.now) }
 {
     let (object, rest) = object(objects, bytes)?;
@@ -81,7 +81,7 @@ fn write_entry(objects: u8, bytes: &[u8]) -> Result<(Event, &[u8]), TraceErr>
 
 #[tactic(auto, unfolding(crate::specs::Recorded::try_at, crate::specs::Recorded::try_by))]
 fn refused_try(profile: Profile, objects: u8, bytes: &[u8]) -> Result<(Event, &[u8]), TraceErr>
-    ensures exact { Gives (λ x. (x.0, x.1.now)) result (try_by profile objects bytes.now) }
+    ensures exact { YieldsTrace (λ x. (x.0, x.1.now)) result (try_by profile objects bytes.now) }
     ensures taken { IfOk result (λ x. length x.1.now + shortest profile ≤ length bytes.now + 1) }
 {
     match profile {
@@ -95,7 +95,7 @@ fn refused_try(profile: Profile, objects: u8, bytes: &[u8]) -> Result<(Event, &[
 
 #[tactic(auto, unfolding(crate::specs::Recorded::event_by))]
 fn tagged(profile: Profile, tag: u8, objects: u8, bytes: &[u8]) -> Result<(Event, &[u8]), TraceErr>
-    ensures exact { Gives (λ x. (x.0, x.1.now)) result (event_by profile tag objects bytes.now) }
+    ensures exact { YieldsTrace (λ x. (x.0, x.1.now)) result (event_by profile tag objects bytes.now) }
     ensures taken { IfOk result (λ x. length x.1.now + shortest profile ≤ length bytes.now + 1) }
 {
     match tag {
@@ -111,7 +111,7 @@ fn tagged(profile: Profile, tag: u8, objects: u8, bytes: &[u8]) -> Result<(Event
 
 #[tactic(auto, unfolding(crate::specs::Recorded::event_reading))]
 fn event(profile: Profile, objects: u8, bytes: &[u8]) -> Result<(Event, &[u8]), TraceErr>
-    ensures exact { Gives (λ x. (x.0, x.1.now)) result (event_reading profile objects bytes.now) }
+    ensures exact { YieldsTrace (λ x. (x.0, x.1.now)) result (event_reading profile objects bytes.now) }
     ensures taken { IfOk result (λ x. length x.1.now + shortest profile ≤ length bytes.now) }
 {
     let (tag, rest) = byte(bytes, TraceErr::Short)?;
@@ -142,7 +142,7 @@ pub fn events(
     bytes: &[u8],
 ) -> Result<(Log, &[u8]), TraceErr>
     requires { count ≤ most_events }
-    ensures exact { Gives (λ x. (x.0.events, x.1.now)) result (fields_at (event_reading profile objects) count bytes.now) }
+    ensures exact { YieldsTrace (λ x. (x.0.events, x.1.now)) result (fields_at (event_reading profile objects) count bytes.now) }
     ensures room { IfOk result (λ x. x.0.room ≡ length x.0.events) }
 {
     let room = (count as usize).min(bytes.len() / shortest_event(profile));

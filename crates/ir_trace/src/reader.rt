@@ -5,7 +5,7 @@ ghost use Rattle.ir_trace.specs.Recorded.{Recorded, profile_at, header_at, end_a
 ghost use Rattle.ir_trace.specs.Bounds.{IsRecorded};
 ghost use Rattle.ir_trace.specs.Encoding.{encoding};
 ghost use Rattle.ir_bytes.specs.Reading.{fields_at};
-ghost use Rattle.ir_trace.specs.Results.{Gives};
+ghost use Rattle.ir_trace.specs.Results.{YieldsTrace};
 
 use crate::event_reader::events;
 use crate::header::Header;
@@ -19,7 +19,7 @@ use std::alloc::Global;
 
 #[tactic(auto, unfolding(crate::specs::Recorded::profile_at, ir_bytes::specs::Reading::field_at))]
 fn profile(bytes: &[u8]) -> Result<(Profile, &[u8]), TraceErr>
-    ensures { Gives (λ x. (x.0, x.1.now)) result (profile_at bytes.now) }
+    ensures { YieldsTrace (λ x. (x.0, x.1.now)) result (profile_at bytes.now) }
 {
     match word(bytes, TraceErr::Short)? {
         (MAGIC_ONE, rest) => Ok((Profile::One, rest)),
@@ -30,7 +30,7 @@ fn profile(bytes: &[u8]) -> Result<(Profile, &[u8]), TraceErr>
 
 #[tactic(auto, unfolding(crate::specs::Recorded::header_at))]
 fn header(bytes: &[u8]) -> Result<(Header, &[u8]), TraceErr>
-    ensures { Gives (λ x. (x.0, x.1.now)) result (header_at bytes.now) }
+    ensures { YieldsTrace (λ x. (x.0, x.1.now)) result (header_at bytes.now) }
 {
     let (profile, rest) = profile(bytes)?;
     let most = profile.largest().limits();
@@ -51,7 +51,7 @@ fn header(bytes: &[u8]) -> Result<(Header, &[u8]), TraceErr>
 
 #[tactic(auto, unfolding(crate::specs::Recorded::end_at))]
 fn end(bytes: &[u8]) -> Result<(End, &[u8]), TraceErr>
-    ensures { Gives (λ x. (x.0, x.1.now)) result (end_at bytes.now) }
+    ensures { YieldsTrace (λ x. (x.0, x.1.now)) result (end_at bytes.now) }
 {
     let (number, rest) = byte_within(1, 14, bytes, TraceErr::Short, TraceErr::Range)?;
     let (code, rest) = word(rest, TraceErr::Short)?;
@@ -68,7 +68,7 @@ fn thread(
     objects: u8,
     bytes: &[u8],
 ) -> Result<(ThreadTrace, &[u8]), TraceErr>
-    ensures { Gives (λ x. (x.0, x.1.now)) result (thread_part_at profile objects bytes.now) }
+    ensures { YieldsTrace (λ x. (x.0, x.1.now)) result (thread_part_at profile objects bytes.now) }
 {
     let (steps, rest) = double(bytes, TraceErr::Short)?;
     let (end, rest) = end(rest)?;
@@ -84,7 +84,7 @@ fn threads(
     count: u8,
     bytes: &[u8],
 ) -> Result<(Vec<ThreadTrace>, &[u8]), TraceErr>
-    ensures { Gives (λ x. (x.0.items, x.1.now)) result (fields_at (thread_part_at profile objects) count bytes.now) }
+    ensures { YieldsTrace (λ x. (x.0.items, x.1.now)) result (fields_at (thread_part_at profile objects) count bytes.now) }
 {
     let mut threads = Vec::new(alloc);
     let mut rest = bytes;
@@ -99,7 +99,7 @@ fn threads(
 #[tactic(auto, unfolding(crate::specs::Recorded::recorded_at))]
 fn trace(alloc: Global, bytes: &[u8]) -> Result<Trace, TraceErr>
     ensures found { IfOk result (λ trace. IsRecorded trace × (bytes.now ≡ encoding trace)) }
-    ensures exact { Gives (λ trace. trace) result (recorded_at bytes.now) }
+    ensures exact { YieldsTrace (λ trace. trace) result (recorded_at bytes.now) }
 {
     let (header, rest) = header(bytes)?;
     let (threads, rest) = threads(alloc, header.profile, header.objects, header.threads, rest)?;
@@ -118,9 +118,9 @@ pub fn read_trace(alloc: Global, bytes: &[u8]) -> Result<Trace, TraceErr>
     // What is read was recorded within the limits, and is encoded so.
     ensures found { IfOk result (λ trace. IsRecorded trace × (bytes.now ≡ encoding trace)) }
     // What is encoded so is read, unless memory runs out.
-    ensures only { (r : Recorded) → IsRecorded r → bytes.now ≡ encoding r → Gives (λ trace. trace) result (Ok r) }
+    ensures only { (r : Recorded) → IsRecorded r → bytes.now ≡ encoding r → YieldsTrace (λ trace. trace) result (Ok r) }
     // Which fault it is.
-    ensures exact { Gives (λ trace. trace) result (recorded_at bytes.now) }
+    ensures exact { YieldsTrace (λ trace. trace) result (recorded_at bytes.now) }
 {
     trace(alloc, bytes)
 }

@@ -1,7 +1,7 @@
 //! A trace in memory.
 
 ghost use Rattle.std.specs.Prelude.{◌≡◌, ◌<◌, ◌≤◌, length, slice_get, Some, IfOk, OnErr};
-ghost use Rattle.ir_log.specs.Asked.{Suits};
+ghost use Rattle.ir_log.specs.Asked.{SuitsEvent};
 ghost use Rattle.ir_log.specs.declared.event.Event.{Event};
 ghost use Rattle.ir_thread.specs.State.{most_events};
 ghost use Rattle.ir_trace.specs.Recorded.{Recorded, recorded_thread};
@@ -85,9 +85,9 @@ impl Trace {
         requires thread { t < length self.now.threads }
         requires before { before ≤ most_events }
         ensures next { IfOk result (λ event. slice_get (recorded_thread self.now t).events before ≡ Some event) }
-        ensures suits { IfOk result (λ event. Suits asked event) }
+        ensures suits { IfOk result (λ event. SuitsEvent asked event) }
         ensures within { IsRecordedThread self.now.profile self.now.objects (recorded_thread self.now t) }
-        ensures disagrees { OnErr result ((event : Event) → slice_get (recorded_thread self.now t).events before ≡ Some event → Suits asked event → ⊥) }
+        ensures disagrees { OnErr result ((event : Event) → slice_get (recorded_thread self.now t).events before ≡ Some event → SuitsEvent asked event → ⊥) }
     {
         Cursor::at(before as usize).expect(self.threads[t].log(), &asked)
     }

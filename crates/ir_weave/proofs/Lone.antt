@@ -1,5 +1,6 @@
 -- A thread that advances by itself beside its trace.
-use Rattle.std.proofs.Common.{◌≡◌, ℕ, suc, zero, ◌+◌, ◌<◌, ◌≤◌, List, [], ◌∷◌, ◌++◌, length, map, take, drop, Some, refl, sym, ap, ◌∙◌, subst, arith, inl, inr, take-append-drop, length-append, le_refl}
+use Rattle.std.proofs.Common.{◌≡◌, ℕ, suc, zero, ◌+◌, ◌<◌, ◌≤◌, List, [], ◌∷◌, ◌++◌, length, map, take, drop, Some, refl, sym, ap, ◌∙◌}
+use Rattle.std.proofs.Common.{subst, arith, inl, inr, take-append-drop, length-append, le_refl}
 use Rattle.std.proofs.lemmas.Bool.{cases_lt}
 use Rattle.std.proofs.Math.Seq.{drop-append_seam}
 use Rattle.std.specs.Prelude.{slice_get}
@@ -14,9 +15,9 @@ use Rattle.ir_runs.specs.declared.env_kind.EnvKind.{EnvKind}
 use Rattle.ir_thread.specs.declared.ask.Reply.{Reply}
 use Rattle.ir_thread.specs.declared.ask.Reply.TheVariants.{Go, Value}
 use Rattle.ir_runs.specs.Run.{Step, trail, events, count, At, Emits}
-use Rattle.ir_runs.proofs.CallerLemmas.{events_append}
+use Rattle.ir_runs.proofs.CallerLemmas.{events_append, drop_at_element}
 use Rattle.ir_flat.specs.Flat.{Flat, start_flat, machine as machine_in}
-use Rattle.ir_flat.proofs.CallerLemmas.{start_thread_is_fresh, events_added_by, events_after_ask, length_of_held_after_ask}
+use Rattle.ir_flat.proofs.CallerLemmas.{start_thread_is_fresh, events_added_by, events_after_ask, length-held_after_ask}
 use Rattle.ir_log.specs.Logging.{label_of}
 use Rattle.ir_log.specs.declared.event.Event.{Event}
 use Rattle.ir_log.specs.declared.event.Event.TheVariants.{Answer as Answered, Read, Write, Try as Refused}
@@ -24,73 +25,68 @@ use Rattle.ir_trace.specs.Recorded.{recorded_thread}
 use Rattle.ir_fit.specs.Fit.{FittedTrace, IsRunOf}
 use Rattle.ir_cut.specs.Positions.{machine_of, start_of, EachRun, thread_at}
 use Rattle.ir_weave.specs.Ahead.{TouchesNoObject, NextTouchesNone, HasStep, IsThreadAt, IsAhead, ask_at, event_of}
-use Rattle.ir_weave.proofs.Trails.{StepOf, thread_at_position_zero_is_start_thread, emitting_step_is_step_of}
+use Rattle.ir_weave.proofs.Trails.{StepOf, thread_at_zero_is_start, emitting_is_step_of}
 
 -- ---- the next event
 
 -- a place of a list
-element_exists_below_length : {A : Type 0} (xs : List A) (k : ℕ) → k < length xs → (x : A) × At xs k x
-element_exists_below_length [] k l = absurd (omega arith)
-element_exists_below_length (x ∷ xs) zero l = (x, refl)
-element_exists_below_length (x ∷ xs) (suc k) l = element_exists_below_length xs k (omega (arith, l))
+at_below_length_exists : {A : Type 0} (xs : List A) (k : ℕ) → k < length xs → (x : A) × At xs k x
+at_below_length_exists [] k l = absurd (omega arith)
+at_below_length_exists (x ∷ xs) zero l = (x, refl)
+at_below_length_exists (x ∷ xs) (suc k) l = at_below_length_exists xs k (omega (arith, l))
 
-take_suc_is_take_and_element : {A : Type 0} (xs : List A) (k : ℕ) (x : A) → At xs k x → take (suc k) xs ≡ take k xs ++ x ∷ []
-take_suc_is_take_and_element [] k x h = absurd h
-take_suc_is_take_and_element (y ∷ ys) zero x h = ap (λ z. z ∷ []) h
-take_suc_is_take_and_element (y ∷ ys) (suc k) x h = ap (λ z. y ∷ z) (take_suc_is_take_and_element ys k x h)
-
-drop_splits_off_element_at_index : {A : Type 0} (xs : List A) (k : ℕ) (x : A) → At xs k x → drop k xs ≡ x ∷ drop (suc k) xs
-drop_splits_off_element_at_index [] k x h = absurd h
-drop_splits_off_element_at_index (y ∷ ys) zero x h = ap (λ z. z ∷ ys) h
-drop_splits_off_element_at_index (y ∷ ys) (suc k) x h = drop_splits_off_element_at_index ys k x h
+take_suc_push : {A : Type 0} (xs : List A) (k : ℕ) (x : A) → At xs k x → take (suc k) xs ≡ take k xs ++ x ∷ []
+take_suc_push [] k x h = absurd h
+take_suc_push (y ∷ ys) zero x h = ap (λ z. z ∷ []) h
+take_suc_push (y ∷ ys) (suc k) x h = ap (λ z. y ∷ z) (take_suc_push ys k x h)
 
 -- step k of thread t
 pub step_below_count_emits : (f : FittedTrace) (run : List Step) (t k : ℕ) → k < count (machine_of f) (start_of f) run t → (a : Label)
     × Emits (machine_of f) (start_of f) run t k a
-step_below_count_emits f run t k l = let z = element_exists_below_length (trail (machine_of f) (start_of f) run t) k l in (z.0.1, (z.0.0, z.1))
+step_below_count_emits f run t k l = let z = at_below_length_exists (trail (machine_of f) (start_of f) run t) k l in (z.0.1, (z.0.0, z.1))
 
-emitted_length_is_events_added : (f : FittedTrace) (q : Ask) (r : ℕ) (b : Object) → Admits (machine_of f) (act_of (shared_ask q) r) b
+emitted_adds_events : (f : FittedTrace) (q : Ask) (r : ℕ) (b : Object) → Admits (machine_of f) (act_of (shared_ask q) r) b
     → length (logged (emitted (act_of (shared_ask q) r) b) []) ≡ events_added_by q
-emitted_length_is_events_added f Private r b can = refl
-emitted_length_is_events_added f (Env kind) r b can = refl
-emitted_length_is_events_added f (Enter o Reading) r b can = refl
-emitted_length_is_events_added f (Enter o Writing) r b can = refl
-emitted_length_is_events_added f (Try o) zero b can = refl
-emitted_length_is_events_added f (Try o) (suc zero) b can = refl
-emitted_length_is_events_added f (Try o) (suc (suc r)) b can = absurd can
-emitted_length_is_events_added f (Leave o a) r b can = refl
-emitted_length_is_events_added f (Get o i) r b can = refl
-emitted_length_is_events_added f (Put o i w) r b can = refl
-emitted_length_is_events_added f Print r b can = refl
-emitted_length_is_events_added f (End e) r b can = refl
-emitted_length_is_events_added f Done r b can = refl
+emitted_adds_events f Private r b can = refl
+emitted_adds_events f (Env kind) r b can = refl
+emitted_adds_events f (Enter o Reading) r b can = refl
+emitted_adds_events f (Enter o Writing) r b can = refl
+emitted_adds_events f (Try o) zero b can = refl
+emitted_adds_events f (Try o) (suc zero) b can = refl
+emitted_adds_events f (Try o) (suc (suc r)) b can = absurd can
+emitted_adds_events f (Leave o a) r b can = refl
+emitted_adds_events f (Get o i) r b can = refl
+emitted_adds_events f (Put o i w) r b can = refl
+emitted_adds_events f Print r b can = refl
+emitted_adds_events f (End e) r b can = refl
+emitted_adds_events f Done r b can = refl
 
-pub machine_take_is_after_ask : (code : List ℕ) (x : thread.ThreadState) (n : ℕ)
+pub machine_take_is_ask : (code : List ℕ) (x : thread.ThreadState) (n : ℕ)
     → (thread_machine code).take x n ≡ after_ask code x (ask_of code x) (reply_of (ask_of code x) n)
 unfolding after_reply
-machine_take_is_after_ask code x n = refl
+machine_take_is_ask code x n = refl
 
-events_after_machine_take : (code : List ℕ) (x : thread.ThreadState) (n : ℕ) → ((thread_machine code).take x n).events ≡ x.events + events_added_by (ask_of code x)
-events_after_machine_take code x n = ap (λ (z : thread.ThreadState). z.events) (machine_take_is_after_ask code x n)
+events-machine_take : (code : List ℕ) (x : thread.ThreadState) (n : ℕ) → ((thread_machine code).take x n).events ≡ x.events + events_added_by (ask_of code x)
+events-machine_take code x n = ap (λ (z : thread.ThreadState). z.events) (machine_take_is_ask code x n)
     ∙ events_after_ask code x (ask_of code x) (reply_of (ask_of code x) n)
 
 -- how many events it has logged
-thread_events_count_log_so_far : (f : FittedTrace) (run : List Step) → IsRunOf f.guest f.recorded run → (t k : ℕ) → k ≤ count (machine_of f) (start_of f) run t
+events_count_log : (f : FittedTrace) (run : List Step) → IsRunOf f.guest f.recorded run → (t k : ℕ) → k ≤ count (machine_of f) (start_of f) run t
     → (thread_at f run t k).events ≡ length (events (take k (trail (machine_of f) (start_of f) run t)))
-thread_events_count_log_so_far f run of t zero l = ap (λ (z : thread.ThreadState). z.events) (thread_at_position_zero_is_start_thread (machine_of f) (start_of f) run t)
+events_count_log f run of t zero l = ap (λ (z : thread.ThreadState). z.events) (thread_at_zero_is_start (machine_of f) (start_of f) run t)
     ∙ (start_thread_is_fresh f.guest f.recorded.budget f.recorded.profile 0 (length f.guest.entries) t).events
-thread_events_count_log_so_far f run of t (suc k) l =
+events_count_log f run of t (suc k) l =
     let at = step_below_count_emits f run t k l in
     let z : StepOf (machine_of f) (thread_at f run t k) (thread_at f run t (suc k)) at.0 =
-    emitting_step_is_step_of (machine_of f) (start_of f) run of.1.runs t k at.0 at.1 in
+    emitting_is_step_of (machine_of f) (start_of f) run of.1.runs t k at.0 at.1 in
     let q : Ask = ask_at f run t k in
     let more : (thread_at f run t (suc k)).events ≡ (thread_at f run t k).events + events_added_by q = ap (λ (x : thread.ThreadState). x.events) z.next
-    ∙ events_after_machine_take f.guest.code (thread_at f run t k) (reply (act_of (shared_ask q) z.result) z.object) in
-    let one : length (logged at.0 []) ≡ events_added_by q = ap (λ a. length (logged a [])) z.emits ∙ emitted_length_is_events_added f q z.result z.object z.can in
-    let before = thread_events_count_log_so_far f run of t k (omega (arith, l)) in
+    ∙ events-machine_take f.guest.code (thread_at f run t k) (reply (act_of (shared_ask q) z.result) z.object) in
+    let one : length (logged at.0 []) ≡ events_added_by q = ap (λ a. length (logged a [])) z.emits ∙ emitted_adds_events f q z.result z.object z.can in
+    let before = events_count_log f run of t k (omega (arith, l)) in
     let parts : events (take (suc k) (trail (machine_of f) (start_of f) run t)) ≡ events (take k (trail (machine_of f) (start_of f) run t))
     ++ logged at.0 [] =
-    ap events (take_suc_is_take_and_element (trail (machine_of f) (start_of f) run t) k (at.1.0, at.0) at.1.1)
+    ap events (take_suc_push (trail (machine_of f) (start_of f) run t) k (at.1.0, at.0) at.1.1)
     ∙ events_append (take k (trail (machine_of f) (start_of f) run t)) ((at.1.0, at.0) ∷ []) in
     let sum = ap (λ (es : List Label). length es) parts
     ∙ length-append (events (take k (trail (machine_of f) (start_of f) run t))) (logged at.0 []) in
@@ -103,49 +99,49 @@ recorded_log_left_is_trail_log : (f : FittedTrace) (run : List Step) → IsRunOf
     (drop k (trail (machine_of f) (start_of f) run t))
 recorded_log_left_is_trail_log f run of t k l within =
     let xs = trail (machine_of f) (start_of f) run t in
-    ap (λ n. drop n (map label_of (recorded_thread f.recorded t).events)) (thread_events_count_log_so_far f run of t k within)
+    ap (λ n. drop n (map label_of (recorded_thread f.recorded t).events)) (events_count_log f run of t k within)
     ∙ ap (drop (length (events (take k xs)))) (sym (of.1.logs t l) ∙ ap events (sym (take-append-drop k xs))
     ∙ events_append (take k xs) (drop k xs))
     ∙ drop-append_seam (events (take k xs)) (events (drop k xs))
 
-first_of_dropped_labels_is_label_of_event : (xs : List Event) (i : ℕ) (a : Label) (es : List Label) → drop i (map label_of xs) ≡ a ∷ es → (e : Event)
+dropped_label_has_event : (xs : List Event) (i : ℕ) (a : Label) (es : List Label) → drop i (map label_of xs) ≡ a ∷ es → (e : Event)
     × (slice_get xs i ≡ Some e) × (label_of e ≡ a)
-first_of_dropped_labels_is_label_of_event [] zero a es h = absurd (cc h)
-first_of_dropped_labels_is_label_of_event [] (suc i) a es h = absurd (cc h)
-first_of_dropped_labels_is_label_of_event (x ∷ xs) zero a es h = (x, refl, cc h)
-first_of_dropped_labels_is_label_of_event (x ∷ xs) (suc i) a es h = first_of_dropped_labels_is_label_of_event xs i a es h
+dropped_label_has_event [] zero a es h = absurd (cc h)
+dropped_label_has_event [] (suc i) a es h = absurd (cc h)
+dropped_label_has_event (x ∷ xs) zero a es h = (x, refl, cc h)
+dropped_label_has_event (x ∷ xs) (suc i) a es h = dropped_label_has_event xs i a es h
 
-logged_conses_emitted_if_one_event_added : (f : FittedTrace) (q : Ask) (r : ℕ) (b : Object) (es : List Label) → Admits (machine_of f) (act_of (shared_ask q) r) b
+logged_is_cons : (f : FittedTrace) (q : Ask) (r : ℕ) (b : Object) (es : List Label) → Admits (machine_of f) (act_of (shared_ask q) r) b
     → events_added_by q ≡ 1 → logged (emitted (act_of (shared_ask q) r) b) es ≡ emitted (act_of (shared_ask q) r) b ∷ es
-logged_conses_emitted_if_one_event_added f Private r b es can h = absurd (omega (arith, h))
-logged_conses_emitted_if_one_event_added f (Env kind) r b es can h = refl
-logged_conses_emitted_if_one_event_added f (Enter o Reading) r b es can h = refl
-logged_conses_emitted_if_one_event_added f (Enter o Writing) r b es can h = refl
-logged_conses_emitted_if_one_event_added f (Try o) zero b es can h = refl
-logged_conses_emitted_if_one_event_added f (Try o) (suc zero) b es can h = refl
-logged_conses_emitted_if_one_event_added f (Try o) (suc (suc r)) b es can h = absurd can
-logged_conses_emitted_if_one_event_added f (Leave o a) r b es can h = absurd (omega (arith, h))
-logged_conses_emitted_if_one_event_added f (Get o i) r b es can h = absurd (omega (arith, h))
-logged_conses_emitted_if_one_event_added f (Put o i w) r b es can h = absurd (omega (arith, h))
-logged_conses_emitted_if_one_event_added f Print r b es can h = absurd (omega (arith, h))
-logged_conses_emitted_if_one_event_added f (End e) r b es can h = absurd (omega (arith, h))
-logged_conses_emitted_if_one_event_added f Done r b es can h = absurd (omega (arith, h))
+logged_is_cons f Private r b es can h = absurd (omega (arith, h))
+logged_is_cons f (Env kind) r b es can h = refl
+logged_is_cons f (Enter o Reading) r b es can h = refl
+logged_is_cons f (Enter o Writing) r b es can h = refl
+logged_is_cons f (Try o) zero b es can h = refl
+logged_is_cons f (Try o) (suc zero) b es can h = refl
+logged_is_cons f (Try o) (suc (suc r)) b es can h = absurd can
+logged_is_cons f (Leave o a) r b es can h = absurd (omega (arith, h))
+logged_is_cons f (Get o i) r b es can h = absurd (omega (arith, h))
+logged_is_cons f (Put o i w) r b es can h = absurd (omega (arith, h))
+logged_is_cons f Print r b es can h = absurd (omega (arith, h))
+logged_is_cons f (End e) r b es can h = absurd (omega (arith, h))
+logged_is_cons f Done r b es can h = absurd (omega (arith, h))
 
 -- the event of a step that is logged
-pub logged_step_has_recorded_event : (f : FittedTrace) (run : List Step) → IsRunOf f.guest f.recorded run → (t k : ℕ) → t < length f.guest.entries
+pub logged_step_has_event : (f : FittedTrace) (run : List Step) → IsRunOf f.guest f.recorded run → (t k : ℕ) → t < length f.guest.entries
     → k < count (machine_of f) (start_of f) run t → events_added_by (ask_at f run t k) ≡ 1
     → (e : Event) × (slice_get (recorded_thread f.recorded t).events (thread_at f run t k).events ≡ Some e)
     × Emits (machine_of f) (start_of f) run t k (label_of e)
-logged_step_has_recorded_event f run of t k l within one =
+logged_step_has_event f run of t k l within one =
     let at = step_below_count_emits f run t k within in
     let xs = trail (machine_of f) (start_of f) run t in
     let z : StepOf (machine_of f) (thread_at f run t k) (thread_at f run t (suc k)) at.0 =
-    emitting_step_is_step_of (machine_of f) (start_of f) run of.1.runs t k at.0 at.1 in
+    emitting_is_step_of (machine_of f) (start_of f) run of.1.runs t k at.0 at.1 in
     let es : List Label = events (drop (suc k) xs) in
     let first : drop (thread_at f run t k).events (map label_of (recorded_thread f.recorded t).events) ≡ at.0 ∷ es =
-    recorded_log_left_is_trail_log f run of t k l (omega (arith, within)) ∙ ap events (drop_splits_off_element_at_index xs k (at.1.0, at.0) at.1.1) ∙ ap (λ a. logged a es) z.emits
-    ∙ logged_conses_emitted_if_one_event_added f (ask_at f run t k) z.result z.object es z.can one ∙ ap (λ a. a ∷ es) (sym z.emits) in
-    let found = first_of_dropped_labels_is_label_of_event (recorded_thread f.recorded t).events (thread_at f run t k).events at.0 es first in
+    recorded_log_left_is_trail_log f run of t k l (omega (arith, within)) ∙ ap events (drop_at_element xs k (at.1.0, at.0) at.1.1) ∙ ap (λ a. logged a es) z.emits
+    ∙ logged_is_cons f (ask_at f run t k) z.result z.object es z.can one ∙ ap (λ a. a ∷ es) (sym z.emits) in
+    let found = dropped_label_has_event (recorded_thread f.recorded t).events (thread_at f run t k).events at.0 es first in
     (found.0, found.1, subst (Emits (machine_of f) (start_of f) run t k) (sym found.2) at.1)
 
 -- ---- the next step
@@ -157,47 +153,47 @@ HasNoValue (Try o) = ⊥
 HasNoValue (Get o i) = ⊥
 HasNoValue _ = Unit {0}
 
-reply_is_go_if_ask_has_no_value : (q : Ask) → HasNoValue q → (n : ℕ) → reply_of q n ≡ Go
-reply_is_go_if_ask_has_no_value Private h n = refl
-reply_is_go_if_ask_has_no_value (Env kind) h n = absurd h
-reply_is_go_if_ask_has_no_value (Enter o a) h n = refl
-reply_is_go_if_ask_has_no_value (Try o) h n = absurd h
-reply_is_go_if_ask_has_no_value (Leave o a) h n = refl
-reply_is_go_if_ask_has_no_value (Get o i) h n = absurd h
-reply_is_go_if_ask_has_no_value (Put o i w) h n = refl
-reply_is_go_if_ask_has_no_value Print h n = refl
-reply_is_go_if_ask_has_no_value (End e) h n = refl
-reply_is_go_if_ask_has_no_value Done h n = refl
+no_value_reply_is_go : (q : Ask) → HasNoValue q → (n : ℕ) → reply_of q n ≡ Go
+no_value_reply_is_go Private h n = refl
+no_value_reply_is_go (Env kind) h n = absurd h
+no_value_reply_is_go (Enter o a) h n = refl
+no_value_reply_is_go (Try o) h n = absurd h
+no_value_reply_is_go (Leave o a) h n = refl
+no_value_reply_is_go (Get o i) h n = absurd h
+no_value_reply_is_go (Put o i w) h n = refl
+no_value_reply_is_go Print h n = refl
+no_value_reply_is_go (End e) h n = refl
+no_value_reply_is_go Done h n = refl
 
 -- where nothing is answered
-pub thread_after_step_without_value_gets_go : (f : FittedTrace) (run : List Step) → IsRunOf f.guest f.recorded run → (t k : ℕ) (q : Ask)
+pub no_value_step_gets_go : (f : FittedTrace) (run : List Step) → IsRunOf f.guest f.recorded run → (t k : ℕ) (q : Ask)
     → k < count (machine_of f) (start_of f) run t → ask_at f run t k ≡ q → HasNoValue q
     → thread_at f run t (suc k) ≡ after_ask f.guest.code (thread_at f run t k) q Go
-thread_after_step_without_value_gets_go f run of t k q l is go =
+no_value_step_gets_go f run of t k q l is go =
     let at = step_below_count_emits f run t k l in
     let z : StepOf (machine_of f) (thread_at f run t k) (thread_at f run t (suc k)) at.0 =
-    emitting_step_is_step_of (machine_of f) (start_of f) run of.1.runs t k at.0 at.1 in
+    emitting_is_step_of (machine_of f) (start_of f) run of.1.runs t k at.0 at.1 in
     let n : ℕ = reply (act_of (shared_ask (ask_at f run t k)) z.result) z.object in
-    z.next ∙ machine_take_is_after_ask f.guest.code (thread_at f run t k) n ∙ ap (λ a. after_ask f.guest.code (thread_at f run t k) a (reply_of a n)) is
-    ∙ ap (after_ask f.guest.code (thread_at f run t k) q) (reply_is_go_if_ask_has_no_value q go n)
+    z.next ∙ machine_take_is_ask f.guest.code (thread_at f run t k) n ∙ ap (λ a. after_ask f.guest.code (thread_at f run t k) a (reply_of a n)) is
+    ∙ ap (after_ask f.guest.code (thread_at f run t k) q) (no_value_reply_is_go q go n)
 
 emitted_answer_is_result : (kind : EnvKind) (r : ℕ) (b : Object) (j : EnvKind) (v : ℕ) → emitted (act_of (shared_ask (Env kind)) r) b ≡ Answer j v → r ≡ v
 emitted_answer_is_result kind r b j v h = cc h
 
 -- where a call of the environment is answered as the trace emits
-pub thread_after_environment_call_gets_logged_answer : (f : FittedTrace) (run : List Step) → IsRunOf f.guest f.recorded run → (t k : ℕ) (kind j : EnvKind) (v : ℕ)
+pub call_gets_logged_answer : (f : FittedTrace) (run : List Step) → IsRunOf f.guest f.recorded run → (t k : ℕ) (kind j : EnvKind) (v : ℕ)
     → t < length f.guest.entries → k < count (machine_of f) (start_of f) run t → ask_at f run t k ≡ Env kind
     → slice_get (recorded_thread f.recorded t).events (thread_at f run t k).events ≡ Some (Answered j v)
     → thread_at f run t (suc k) ≡ after_ask f.guest.code (thread_at f run t k) (Env kind) (Value v)
-thread_after_environment_call_gets_logged_answer f run of t k kind j v l within is event =
-    let found = logged_step_has_recorded_event f run of t k l within (ap events_added_by is) in
+call_gets_logged_answer f run of t k kind j v l within is event =
+    let found = logged_step_has_event f run of t k l within (ap events_added_by is) in
     let same : found.0 ≡ Answered j v = cc (found.1, event) in
     let z : StepOf (machine_of f) (thread_at f run t k) (thread_at f run t (suc k)) (label_of found.0) =
-    emitting_step_is_step_of (machine_of f) (start_of f) run of.1.runs t k (label_of found.0) found.2 in
+    emitting_is_step_of (machine_of f) (start_of f) run of.1.runs t k (label_of found.0) found.2 in
     let emits : emitted (act_of (shared_ask (Env kind)) z.result) z.object ≡ Answer j v =
     ap (λ a. emitted (act_of (shared_ask a) z.result) z.object) (sym is) ∙ sym z.emits ∙ ap label_of same in
     let r : z.result ≡ v = emitted_answer_is_result kind z.result z.object j v emits in
-    z.next ∙ machine_take_is_after_ask f.guest.code (thread_at f run t k) (reply (act_of (shared_ask (ask_at f run t k)) z.result) z.object)
+    z.next ∙ machine_take_is_ask f.guest.code (thread_at f run t k) (reply (act_of (shared_ask (ask_at f run t k)) z.result) z.object)
     ∙ ap (λ a. after_ask f.guest.code (thread_at f run t k) a (reply_of a (reply (act_of (shared_ask a) z.result) z.object))) is
     ∙ ap (λ n. after_ask f.guest.code (thread_at f run t k) (Env kind) (Value n)) r
 
@@ -208,17 +204,17 @@ try_result (Read object version) = 0
 try_result (Write object version readers) = 1
 try_result (Refused object) = 0
 
-pub result_of_emitted_try_is_try_result_of_event : (s : Flat) (o r : ℕ) (b : Object) (e : Event) → Admits (machine_in s) (act_of (machine.Try o) r) b
+pub emitted_try_result : (s : Flat) (o r : ℕ) (b : Object) (e : Event) → Admits (machine_in s) (act_of (machine.Try o) r) b
     → emitted (act_of (machine.Try o) r) b ≡ label_of e → r ≡ try_result e
-result_of_emitted_try_is_try_result_of_event s o zero b (Answered j v) can h = refl
-result_of_emitted_try_is_try_result_of_event s o zero b (Read p v) can h = refl
-result_of_emitted_try_is_try_result_of_event s o zero b (Write p v l) can h = absurd (cc h)
-result_of_emitted_try_is_try_result_of_event s o zero b (Refused p) can h = refl
-result_of_emitted_try_is_try_result_of_event s o (suc zero) b (Answered j v) can h = absurd (cc h)
-result_of_emitted_try_is_try_result_of_event s o (suc zero) b (Read p v) can h = absurd (cc h)
-result_of_emitted_try_is_try_result_of_event s o (suc zero) b (Write p v l) can h = refl
-result_of_emitted_try_is_try_result_of_event s o (suc zero) b (Refused p) can h = absurd (cc h)
-result_of_emitted_try_is_try_result_of_event s o (suc (suc r)) b e can h = absurd can
+emitted_try_result s o zero b (Answered j v) can h = refl
+emitted_try_result s o zero b (Read p v) can h = refl
+emitted_try_result s o zero b (Write p v l) can h = absurd (cc h)
+emitted_try_result s o zero b (Refused p) can h = refl
+emitted_try_result s o (suc zero) b (Answered j v) can h = absurd (cc h)
+emitted_try_result s o (suc zero) b (Read p v) can h = absurd (cc h)
+emitted_try_result s o (suc zero) b (Write p v l) can h = refl
+emitted_try_result s o (suc zero) b (Refused p) can h = absurd (cc h)
+emitted_try_result s o (suc (suc r)) b e can h = absurd can
 
 reply_of_try_is_result : (f : FittedTrace) (o r : ℕ) (b : Object) → Admits (machine_of f) (act_of (machine.Try o) r) b
     → reply (act_of (machine.Try o) r) b ≡ r
@@ -227,22 +223,22 @@ reply_of_try_is_result f o (suc zero) b can = refl
 reply_of_try_is_result f o (suc (suc r)) b can = absurd can
 
 -- where a try is answered as the trace emits
-pub thread_after_try_gets_logged_result : (f : FittedTrace) (run : List Step) → IsRunOf f.guest f.recorded run → (t k o : ℕ) (e : Event)
+pub try_gets_logged_result : (f : FittedTrace) (run : List Step) → IsRunOf f.guest f.recorded run → (t k o : ℕ) (e : Event)
     → t < length f.guest.entries → k < count (machine_of f) (start_of f) run t → ask_at f run t k ≡ Try o
     → slice_get (recorded_thread f.recorded t).events (thread_at f run t k).events ≡ Some e
     → thread_at f run t (suc k) ≡ after_ask f.guest.code (thread_at f run t k) (Try o) (Value (try_result e))
-thread_after_try_gets_logged_result f run of t k o e l within is event =
-    let found = logged_step_has_recorded_event f run of t k l within (ap events_added_by is) in
+try_gets_logged_result f run of t k o e l within is event =
+    let found = logged_step_has_event f run of t k l within (ap events_added_by is) in
     let same : found.0 ≡ e = cc (found.1, event) in
     let z : StepOf (machine_of f) (thread_at f run t k) (thread_at f run t (suc k)) (label_of found.0) =
-    emitting_step_is_step_of (machine_of f) (start_of f) run of.1.runs t k (label_of found.0) found.2 in
+    emitting_is_step_of (machine_of f) (start_of f) run of.1.runs t k (label_of found.0) found.2 in
     let can : Admits (machine_of f) (act_of (machine.Try o) z.result) z.object =
     subst (λ q. Admits (machine_of f) (act_of (shared_ask q) z.result) z.object) is z.can in
     let emits : emitted (act_of (machine.Try o) z.result) z.object ≡ label_of e =
     ap (λ a. emitted (act_of (shared_ask a) z.result) z.object) (sym is) ∙ sym z.emits ∙ ap label_of same in
     let r : reply (act_of (machine.Try o) z.result) z.object ≡ try_result e = reply_of_try_is_result f o z.result z.object can
-    ∙ result_of_emitted_try_is_try_result_of_event (start_flat f.guest f.recorded.budget f.recorded.profile) o z.result z.object e can emits in
-    z.next ∙ machine_take_is_after_ask f.guest.code (thread_at f run t k) (reply (act_of (shared_ask (ask_at f run t k)) z.result) z.object)
+    ∙ emitted_try_result (start_flat f.guest f.recorded.budget f.recorded.profile) o z.result z.object e can emits in
+    z.next ∙ machine_take_is_ask f.guest.code (thread_at f run t k) (reply (act_of (shared_ask (ask_at f run t k)) z.result) z.object)
     ∙ ap (λ a. after_ask f.guest.code (thread_at f run t k) a (reply_of a (reply (act_of (shared_ask a) z.result) z.object))) is
     ∙ ap (λ n. after_ask f.guest.code (thread_at f run t k) (Try o) (Value n)) r
 
@@ -252,29 +248,29 @@ abbrev pub IsNotDone : (q : Ask) → Type 0
 IsNotDone Done = ⊥
 IsNotDone _ = Unit {0}
 
-pub steps_after_ask_are_one_more_if_not_done : (code : List ℕ) (x : thread.ThreadState) (q : Ask) (r : Reply) → IsNotDone q → (after_ask code x q r).steps ≡ x.steps + 1
-steps_after_ask_are_one_more_if_not_done code x Private r h = refl
-steps_after_ask_are_one_more_if_not_done code x (Env kind) r h = refl
-steps_after_ask_are_one_more_if_not_done code x (Enter o a) r h = refl
-steps_after_ask_are_one_more_if_not_done code x (Try o) r h = refl
-steps_after_ask_are_one_more_if_not_done code x (Leave o a) r h = refl
-steps_after_ask_are_one_more_if_not_done code x (Get o i) r h = refl
-steps_after_ask_are_one_more_if_not_done code x (Put o i w) r h = refl
-steps_after_ask_are_one_more_if_not_done code x Print r h = refl
-steps_after_ask_are_one_more_if_not_done code x (End e) r h = refl
-steps_after_ask_are_one_more_if_not_done code x Done r h = absurd h
+pub steps_after_one_ask : (code : List ℕ) (x : thread.ThreadState) (q : Ask) (r : Reply) → IsNotDone q → (after_ask code x q r).steps ≡ x.steps + 1
+steps_after_one_ask code x Private r h = refl
+steps_after_one_ask code x (Env kind) r h = refl
+steps_after_one_ask code x (Enter o a) r h = refl
+steps_after_one_ask code x (Try o) r h = refl
+steps_after_one_ask code x (Leave o a) r h = refl
+steps_after_one_ask code x (Get o i) r h = refl
+steps_after_one_ask code x (Put o i w) r h = refl
+steps_after_one_ask code x Print r h = refl
+steps_after_one_ask code x (End e) r h = refl
+steps_after_one_ask code x Done r h = absurd h
 
-pub number_after_ask_is_unchanged : (code : List ℕ) (x : thread.ThreadState) (q : Ask) (r : Reply) → (after_ask code x q r).number ≡ x.number
-number_after_ask_is_unchanged code x Private r = refl
-number_after_ask_is_unchanged code x (Env kind) r = refl
-number_after_ask_is_unchanged code x (Enter o a) r = refl
-number_after_ask_is_unchanged code x (Try o) r = refl
-number_after_ask_is_unchanged code x (Leave o a) r = refl
-number_after_ask_is_unchanged code x (Get o i) r = refl
-number_after_ask_is_unchanged code x (Put o i w) r = refl
-number_after_ask_is_unchanged code x Print r = refl
-number_after_ask_is_unchanged code x (End e) r = refl
-number_after_ask_is_unchanged code x Done r = refl
+pub number_after_ask : (code : List ℕ) (x : thread.ThreadState) (q : Ask) (r : Reply) → (after_ask code x q r).number ≡ x.number
+number_after_ask code x Private r = refl
+number_after_ask code x (Env kind) r = refl
+number_after_ask code x (Enter o a) r = refl
+number_after_ask code x (Try o) r = refl
+number_after_ask code x (Leave o a) r = refl
+number_after_ask code x (Get o i) r = refl
+number_after_ask code x (Put o i w) r = refl
+number_after_ask code x Print r = refl
+number_after_ask code x (End e) r = refl
+number_after_ask code x Done r = refl
 
 -- x has taken the step that it asks
 pub record TakesStep (f : FittedTrace) (t : ℕ) (x : thread.ThreadState) (q : Ask) (r : Reply) : Type 0 where
@@ -283,10 +279,10 @@ pub record TakesStep (f : FittedTrace) (t : ℕ) (x : thread.ThreadState) (q : A
   pub has : HasStep f t x.steps
   pub next : EachRun f (λ run. thread_at f run t (suc x.steps) ≡ after_ask f.guest.code (thread_at f run t x.steps) q r)
 
-is_thread_at_after_taken_step : (f : FittedTrace) (t : ℕ) (x : thread.ThreadState) (q : Ask) (r : Reply) → IsThreadAt f t x → TakesStep f t x q r
+thread_at_taken_step : (f : FittedTrace) (t : ℕ) (x : thread.ThreadState) (q : Ask) (r : Reply) → IsThreadAt f t x → TakesStep f t x q r
     → IsThreadAt f t (after_ask f.guest.code x q r)
-is_thread_at_after_taken_step f t x q r at k run of =
-    let more = steps_after_ask_are_one_more_if_not_done f.guest.code x q r k.step in (
+thread_at_taken_step f t x q r at k run of =
+    let more = steps_after_one_ask f.guest.code x q r k.step in (
       (let a = k.has run of in omega (arith, more, a)),
       ap (λ z. after_ask f.guest.code z q r) (at run of).1 ∙ sym (k.next run of)
           ∙ ap (thread_at f run t) (let e : suc x.steps ≡ (after_ask f.guest.code x q r).steps = omega (arith, more) in e),
@@ -297,13 +293,13 @@ pub ahead_after_alone_step : (f : FittedTrace) (t i : ℕ) (x : thread.ThreadSta
     → TouchesNoObject q (event_of f t x)
     → IsAhead f t i (after_ask f.guest.code x q r)
 ahead_after_alone_step f t i x q r ahead k alone =
-    let more = steps_after_ask_are_one_more_if_not_done f.guest.code x q r k.step in record {
+    let more = steps_after_one_ask f.guest.code x q r k.step in record {
       run = ahead.run;
       there = ahead.there;
-      number = number_after_ask_is_unchanged f.guest.code x q r ∙ ahead.number;
-      held = length_of_held_after_ask f.guest.code x q r ∙ ahead.held;
+      number = number_after_ask f.guest.code x q r ∙ ahead.number;
+      held = length-held_after_ask f.guest.code x q r ∙ ahead.held;
       past = (let a = ahead.past in omega (arith, a, more));
-      at = is_thread_at_after_taken_step f t x q r ahead.at k;
+      at = thread_at_taken_step f t x q r ahead.at k;
       alone = λ run of j past less. elim (cases_lt j x.steps) [
         | inl before ↦ ahead.alone run of j past before
         | inr last ↦ subst (λ z. NextTouchesNone f t (thread_at f run t z)) (let e : x.steps ≡ j = omega (arith, last, less, more) in e)
@@ -312,16 +308,16 @@ ahead_after_alone_step f t i x q r ahead k alone =
     }
 
 -- where the step touched an object, nothing is ahead of it
-pub ahead_by_nothing_after_object_step : (f : FittedTrace) (t i : ℕ) (x : thread.ThreadState) (q : Ask) (r : Reply) → IsAhead f t i x → TakesStep f t x q r
+pub no_lead_after_object_step : (f : FittedTrace) (t i : ℕ) (x : thread.ThreadState) (q : Ask) (r : Reply) → IsAhead f t i x → TakesStep f t x q r
     → IsAhead f t (suc x.steps) (after_ask f.guest.code x q r)
-ahead_by_nothing_after_object_step f t i x q r ahead k =
-    let more = steps_after_ask_are_one_more_if_not_done f.guest.code x q r k.step in record {
+no_lead_after_object_step f t i x q r ahead k =
+    let more = steps_after_one_ask f.guest.code x q r k.step in record {
       run = ahead.run;
       there = ahead.there;
-      number = number_after_ask_is_unchanged f.guest.code x q r ∙ ahead.number;
-      held = length_of_held_after_ask f.guest.code x q r ∙ ahead.held;
+      number = number_after_ask f.guest.code x q r ∙ ahead.number;
+      held = length-held_after_ask f.guest.code x q r ∙ ahead.held;
       past = omega (arith, more);
-      at = is_thread_at_after_taken_step f t x q r ahead.at k;
+      at = thread_at_taken_step f t x q r ahead.at k;
       alone = λ run of j past less. absurd (omega (arith, past, less, more));
     }
 
@@ -338,47 +334,47 @@ ahead_of_own_position f t i x ahead = record {
 }
 
 -- what it asks in each run
-pub ahead_thread_asks_in_run : (f : FittedTrace) (t i : ℕ) (x : thread.ThreadState) (q : Ask) (run : List Step) → IsRunOf f.guest f.recorded run → IsAhead f t i x
+pub ahead_asks_in_run : (f : FittedTrace) (t i : ℕ) (x : thread.ThreadState) (q : Ask) (run : List Step) → IsRunOf f.guest f.recorded run → IsAhead f t i x
     → ask_of f.guest.code x ≡ q → ask_at f run t x.steps ≡ q
-ahead_thread_asks_in_run f t i x q run of ahead is = ap (ask_of f.guest.code) (sym (ahead.at run of).1) ∙ is
+ahead_asks_in_run f t i x q run of ahead is = ap (ask_of f.guest.code) (sym (ahead.at run of).1) ∙ is
 
-pub takes_step_with_go_if_ask_has_no_value : (f : FittedTrace) (t i : ℕ) (x : thread.ThreadState) (q : Ask) → IsAhead f t i x → ask_of f.guest.code x ≡ q → HasStep f t x.steps
+pub takes_step_with_go : (f : FittedTrace) (t i : ℕ) (x : thread.ThreadState) (q : Ask) → IsAhead f t i x → ask_of f.guest.code x ≡ q → HasStep f t x.steps
     → HasNoValue q → IsNotDone q → TakesStep f t x q Go
-takes_step_with_go_if_ask_has_no_value f t i x q ahead is has go step = record {
+takes_step_with_go f t i x q ahead is has go step = record {
   asks = is;
   step = step;
   has = has;
-  next = λ run of. thread_after_step_without_value_gets_go f run of t x.steps q (has run of) (ahead_thread_asks_in_run f t i x q run of ahead is) go;
+  next = λ run of. no_value_step_gets_go f run of t x.steps q (has run of) (ahead_asks_in_run f t i x q run of ahead is) go;
 }
 
-pub takes_step_of_call_with_logged_answer : (f : FittedTrace) (t i : ℕ) (x : thread.ThreadState) (kind j : EnvKind) (v : ℕ) → IsAhead f t i x
+pub takes_call_with_answer : (f : FittedTrace) (t i : ℕ) (x : thread.ThreadState) (kind j : EnvKind) (v : ℕ) → IsAhead f t i x
     → ask_of f.guest.code x ≡ Env kind → HasStep f t x.steps
     → slice_get (recorded_thread f.recorded t).events x.events ≡ Some (Answered j v) → TakesStep f t x (Env kind) (Value v)
-takes_step_of_call_with_logged_answer f t i x kind j v ahead is has event = record {
+takes_call_with_answer f t i x kind j v ahead is has event = record {
   asks = is;
   step = tt;
   has = has;
-  next = λ run of. thread_after_environment_call_gets_logged_answer f run of t x.steps kind j v ahead.there (has run of) (ahead_thread_asks_in_run f t i x (Env kind) run of ahead is)
+  next = λ run of. call_gets_logged_answer f run of t x.steps kind j v ahead.there (has run of) (ahead_asks_in_run f t i x (Env kind) run of ahead is)
       (ap (λ (z : thread.ThreadState). slice_get (recorded_thread f.recorded t).events z.events) (sym (ahead.at run of).1) ∙ event);
 }
 
-pub takes_step_of_try_with_logged_result : (f : FittedTrace) (t i : ℕ) (x : thread.ThreadState) (o : ℕ) (e : Event) → IsAhead f t i x → ask_of f.guest.code x ≡ Try o
+pub takes_try_with_result : (f : FittedTrace) (t i : ℕ) (x : thread.ThreadState) (o : ℕ) (e : Event) → IsAhead f t i x → ask_of f.guest.code x ≡ Try o
     → HasStep f t x.steps → slice_get (recorded_thread f.recorded t).events x.events ≡ Some e
     → TakesStep f t x (Try o) (Value (try_result e))
-takes_step_of_try_with_logged_result f t i x o e ahead is has event = record {
+takes_try_with_result f t i x o e ahead is has event = record {
   asks = is;
   step = tt;
   has = has;
-  next = λ run of. thread_after_try_gets_logged_result f run of t x.steps o e ahead.there (has run of) (ahead_thread_asks_in_run f t i x (Try o) run of ahead is)
+  next = λ run of. try_gets_logged_result f run of t x.steps o e ahead.there (has run of) (ahead_asks_in_run f t i x (Try o) run of ahead is)
       (ap (λ (z : thread.ThreadState). slice_get (recorded_thread f.recorded t).events z.events) (sym (ahead.at run of).1) ∙ event);
 }
 
 -- a thread that has a step isn't done
-pub thread_with_step_is_not_done : (f : FittedTrace) (t i : ℕ) (x : thread.ThreadState) → IsAhead f t i x → HasStep f t x.steps → ask_of f.guest.code x ≡ Done → ⊥
-thread_with_step_is_not_done f t i x ahead has is =
+pub has_step_is_not_done : (f : FittedTrace) (t i : ℕ) (x : thread.ThreadState) → IsAhead f t i x → HasStep f t x.steps → ask_of f.guest.code x ≡ Done → ⊥
+has_step_is_not_done f t i x ahead has is =
     let run : List Step = ahead.run.run in
     let of = ahead.run.whole in
     let at = step_below_count_emits f run t x.steps (has run of) in
     let z : StepOf (machine_of f) (thread_at f run t x.steps) (thread_at f run t (suc x.steps)) at.0 =
-    emitting_step_is_step_of (machine_of f) (start_of f) run of.1.runs t x.steps at.0 at.1 in
-    subst (λ q. Admits (machine_of f) (act_of (shared_ask q) z.result) z.object) (ahead_thread_asks_in_run f t i x Done run of ahead is) z.can
+    emitting_is_step_of (machine_of f) (start_of f) run of.1.runs t x.steps at.0 at.1 in
+    subst (λ q. Admits (machine_of f) (act_of (shared_ask q) z.result) z.object) (ahead_asks_in_run f t i x Done run of ahead is) z.can

@@ -1,5 +1,7 @@
 -- How the table is opened, its seats cut and joined, and the table closed.
-use Rattle.std.proofs.Common.{◌≡◌, ◌≢◌, ℕ, zero, suc, ◌+◌, ◌*◌, ◌-◌, ◌/◌, ◌%◌, ◌^◌, ◌<◌, ◌≤◌, ◌==◌, Bool, false, if◌then◌else◌, List, [], ◌∷◌, ◌++◌, length, get_or, set, refl, sym, ap, ◌∙◌, subst, arith, inl, inr, ◌⊎◌, length-set, length-append, get_or-set_same, get_or-set_other, get_or-append-add, cond, ltb, eq-eqb, ne_eqb, drop, take}
+use Rattle.std.proofs.Common.{◌≡◌, ◌≢◌, ℕ, zero, suc, ◌+◌, ◌*◌, ◌-◌, ◌/◌, ◌%◌, ◌^◌, ◌<◌, ◌≤◌, ◌==◌, Bool, false, if◌then◌else◌, List, []}
+use Rattle.std.proofs.Common.{◌∷◌, ◌++◌, length, get_or, set, refl, sym, ap, ◌∙◌, subst, arith, inl, inr, ◌⊎◌, length-set, length-append}
+use Rattle.std.proofs.Common.{get_or-set_same, get_or-set_other, get_or-append-add, cond, ltb, eq-eqb, ne_eqb, drop, take}
 use Rattle.std.proofs.lemmas.List.{ext_get_or}
 use Rattle.std.proofs.lemmas.Bool.{cases_eq, cases_lt, le-ltb, lt-ltb}
 use Rattle.std.proofs.lemmas.List.{get_or_past}
@@ -16,30 +18,30 @@ use Rattle.ir_thread.specs.State as thread
 use Rattle.ir_thread.specs.declared.profile.Profile.{Profile}
 use Rattle.ir_object.specs.Cell.{Cell}
 use Rattle.ir_object.specs.Empty.{empty}
-use Rattle.ir_object.specs.Word.{word_of, fields_of}
+use Rattle.ir_object.specs.Word.{word_of_object, fields_of}
 use Rattle.ir_flat.specs.Flat.{Flat, IsFlat, idle, start_flat}
 use Rattle.ir_weave.proofs.Onward.{start_is_state_at_zero}
-use Rattle.ir_weave.proofs.Numbers.{state_thread_is_ahead_at_position}
+use Rattle.ir_weave.proofs.Numbers.{state_ahead_at_position}
 use Rattle.ir_weave.specs.Ahead.{IsAhead}
 use Rattle.std.specs.Prelude.{slice_get, Some}
 use Rattle.std.proofs.lemmas.Option.{slice_get_within, get_or_from_slice_get}
-use Rattle.ir_lemmas.proofs.CallerLemmas.{get_of_append_item_cases}
+use Rattle.ir_lemmas.proofs.CallerLemmas.{append_item_cases}
 use Rattle.ir_runs.specs.Run.{Cut}
 use Rattle.ir_fit.specs.Fit.{FittedTrace, HasRun}
 use Rattle.ir_fit.specs.Within.{IsFitted}
-use Rattle.ir_fit.proofs.CallerLemmas.{guest_with_header_is_allowed as header_allowed}
-use Rattle.ir_weave.specs.Standing.{Standing, StandsAt, flat_in, IsStateAt, positions}
+use Rattle.ir_fit.proofs.CallerLemmas.{header_guest_is_allowed as header_allowed}
+use Rattle.ir_weave.specs.Standing.{Standing, StandsAtCut, flat_in, IsStateAt, positions}
 use Rattle.ir_object.specs.Layout.{line_words, apart, table_length, word_place, content_place}
 use Rattle.ir_weave.specs.Table.{IsTable, IsLaid, laid, word_in, object_in}
-use Rattle.ir_weave.specs.Woven.{View, M, trace_in, opened_in, opened_at, progress, first_met, IsSeated, AreTracks, Woven, tracks_from, AreSeats, AreAt, IsClosed, IsEnd, AreRead}
-use Rattle.ir_weave.proofs.Acts.{fields_of_word_of, fields_of_object_cell_are_in_range}
+use Rattle.ir_weave.specs.Woven.{View, M, trace_in, opened_in, opened_at, progress, first_met_cut, IsSeated, AreTracks, Woven, tracks_from, AreSeats, AreAt, IsClosedTable, IsEnd, AreRead}
+use Rattle.ir_weave.proofs.Acts.{fields_of_word_of, cell_fields_in_range}
 use Rattle.ir_weave.specs.declared.plan.Plan.{Plan}
 
 -- ---- opening
 
-opened_tracks_are_tracks : (k : Plan) (u m : ℕ) → u + m ≤ length k.opened.value.threads → AreTracks k (opened_in k) (λ _. 0) 0 (tracks_from k u m)
-opened_tracks_are_tracks k u zero le = tt
-opened_tracks_are_tracks k u (suc m) le = (
+opened_tracks : (k : Plan) (u m : ℕ) → u + m ≤ length k.opened.value.threads → AreTracks k (opened_in k) (λ _. 0) 0 (tracks_from k u m)
+opened_tracks k u zero le = tt
+opened_tracks k u (suc m) le = (
   record {
     plan = refl;
     there = omega (arith, le);
@@ -49,7 +51,7 @@ opened_tracks_are_tracks k u (suc m) le = (
         λ on. absurd (cc on);
     met = λ z. omega arith;
   },
-  opened_tracks_are_tracks k (suc u) m (omega (arith, le)),
+  opened_tracks k (suc u) m (omega (arith, le)),
 )
 
 pub opening_is_woven : (k : Plan) (ws : List ℕ) → HasRun (trace_in k) → IsFlat (opened_in k) → IsStateAt (trace_in k) (opened_at k) (opened_in k)
@@ -68,51 +70,51 @@ opening_is_woven k ws run flat at table = record {
     first : (id : ℕ) (v : View) → get_elem? (tracks_from k 0 (length k.opened.value.threads) ∷ []) id ≡ some v
         → AreTracks k (opened_in k) (λ _. 0) id v
     first zero v e = subst (AreTracks k (opened_in k) (λ _. 0) 0) (some-injective (tracks_from k 0 (length k.opened.value.threads)) v e)
-        (opened_tracks_are_tracks k 0 (length k.opened.value.threads) (omega arith))
+        (opened_tracks k 0 (length k.opened.value.threads) (omega arith))
     first (suc id) v e = absurd (some-ne-none v (sym e))
 
 -- the guest's state, as the plan knows it
-opened_state_of_plan_stands_at_own_positions : (k : Plan) (f : FittedTrace) (s : Standing) → k.fitted.value ≡ f → k.opened.value ≡ s → StandsAt f (positions (flat_in f s)) s
-    → StandsAt (trace_in k) (opened_at k) k.opened.value
-opened_state_of_plan_stands_at_own_positions k f s for is stands = subst (λ (z : FittedTrace × Standing). StandsAt z.0 (positions (flat_in z.0 z.1)) z.1)
+opened_stands_at_own : (k : Plan) (f : FittedTrace) (s : Standing) → k.fitted.value ≡ f → k.opened.value ≡ s → StandsAtCut f (positions (flat_in f s)) s
+    → StandsAtCut (trace_in k) (opened_at k) k.opened.value
+opened_stands_at_own k f s for is stands = subst (λ (z : FittedTrace × Standing). StandsAtCut z.0 (positions (flat_in z.0 z.1)) z.1)
     (λ i. (sym for i, sym is i)) stands
 
 -- the plan of a guest and its state
-pub opening_for_plan_is_woven : (k : Plan) (f : FittedTrace) (s : Standing) (ws : List ℕ) → k.fitted.value ≡ f → k.opened.value ≡ s → HasRun f
-    → StandsAt f (positions (flat_in f s)) s → IsTable s.objects ws
+pub plan_opening_is_woven : (k : Plan) (f : FittedTrace) (s : Standing) (ws : List ℕ) → k.fitted.value ≡ f → k.opened.value ≡ s → HasRun f
+    → StandsAtCut f (positions (flat_in f s)) s → IsTable s.objects ws
     → Woven k (opening ws [] (tracks_from k 0 (length k.opened.value.threads)))
-opening_for_plan_is_woven k f s ws for is run stands table =
-    let both = opened_state_of_plan_stands_at_own_positions k f s for is stands in
+plan_opening_is_woven k f s ws for is run stands table =
+    let both = opened_stands_at_own k f s for is stands in
     opening_is_woven k ws (subst HasRun (sym for) run) both.flat both.at (subst (λ (z : Standing). IsTable z.objects ws) (sym is) table)
 
 -- the seat of a thread
-seat_of_thread_has_its_opening_progress : (id : TableId) (k : Plan) (t i u : ℕ) (xs : List (Seat (Unit {0}) View)) (x : Seat (Unit {0}) View) → AreSeats id k t xs
-    → slice_get xs i ≡ Some x → u ≡ t + i → x.me ≡ (progress k u (opened_at k u) false (first_met k) ∷ [], [])
-seat_of_thread_has_its_opening_progress id k t i u [] x h at e = absurd (cc at)
-seat_of_thread_has_its_opening_progress id k t zero u (y ∷ ys) x h at e =
+opening_seat_progress : (id : TableId) (k : Plan) (t i u : ℕ) (xs : List (Seat (Unit {0}) View)) (x : Seat (Unit {0}) View) → AreSeats id k t xs
+    → slice_get xs i ≡ Some x → u ≡ t + i → x.me ≡ (progress k u (opened_at k u) false (first_met_cut k) ∷ [], [])
+opening_seat_progress id k t i u [] x h at e = absurd (cc at)
+opening_seat_progress id k t zero u (y ∷ ys) x h at e =
     let same : y ≡ x = cc at in let here : t ≡ u = omega (arith, e) in
-    ap (λ z. z.me) (sym same) ∙ h.0.1 ∙ (λ j. (progress k (here j) (opened_at k (here j)) false (first_met k) ∷ [], []))
-seat_of_thread_has_its_opening_progress id k t (suc i) u (y ∷ ys) x h at e = seat_of_thread_has_its_opening_progress id k (suc t) i u ys x h.1 at (omega (arith, e))
+    ap (λ z. z.me) (sym same) ∙ h.0.1 ∙ (λ j. (progress k (here j) (opened_at k (here j)) false (first_met_cut k) ∷ [], []))
+opening_seat_progress id k t (suc i) u (y ∷ ys) x h at e = opening_seat_progress id k (suc t) i u ys x h.1 at (omega (arith, e))
 
 -- each thread can step at its seat
-pub each_opening_seat_is_seated_at_its_thread : (id : TableId) (k : Plan) (f : FittedTrace) (s : Standing) (xs : List (Seat (Unit {0}) View)) → k.fitted.value ≡ f
-    → k.opened.value ≡ s → HasRun f → StandsAt f (positions (flat_in f s)) s → AreSeats id k 0 xs
+pub opening_seat_is_seated : (id : TableId) (k : Plan) (f : FittedTrace) (s : Standing) (xs : List (Seat (Unit {0}) View)) → k.fitted.value ≡ f
+    → k.opened.value ≡ s → HasRun f → StandsAtCut f (positions (flat_in f s)) s → AreSeats id k 0 xs
     → (t : ℕ) (x : thread.ThreadState) (seat : Seat (Unit {0}) View) → slice_get s.threads t ≡ Some x → slice_get xs t ≡ Some seat
     → IsSeated k seat.me.0 x
-each_opening_seat_is_seated_at_its_thread id k f s xs for is run stands are t x seat at here =
-    let both = opened_state_of_plan_stands_at_own_positions k f s for is stands in
+opening_seat_is_seated id k f s xs for is run stands are t x seat at here =
+    let both = opened_stands_at_own k f s for is stands in
     let there : slice_get k.opened.value.threads t ≡ Some x = ap (λ (z : Standing). slice_get z.threads t) is ∙ at in
     let ahead : IsAhead (trace_in k) t (opened_at k t) x =
     subst (IsAhead (trace_in k) t (opened_at k t)) (get_or_from_slice_get k.opened.value.threads t x idle there)
-    (state_thread_is_ahead_at_position (trace_in k) (opened_in k) t (subst HasRun (sym for) run) both.flat both.at (slice_get_within k.opened.value.threads t x there)) in
-    subst (λ (v : View). IsSeated k v x) (sym (ap (λ (z : M). z.0) (seat_of_thread_has_its_opening_progress id k 0 t t xs seat are here (omega arith)))) (refl, ahead)
+    (state_ahead_at_position (trace_in k) (opened_in k) t (subst HasRun (sym for) run) both.flat both.at (slice_get_within k.opened.value.threads t x there)) in
+    subst (λ (v : View). IsSeated k v x) (sym (ap (λ (z : M). z.0) (opening_seat_progress id k 0 t t xs seat are here (omega arith)))) (refl, ahead)
 
 -- ---- cutting off the first thread
 
-later_tracks_stay_if_earlier_thread_is_reseated : (k : Plan) (s : Flat) (seat : ℕ → ℕ) (t new id u m : ℕ) → t < u → AreTracks k s seat id (tracks_from k u m)
+reseat_later_tracks_stay : (k : Plan) (s : Flat) (seat : ℕ → ℕ) (t new id u m : ℕ) → t < u → AreTracks k s seat id (tracks_from k u m)
     → AreTracks k s (λ z. if z == t then new else seat z) id (tracks_from k u m)
-later_tracks_stay_if_earlier_thread_is_reseated k s seat t new id u zero lt h = tt
-later_tracks_stay_if_earlier_thread_is_reseated k s seat t new id u (suc m) lt h = (
+reseat_later_tracks_stay k s seat t new id u zero lt h = tt
+reseat_later_tracks_stay k s seat t new id u (suc m) lt h = (
   record {
     plan = h.0.plan;
     there = h.0.there;
@@ -122,13 +124,13 @@ later_tracks_stay_if_earlier_thread_is_reseated k s seat t new id u (suc m) lt h
     granted = h.0.granted;
     met = h.0.met;
   },
-  later_tracks_stay_if_earlier_thread_is_reseated k s seat t new id (suc u) m (omega (arith, lt)) h.1,
+  reseat_later_tracks_stay k s seat t new id (suc u) m (omega (arith, lt)) h.1,
 )
 
-tracks_stay_if_thread_of_other_seat_is_reseated : (k : Plan) (s : Flat) (seat : ℕ → ℕ) (t new j : ℕ) (v : View) → seat t ≢ j → AreTracks k s seat j v
+reseat_other_tracks_stay : (k : Plan) (s : Flat) (seat : ℕ → ℕ) (t new j : ℕ) (v : View) → seat t ≢ j → AreTracks k s seat j v
     → AreTracks k s (λ z. if z == t then new else seat z) j v
-tracks_stay_if_thread_of_other_seat_is_reseated k s seat t new j [] ne h = tt
-tracks_stay_if_thread_of_other_seat_is_reseated k s seat t new j (q ∷ qs) ne h = (
+reseat_other_tracks_stay k s seat t new j [] ne h = tt
+reseat_other_tracks_stay k s seat t new j (q ∷ qs) ne h = (
   record {
     plan = h.0.plan;
     there = h.0.there;
@@ -139,7 +141,7 @@ tracks_stay_if_thread_of_other_seat_is_reseated k s seat t new j (q ∷ qs) ne h
     granted = h.0.granted;
     met = h.0.met;
   },
-  tracks_stay_if_thread_of_other_seat_is_reseated k s seat t new j qs ne h.1,
+  reseat_other_tracks_stay k s seat t new j qs ne h.1,
 )
 
 pub tracks_split_off_first : (k : Plan) (id t m : ℕ) (v : View) → v ≡ tracks_from k t (suc m) → Splits (Woven k) id v (drop 1 v) (take 1 v)
@@ -153,7 +155,7 @@ tracks_split_off_first k id t m v is x h at =
       words = x.words;
       homes = x.homes;
       views =
-          set x.views id (tracks_from k (suc t) m) ++ (progress k t (opened_at k t) false (first_met k) ∷ []) ∷ [];
+          set x.views id (tracks_from k (suc t) m) ++ (progress k t (opened_at k t) false (first_met_cut k) ∷ []) ∷ [];
     }) = record {
       run = h.run;
       state = h.state;
@@ -161,11 +163,11 @@ tracks_split_off_first k id t m v is x h at =
       at = h.at;
       above = h.above;
       seat = seat';
-      tracks = λ j u e. elim (get_of_append_item_cases (set x.views id (tracks_from k (suc t) m)) (progress k t (opened_at k t) false (first_met k) ∷ []) u j e) [
+      tracks = λ j u e. elim (append_item_cases (set x.views id (tracks_from k (suc t) m)) (progress k t (opened_at k t) false (first_met_cut k) ∷ []) u j e) [
         | inl was ↦ elim (at_set x.views id j (tracks_from k (suc t) m) u was) [
           | inl r ↦ subst (λ (z : ℕ). AreTracks k h.state seat' z u) (sym r.0)
-              (subst (AreTracks k h.state seat' id) r.1 (later_tracks_stay_if_earlier_thread_is_reseated k h.state h.seat t new id (suc t) m (omega arith) f.1))
-          | inr r ↦ tracks_stay_if_thread_of_other_seat_is_reseated k h.state h.seat t new j u (λ e'. r.0 (sym e' ∙ f.0.mine)) (h.tracks j u r.1)
+              (subst (AreTracks k h.state seat' id) r.1 (reseat_later_tracks_stay k h.state h.seat t new id (suc t) m (omega arith) f.1))
+          | inr r ↦ reseat_other_tracks_stay k h.state h.seat t new j u (λ e'. r.0 (sym e' ∙ f.0.mine)) (h.tracks j u r.1)
         ]
         | inr q ↦ subst (AreTracks k h.state seat' j) q.1 (
           record {
@@ -191,10 +193,10 @@ tracks_split_off_first k id t m v is x h at =
 
 -- ---- two seats become one
 
-other_tracks_stay_if_seats_join : (k : Plan) (s : Flat) (seat : ℕ → ℕ) (id other j : ℕ) (v : View) → j ≢ other → AreTracks k s seat j v
+seats_join_tracks_stay : (k : Plan) (s : Flat) (seat : ℕ → ℕ) (id other j : ℕ) (v : View) → j ≢ other → AreTracks k s seat j v
     → AreTracks k s (λ u. if seat u == other then id else seat u) j v
-other_tracks_stay_if_seats_join k s seat id other j [] ne h = tt
-other_tracks_stay_if_seats_join k s seat id other j (q ∷ qs) ne h = (
+seats_join_tracks_stay k s seat id other j [] ne h = tt
+seats_join_tracks_stay k s seat id other j (q ∷ qs) ne h = (
   record {
     plan = h.0.plan;
     there = h.0.there;
@@ -205,7 +207,7 @@ other_tracks_stay_if_seats_join k s seat id other j (q ∷ qs) ne h = (
     granted = h.0.granted;
     met = h.0.met;
   },
-  other_tracks_stay_if_seats_join k s seat id other j qs ne h.1,
+  seats_join_tracks_stay k s seat id other j qs ne h.1,
 )
 
 tracks_after_seats_join : (k : Plan) (s : Flat) (seat : ℕ → ℕ) (id other : ℕ) (v w : View)
@@ -232,7 +234,7 @@ woven_seats_join k id other v w x h at apart at' =
     let seat' : ℕ → ℕ = λ u. if h.seat u == other then id else h.seat u in
     let was : get_elem? x.views other ≡ some w =
     elim (at_set x.views id other (v ++ w) w at') [ inl q ↦ absurd (apart q.0) | inr q ↦ q.1 ] in
-    let mine : AreTracks k h.state seat' id v = other_tracks_stay_if_seats_join k h.state h.seat id other id v (λ e. apart (sym e)) (h.tracks id v at) in record {
+    let mine : AreTracks k h.state seat' id v = seats_join_tracks_stay k h.state h.seat id other id v (λ e. apart (sym e)) (h.tracks id v at) in record {
       run = h.run;
       state = h.state;
       flat = h.flat;
@@ -244,7 +246,7 @@ woven_seats_join k id other v w x h at apart at' =
         | inr q ↦ elim (at_set x.views id j (v ++ w) u q.1) [
           | inl r ↦ subst (λ (z : ℕ). AreTracks k h.state seat' z u) (sym r.0)
               (subst (AreTracks k h.state seat' id) r.1 (tracks_after_seats_join k h.state h.seat id other v w mine (h.tracks other w was)))
-          | inr r ↦ other_tracks_stay_if_seats_join k h.state h.seat id other j u q.0 (h.tracks j u r.1)
+          | inr r ↦ seats_join_tracks_stay k h.state h.seat id other j u q.0 (h.tracks j u r.1)
         ]
       ];
       table = h.table;
@@ -252,28 +254,28 @@ woven_seats_join k id other v w x h at apart at' =
 
 -- ---- dealing
 
-pub are_seats_after_next_seat_appended : (id : TableId) (k : Plan) (t u : ℕ) (xs : List (Seat (Unit {0}) View)) (x : Seat (Unit {0}) View) → AreSeats id k t xs
-    → u ≡ t + length xs → x.table_id ≡ id → x.me ≡ (progress k u (opened_at k u) false (first_met k) ∷ [], []) → AreSeats id k t (xs ++ x ∷ [])
-are_seats_after_next_seat_appended id k t u [] x h e i m = (
+pub seats_push : (id : TableId) (k : Plan) (t u : ℕ) (xs : List (Seat (Unit {0}) View)) (x : Seat (Unit {0}) View) → AreSeats id k t xs
+    → u ≡ t + length xs → x.table_id ≡ id → x.me ≡ (progress k u (opened_at k u) false (first_met_cut k) ∷ [], []) → AreSeats id k t (xs ++ x ∷ [])
+seats_push id k t u [] x h e i m = (
   (
     i,
     m ∙ (λ j.
-        (progress k ((let q : u ≡ t = omega (arith, e) in q) j) (opened_at k ((let q : u ≡ t = omega (arith, e) in q) j)) false (first_met k) ∷ [], [])),
+        (progress k ((let q : u ≡ t = omega (arith, e) in q) j) (opened_at k ((let q : u ≡ t = omega (arith, e) in q) j)) false (first_met_cut k) ∷ [], [])),
   ),
   tt,
 )
-are_seats_after_next_seat_appended id k t u (y ∷ ys) x h e i m = (h.0, are_seats_after_next_seat_appended id k (suc t) u ys x h.1 (omega (arith, e)) i m)
+seats_push id k t u (y ∷ ys) x h e i m = (h.0, seats_push id k (suc t) u ys x h.1 (omega (arith, e)) i m)
 
-pub view_after_dealing_first_has_later_tracks : (k : Plan) (l m n : ℕ) (me w : M) → me ≡ (tracks_from k l (suc m), []) → w ≡ (drop 1 me.0, me.1) → n ≡ suc l
+pub dealt_view_has_later_tracks : (k : Plan) (l m n : ℕ) (me w : M) → me ≡ (tracks_from k l (suc m), []) → w ≡ (drop 1 me.0, me.1) → n ≡ suc l
     → w ≡ (tracks_from k n m, [])
-view_after_dealing_first_has_later_tracks k l m n me w is emitted long = emitted ∙ (λ i. (drop 1 (is i).0, (is i).1)) ∙ (λ i. (tracks_from k (sym long i) m, []))
+dealt_view_has_later_tracks k l m n me w is emitted long = emitted ∙ (λ i. (drop 1 (is i).0, (is i).1)) ∙ (λ i. (tracks_from k (sym long i) m, []))
 
-pub dealt_first_view_is_opening_progress_of_first_thread : (k : Plan) (l m : ℕ) (me w : M) → me ≡ (tracks_from k l (suc m), []) → w ≡ (take 1 me.0, [])
-    → w ≡ (progress k l (opened_at k l) false (first_met k) ∷ [], [])
-dealt_first_view_is_opening_progress_of_first_thread k l m me w is emitted = emitted ∙ (λ i. (take 1 (is i).0, []))
+pub dealt_first_is_opening : (k : Plan) (l m : ℕ) (me w : M) → me ≡ (tracks_from k l (suc m), []) → w ≡ (take 1 me.0, [])
+    → w ≡ (progress k l (opened_at k l) false (first_met_cut k) ∷ [], [])
+dealt_first_is_opening k l m me w is emitted = emitted ∙ (λ i. (take 1 (is i).0, []))
 
-pub view_is_tracks_of_successor : (k : Plan) (l m n : ℕ) (me : M) → me ≡ (tracks_from k l m, []) → m ≡ suc n → me ≡ (tracks_from k l (suc n), [])
-view_is_tracks_of_successor k l m n me is e = is ∙ (λ i. (tracks_from k l (e i), []))
+pub view_has_later_tracks : (k : Plan) (l m n : ℕ) (me : M) → me ≡ (tracks_from k l m, []) → m ≡ suc n → me ≡ (tracks_from k l (suc n), [])
+view_has_later_tracks k l m n me is e = is ∙ (λ i. (tracks_from k l (e i), []))
 
 -- ---- closing
 
@@ -287,7 +289,7 @@ final_table_is_end k id v ws xs f =
       cells = h.state.objects;
       table = subst (IsTable h.state.objects) f.2 h.table;
       sizes = λ o l. (h.flat.objects o l).words;
-      fits = λ o l. fields_of_word_of (object_in h.state.objects o).fields (fields_of_object_cell_are_in_range h.state o h.flat l);
+      fits = λ o l. fields_of_word_of (object_in h.state.objects o).fields (cell_fields_in_range h.state o h.flat l);
       closed = record {
         state = h.state;
         flat = h.flat;
@@ -301,22 +303,22 @@ final_table_is_end k id v ws xs f =
 
 -- ---- laying the words
 
-place_quotient_is_object : (o r : ℕ) → r < apart → (word_place o + r - line_words) / apart ≡ o
-place_quotient_is_object o r l = omega (arith, l)
+place_quotient_object : (o r : ℕ) → r < apart → (word_place o + r - line_words) / apart ≡ o
+place_quotient_object o r l = omega (arith, l)
 
 place_remainder_is_word : (o r : ℕ) → r < apart → (word_place o + r - line_words) % apart ≡ r
 place_remainder_is_word o r l = omega (arith, l)
 
-laid_word_at_offset_in_object_is_word_in_object : (cells : List Cell) (o r : ℕ) → r < apart → laid cells (word_place o + r) ≡ word_in (object_in cells o) r
-laid_word_at_offset_in_object_is_word_in_object cells o r l =
+laid_word_is_in_object : (cells : List Cell) (o r : ℕ) → r < apart → laid cells (word_place o + r) ≡ word_in (object_in cells o) r
+laid_word_is_in_object cells o r l =
     ap (λ (b : Bool). cond b 0 (word_in (object_in cells ((word_place o + r - line_words) / apart))
     ((word_place o + r - line_words) % apart)))
     (le-ltb (word_place o + r) line_words (omega arith))
-    ∙ (λ i. word_in (object_in cells (place_quotient_is_object o r l i)) (place_remainder_is_word o r l i))
+    ∙ (λ i. word_in (object_in cells (place_quotient_object o r l i)) (place_remainder_is_word o r l i))
 
-word_in_content_place_is_content_word : (c : Cell) (i : ℕ) → i < most_object_words → word_in c (line_words + i) ≡ get_or c.words i 0
-word_in_content_place_is_content_word c i l =
-    ap (λ (b : Bool). cond b (word_of c.fields) (cond (ltb (line_words + i) line_words) 0
+word_in_content_place : (c : Cell) (i : ℕ) → i < most_object_words → word_in c (line_words + i) ≡ get_or c.words i 0
+word_in_content_place c i l =
+    ap (λ (b : Bool). cond b (word_of_object c.fields) (cond (ltb (line_words + i) line_words) 0
     (cond (ltb (line_words + i) (line_words + most_object_words)) (get_or c.words (line_words + i - line_words) 0) 0)))
     (ne_eqb (line_words + i) 0 (λ e. omega (arith, e)))
     ∙ ap (λ (b : Bool). cond b 0 (cond (ltb (line_words + i) (line_words + most_object_words)) (get_or c.words (line_words + i - line_words) 0)
@@ -330,7 +332,7 @@ pub laid_words_are_table : (cells : List Cell) (ws : List ℕ) → IsLaid cells 
 laid_words_are_table cells ws h sizes = record {
   size = h.count;
   heads = λ o l. ap (λ z. get_or ws z 0) (let e : word_place o ≡ word_place o + 0 = omega arith in e)
-      ∙ h.each (word_place o + 0) (omega (arith, l)) ∙ laid_word_at_offset_in_object_is_word_in_object cells o 0 (omega arith);
+      ∙ h.each (word_place o + 0) (omega (arith, l)) ∙ laid_word_is_in_object cells o 0 (omega arith);
   places = placed;
   small = λ o i. elim (cases_lt o (length cells)) [
     | inl l ↦ elim (cases_lt i most_object_words) [
@@ -344,13 +346,13 @@ laid_words_are_table cells ws h sizes = record {
   where
     placed : (o i : ℕ) → o < length cells → i < most_object_words → get_or ws (content_place o i) 0 ≡ get_or (object_in cells o).words i 0
     placed o i l few = ap (λ z. get_or ws z 0) (let e : content_place o i ≡ word_place o + (line_words + i) = omega arith in e)
-        ∙ h.each (word_place o + (line_words + i)) (omega (arith, l, few)) ∙ laid_word_at_offset_in_object_is_word_in_object cells o (line_words + i) (omega (arith, few))
-        ∙ word_in_content_place_is_content_word (object_in cells o) i few
+        ∙ h.each (word_place o + (line_words + i)) (omega (arith, l, few)) ∙ laid_word_is_in_object cells o (line_words + i) (omega (arith, few))
+        ∙ word_in_content_place (object_in cells o) i few
 
 -- one word more
-pub is_laid_after_next_word_appended : (cells : List Cell) (ws ws' : List ℕ) (k w : ℕ) → IsLaid cells ws k → w ≡ laid cells k
+pub laid_push : (cells : List Cell) (ws ws' : List ℕ) (k w : ℕ) → IsLaid cells ws k → w ≡ laid cells k
     → ((o i : ℕ) → i < most_object_words → k ≡ content_place o i → w < 2 ^ 32) → ws' ≡ ws ++ w ∷ [] → IsLaid cells ws' (k + 1)
-is_laid_after_next_word_appended cells ws ws' k w h is small same = subst (λ z. IsLaid cells z (k + 1)) (sym same) (record {
+laid_push cells ws ws' k w h is small same = subst (λ z. IsLaid cells z (k + 1)) (sym same) (record {
   count = length-append ws (w ∷ []) ∙ (let c = h.count in omega (arith, c));
   each = λ j l. elim (cases_lt j k) [
     | inl less ↦ get_or-append ws (w ∷ []) 0 j (let c = h.count in omega (arith, c, less)) ∙ h.each j less
@@ -368,14 +370,14 @@ is_laid_after_next_word_appended cells ws ws' k w h is small same = subst (λ z.
     last = ap (λ z. get_or (ws ++ w ∷ []) z 0) (let c = h.count in let e : k ≡ length ws + 0 = omega (arith, c) in e)
         ∙ get_or-append-add ws (w ∷ []) 0 0
 
-pub empty_words_are_laid_at_start : (cells : List Cell) (ws : List ℕ) → ws ≡ [] → IsLaid cells ws 0
-empty_words_are_laid_at_start cells ws is = subst (λ z. IsLaid cells z 0) (sym is)
+pub empty_is_laid : (cells : List Cell) (ws : List ℕ) → ws ≡ [] → IsLaid cells ws 0
+empty_is_laid cells ws is = subst (λ z. IsLaid cells z 0) (sym is)
     (record { count = refl; each = λ j l. absurd (omega (arith, l)); small = λ o i l few. absurd (omega (arith, l)) })
 
 -- a guest has a thread
-pub thread_count_of_guest_is_positive : (f : FittedTrace) (s : Standing) (ts : List thread.ThreadState) (g : Guest) → IsGuest g → g ≡ f.guest → ts ≡ s.threads
+pub guest_threads_positive : (f : FittedTrace) (s : Standing) (ts : List thread.ThreadState) (g : Guest) → IsGuest g → g ≡ f.guest → ts ≡ s.threads
     → length s.threads ≡ length f.guest.entries → 0 < length ts
-thread_count_of_guest_is_positive f s ts g guest is same size = let some = guest.some_thread in let a = ap (λ (z : Guest). length z.entries) is in let b =
+guest_threads_positive f s ts g guest is same size = let some = guest.some_thread in let a = ap (λ (z : Guest). length z.entries) is in let b =
     ap (λ (z : List thread.ThreadState). length z) same in omega (arith, some, a, b, size)
 
 -- ---- the objects at the end
@@ -392,11 +394,11 @@ are_read_step ws from xs n w h inside is = record {
 }
 
 -- an object that is read from the words is the table's
-pub read_object_is_table_object : (cells : List Cell) (ws : List ℕ) (o w : ℕ) (xs : List ℕ) (c : Cell) → IsTable cells ws → o < length cells
-    → length (object_in cells o).words ≡ most_object_words → fields_of (word_of (object_in cells o).fields) ≡ (object_in cells o).fields
+pub read_object_is_table : (cells : List Cell) (ws : List ℕ) (o w : ℕ) (xs : List ℕ) (c : Cell) → IsTable cells ws → o < length cells
+    → length (object_in cells o).words ≡ most_object_words → fields_of (word_of_object (object_in cells o).fields) ≡ (object_in cells o).fields
     → w ≡ get_or ws (word_place o) 0 → AreRead ws (2 * line_words + apart * o) xs most_object_words
     → c ≡ record { fields = fields_of w; words = xs } → c ≡ object_in cells o
-read_object_is_table_object cells ws o w xs c t l sizes fits word read is =
+read_object_is_table cells ws o w xs c t l sizes fits word read is =
     let long : length xs ≡ most_object_words = read.size in
     let fields : fields_of w ≡ (object_in cells o).fields = ap fields_of (word ∙ t.heads o l) ∙ fits in
     let words : xs ≡ (object_in cells o).words =
@@ -419,19 +421,19 @@ are_objects_step cells xs n c h inside is = record {
   ];
 }
 
-pub objects_are_cells_if_count_reaches_length : (cells xs : List Cell) (n : ℕ) → AreObjects cells xs n → length xs ≤ n → xs ≡ cells
-objects_are_cells_if_count_reaches_length cells xs n h all = ext_get_or empty xs cells h.size (λ o l. h.each o (omega (arith, l, all)))
+pub all_objects_are_cells : (cells xs : List Cell) (n : ℕ) → AreObjects cells xs n → length xs ≤ n → xs ≡ cells
+all_objects_are_cells cells xs n h all = ext_get_or empty xs cells h.size (λ o l. h.each o (omega (arith, l, all)))
 
-pub end_cell_count_is_guest_object_count : (k : Plan) (v : View) (ws : List ℕ) (e : IsEnd k v ws) → length e.cells ≡ object_count (trace_in k).guest
-end_cell_count_is_guest_object_count k v ws e = ap (λ (cs : List Cell). length cs) e.closed.objects ∙ e.closed.at.objects
+pub end_cells_count_objects : (k : Plan) (v : View) (ws : List ℕ) (e : IsEnd k v ws) → length e.cells ≡ object_count (trace_in k).guest
+end_cells_count_objects k v ws e = ap (λ (cs : List Cell). length cs) e.closed.objects ∙ e.closed.at.objects
 
 pub are_objects_at_zero : (k : Plan) (v : View) (ws : List ℕ) (e : IsEnd k v ws) (xs : List Cell) → length xs ≡ object_count (trace_in k).guest
     → AreObjects e.cells xs 0
-are_objects_at_zero k v ws e xs room = record { size = room ∙ sym (end_cell_count_is_guest_object_count k v ws e); each = λ o l. absurd (omega (arith, l)) }
+are_objects_at_zero k v ws e xs room = record { size = room ∙ sym (end_cells_count_objects k v ws e); each = λ o l. absurd (omega (arith, l)) }
 
-pub objects_are_closed_if_count_reaches_length : (k : Plan) (v : View) (ws : List ℕ) (e : IsEnd k v ws) (xs : List Cell) (n : ℕ) → AreObjects e.cells xs n → length xs ≤ n
-    → IsClosed k v xs
-objects_are_closed_if_count_reaches_length k v ws e xs n h all = subst (IsClosed k v) (sym (objects_are_cells_if_count_reaches_length e.cells xs n h all)) e.closed
+pub all_objects_closed : (k : Plan) (v : View) (ws : List ℕ) (e : IsEnd k v ws) (xs : List Cell) (n : ℕ) → AreObjects e.cells xs n → length xs ≤ n
+    → IsClosedTable k v xs
+all_objects_closed k v ws e xs n h all = subst (IsClosedTable k v) (sym (all_objects_are_cells e.cells xs n h all)) e.closed
 
 -- a guest with a trace has no more threads and objects than the trace's profile allows
 pub fitted_guest_is_allowed : (f : FittedTrace) (p : Profile) (g : Guest) → IsFitted f → p ≡ f.recorded.profile → g ≡ f.guest → IsAllowed p g
@@ -441,7 +443,7 @@ fitted_guest_is_allowed f p g fitted profile guest =
 
 -- the state before the first step
 pub start_stands_at_zero : (f : FittedTrace) (first : Flat) (s : Standing) → first ≡ start_flat f.guest f.recorded.budget f.recorded.profile → IsFlat first
-    → s.threads ≡ first.threads → s.objects ≡ first.objects → StandsAt f (λ t. 0) s
+    → s.threads ≡ first.threads → s.objects ≡ first.objects → StandsAtCut f (λ t. 0) s
 start_stands_at_zero f first s is flat threads objects =
     let same : flat_in f s ≡ start_flat f.guest f.recorded.budget f.recorded.profile =
     λ i. record {
@@ -453,8 +455,8 @@ start_stands_at_zero f first s is flat threads objects =
     record { flat = subst IsFlat (is ∙ sym same) flat; at = start_is_state_at_zero f (flat_in f s) same }
 
 -- it is at its own positions, below all others
-pub start_stands_at_own_positions : (f : FittedTrace) (s : Standing) → StandsAt f (λ t. 0) s → StandsAt f (positions (flat_in f s)) s
-start_stands_at_own_positions f s h = subst (λ (p : Cut). StandsAt f p s) (λ i t. sym (h.at.steps t) i) h
+pub start_stands_at_own : (f : FittedTrace) (s : Standing) → StandsAtCut f (λ t. 0) s → StandsAtCut f (positions (flat_in f s)) s
+start_stands_at_own f s h = subst (λ (p : Cut). StandsAtCut f p s) (λ i t. sym (h.at.steps t) i) h
 
-pub start_positions_below_any_cut : (f : FittedTrace) (s : Standing) → StandsAt f (λ t. 0) s → (p : Cut) (t : ℕ) → positions (flat_in f s) t ≤ p t
-start_positions_below_any_cut f s h p t = let e = h.at.steps t in omega (arith, e)
+pub start_below_any_cut : (f : FittedTrace) (s : Standing) → StandsAtCut f (λ t. 0) s → (p : Cut) (t : ℕ) → positions (flat_in f s) t ≤ p t
+start_below_any_cut f s h p t = let e = h.at.steps t in omega (arith, e)

@@ -12,8 +12,8 @@ use Rattle.std.proofs.lemmas.List.{get_or_default}
 use Rattle.ir_object.specs.Cell.{Cell}
 use Rattle.ir_object.specs.Empty.{empty}
 use Rattle.ir_flat.specs.Flat.{Flat, thread_of, cell_of, IsFlat}
-use Rattle.ir_flat.proofs.CallerLemmas.{entered_object_below_object_count}
-use Rattle.ir_log.specs.Asked.{Suits}
+use Rattle.ir_flat.proofs.CallerLemmas.{entered_object_exists}
+use Rattle.ir_log.specs.Asked.{SuitsEvent}
 use Rattle.ir_log.specs.declared.event.Event.{Event}
 use Rattle.ir_log.specs.declared.event.Event.TheVariants.{Answer, Try as Refused}
 use Rattle.ir_trace.specs.Recorded.{Recorded, recorded_thread, trace_of}
@@ -21,17 +21,20 @@ use Rattle.ir_trace.specs.Bounds.{IsRecordedThread}
 use Rattle.ir_fit.specs.Ahead.{steps_ahead, log_ahead, CanFollow, IsOpen}
 use Rattle.ir_runs.specs.Verdicts.{Meets}
 use Rattle.ir_fit.specs.declared.follower.look.Look.TheVariants as look
-use Rattle.ir_fit.proofs.CallerLemmas.{end_asked, ends_now_is_end_asked, ask_of_environment_is_not_done, suited_call_can_follow, unsuited_call_disagrees, open_entry_can_follow, shut_entry_is_stopped, unsuited_entry_disagrees, ask_of_entry_is_not_done, refused_try_can_follow, GotIn, open_try_can_follow, shut_try_is_stopped, unsuited_try_disagrees, ask_of_try_is_not_done, thread_without_move_is_stopped}
+use Rattle.ir_fit.proofs.CallerLemmas.{end_asked, ends_now_is_end_asked, call_ask_is_not_done, suited_call_can_follow}
+use Rattle.ir_fit.proofs.CallerLemmas.{unsuited_call_disagrees, open_entry_can_follow, shut_entry_is_stopped, unsuited_entry_differs}
+use Rattle.ir_fit.proofs.CallerLemmas.{entry_ask_is_not_done, refused_try_can_follow, GotIn, open_try_can_follow, shut_try_is_stopped}
+use Rattle.ir_fit.proofs.CallerLemmas.{unsuited_try_disagrees, ask_of_try_is_not_done, without_move_is_stopped}
 use Rattle.ir_weave.specs.Stepping.{LogsNext}
 
 -- a step that follows the trace logs what comes next
-step_that_can_follow_logs_next : (r : Recorded) (s : Flat) (t v : ℕ) → CanFollow r s t v → LogsNext r s t v
-step_that_can_follow_logs_next r s t v h = (h.0, h.2)
+following_logs_next : (r : Recorded) (s : Flat) (t v : ℕ) → CanFollow r s t v → LogsNext r s t v
+following_logs_next r s t v h = (h.0, h.2)
 
 -- the other way round, where the step is no end
-step_that_logs_next_can_follow_if_not_ended : (r : Recorded) (s : Flat) (t v : ℕ) (q : Ask) → ask_of s.code (thread_of s t) ≡ q → end_asked q ≡ None → 0 < steps_ahead r s t
+logs_next_can_follow : (r : Recorded) (s : Flat) (t v : ℕ) (q : Ask) → ask_of s.code (thread_of s t) ≡ q → end_asked q ≡ None → 0 < steps_ahead r s t
     → LogsNext r s t v → CanFollow r s t v
-step_that_logs_next_can_follow_if_not_ended r s t v q is none steps h = (
+logs_next_can_follow r s t v q is none steps h = (
   h.0,
   steps,
   h.1,
@@ -43,71 +46,71 @@ step_that_logs_next_can_follow_if_not_ended r s t v q is none steps h = (
 
 pub suited_call_logs_next : (r : Recorded) (s : Flat) (t v : ℕ) (kind j : EnvKind) → IsRecordedThread r.profile r.objects (recorded_thread r t)
     → ask_of s.code (thread_of s t) ≡ Env kind → 0 < steps_ahead r s t
-    → slice_get (recorded_thread r t).events (thread_of s t).events ≡ Some (Answer j v) → Suits (Env kind) (Answer j v) → LogsNext r s t v
-suited_call_logs_next r s t v kind j fits is steps next suits = step_that_can_follow_logs_next r s t v (suited_call_can_follow r s t v kind j fits is steps next suits)
+    → slice_get (recorded_thread r t).events (thread_of s t).events ≡ Some (Answer j v) → SuitsEvent (Env kind) (Answer j v) → LogsNext r s t v
+suited_call_logs_next r s t v kind j fits is steps next suits = following_logs_next r s t v (suited_call_can_follow r s t v kind j fits is steps next suits)
 
-pub no_result_logs_next_for_unsuited_call : (r : Recorded) (s : Flat) (t : ℕ) (kind : EnvKind) → ask_of s.code (thread_of s t) ≡ Env kind → 0 < steps_ahead r s t
-    → ((e : Event) → slice_get (recorded_thread r t).events (thread_of s t).events ≡ Some e → Suits (Env kind) e → ⊥) → (v : ℕ)
+pub unsuited_call_logs_none : (r : Recorded) (s : Flat) (t : ℕ) (kind : EnvKind) → ask_of s.code (thread_of s t) ≡ Env kind → 0 < steps_ahead r s t
+    → ((e : Event) → slice_get (recorded_thread r t).events (thread_of s t).events ≡ Some e → SuitsEvent (Env kind) e → ⊥) → (v : ℕ)
     → LogsNext r s t v → ⊥
-no_result_logs_next_for_unsuited_call r s t kind is steps none v h =
-    thread_without_move_is_stopped r s t look.Disagrees (ask_of_environment_is_not_done (ask_of s.code (thread_of s t)) kind is, unsuited_call_disagrees r s t kind is none) (λ m e. cc e) v
-    (step_that_logs_next_can_follow_if_not_ended r s t v (Env kind) is refl steps h)
+unsuited_call_logs_none r s t kind is steps none v h =
+    without_move_is_stopped r s t look.Disagrees (call_ask_is_not_done (ask_of s.code (thread_of s t)) kind is, unsuited_call_disagrees r s t kind is none) (λ m e. cc e) v
+    (logs_next_can_follow r s t v (Env kind) is refl steps h)
 
 -- ---- entries
 
-pub open_entry_logs_next_with_result_zero : (r : Recorded) (s : Flat) (t o : ℕ) (a : Access) (e : Event) → IsFlat s → t < length s.threads
+pub open_entry_logs_zero : (r : Recorded) (s : Flat) (t o : ℕ) (a : Access) (e : Event) → IsFlat s → t < length s.threads
     → ask_of s.code (thread_of s t) ≡ Enter o a → 0 < steps_ahead r s t
-    → slice_get (recorded_thread r t).events (thread_of s t).events ≡ Some e → Suits (Enter o a) e → IsOpen (cell_of s o) e
+    → slice_get (recorded_thread r t).events (thread_of s t).events ≡ Some e → SuitsEvent (Enter o a) e → IsOpen (cell_of s o) e
     → LogsNext r s t 0
-open_entry_logs_next_with_result_zero r s t o a e flat l is steps next suits opens = step_that_can_follow_logs_next r s t 0 (open_entry_can_follow r s t o a e flat l is steps next suits opens)
+open_entry_logs_zero r s t o a e flat l is steps next suits opens = following_logs_next r s t 0 (open_entry_can_follow r s t o a e flat l is steps next suits opens)
 
-pub no_result_logs_next_for_shut_entry : (r : Recorded) (s : Flat) (t o : ℕ) (a : Access) (e : Event) → IsFlat s → t < length s.threads
+pub shut_entry_logs_none : (r : Recorded) (s : Flat) (t o : ℕ) (a : Access) (e : Event) → IsFlat s → t < length s.threads
     → ask_of s.code (thread_of s t) ≡ Enter o a → 0 < steps_ahead r s t
-    → slice_get (recorded_thread r t).events (thread_of s t).events ≡ Some e → Suits (Enter o a) e → (IsOpen (cell_of s o) e → ⊥) → (v : ℕ)
+    → slice_get (recorded_thread r t).events (thread_of s t).events ≡ Some e → SuitsEvent (Enter o a) e → (IsOpen (cell_of s o) e → ⊥) → (v : ℕ)
     → LogsNext r s t v → ⊥
-no_result_logs_next_for_shut_entry r s t o a e flat l is steps next suits shut v h =
-    shut_entry_is_stopped r s t o a e flat l is next suits shut v (step_that_logs_next_can_follow_if_not_ended r s t v (Enter o a) is refl steps h)
+shut_entry_logs_none r s t o a e flat l is steps next suits shut v h =
+    shut_entry_is_stopped r s t o a e flat l is next suits shut v (logs_next_can_follow r s t v (Enter o a) is refl steps h)
 
-pub no_result_logs_next_for_unsuited_entry : (r : Recorded) (s : Flat) (t o : ℕ) (a : Access) → ask_of s.code (thread_of s t) ≡ Enter o a → 0 < steps_ahead r s t
-    → ((e : Event) → slice_get (recorded_thread r t).events (thread_of s t).events ≡ Some e → Suits (Enter o a) e → ⊥) → (v : ℕ)
+pub unsuited_entry_logs_none : (r : Recorded) (s : Flat) (t o : ℕ) (a : Access) → ask_of s.code (thread_of s t) ≡ Enter o a → 0 < steps_ahead r s t
+    → ((e : Event) → slice_get (recorded_thread r t).events (thread_of s t).events ≡ Some e → SuitsEvent (Enter o a) e → ⊥) → (v : ℕ)
     → LogsNext r s t v → ⊥
-no_result_logs_next_for_unsuited_entry r s t o a is steps none v h =
-    thread_without_move_is_stopped r s t look.Disagrees (ask_of_entry_is_not_done (ask_of s.code (thread_of s t)) o a is, unsuited_entry_disagrees r s t o a is none) (λ m e. cc e) v
-    (step_that_logs_next_can_follow_if_not_ended r s t v (Enter o a) is refl steps h)
+unsuited_entry_logs_none r s t o a is steps none v h =
+    without_move_is_stopped r s t look.Disagrees (entry_ask_is_not_done (ask_of s.code (thread_of s t)) o a is, unsuited_entry_differs r s t o a is none) (λ m e. cc e) v
+    (logs_next_can_follow r s t v (Enter o a) is refl steps h)
 
 -- ---- tries
 
-pub refused_try_logs_next_with_result_zero : (r : Recorded) (s : Flat) (t o p : ℕ) → ask_of s.code (thread_of s t) ≡ Try o → 0 < steps_ahead r s t
-    → slice_get (recorded_thread r t).events (thread_of s t).events ≡ Some (Refused p) → Suits (Try o) (Refused p) → LogsNext r s t 0
-refused_try_logs_next_with_result_zero r s t o p is steps next suits = step_that_can_follow_logs_next r s t 0 (refused_try_can_follow r s t o p is steps next suits)
+pub refused_try_logs_zero : (r : Recorded) (s : Flat) (t o p : ℕ) → ask_of s.code (thread_of s t) ≡ Try o → 0 < steps_ahead r s t
+    → slice_get (recorded_thread r t).events (thread_of s t).events ≡ Some (Refused p) → SuitsEvent (Try o) (Refused p) → LogsNext r s t 0
+refused_try_logs_zero r s t o p is steps next suits = following_logs_next r s t 0 (refused_try_can_follow r s t o p is steps next suits)
 
-pub open_try_logs_next_with_result_one : (r : Recorded) (s : Flat) (t o : ℕ) (e : Event) → IsFlat s → t < length s.threads
+pub open_try_logs_one : (r : Recorded) (s : Flat) (t o : ℕ) (e : Event) → IsFlat s → t < length s.threads
     → ask_of s.code (thread_of s t) ≡ Try o → 0 < steps_ahead r s t
-    → slice_get (recorded_thread r t).events (thread_of s t).events ≡ Some e → Suits (Try o) e → IsOpen (cell_of s o) e
+    → slice_get (recorded_thread r t).events (thread_of s t).events ≡ Some e → SuitsEvent (Try o) e → IsOpen (cell_of s o) e
     → LogsNext r s t 1
-open_try_logs_next_with_result_one r s t o e flat l is steps next suits opens = step_that_can_follow_logs_next r s t 1 (open_try_can_follow r s t o e flat l is steps next suits opens)
+open_try_logs_one r s t o e flat l is steps next suits opens = following_logs_next r s t 1 (open_try_can_follow r s t o e flat l is steps next suits opens)
 
-pub no_result_logs_next_for_shut_try : (r : Recorded) (s : Flat) (t o : ℕ) (e : Event) → IsFlat s → t < length s.threads
+pub shut_try_logs_none : (r : Recorded) (s : Flat) (t o : ℕ) (e : Event) → IsFlat s → t < length s.threads
     → ask_of s.code (thread_of s t) ≡ Try o → 0 < steps_ahead r s t
-    → slice_get (recorded_thread r t).events (thread_of s t).events ≡ Some e → Suits (Try o) e → GotIn e → (IsOpen (cell_of s o) e → ⊥)
+    → slice_get (recorded_thread r t).events (thread_of s t).events ≡ Some e → SuitsEvent (Try o) e → GotIn e → (IsOpen (cell_of s o) e → ⊥)
     → (v : ℕ) → LogsNext r s t v → ⊥
-no_result_logs_next_for_shut_try r s t o e flat l is steps next suits in_ shut v h =
-    shut_try_is_stopped r s t o e flat l is next suits in_ shut v (step_that_logs_next_can_follow_if_not_ended r s t v (Try o) is refl steps h)
+shut_try_logs_none r s t o e flat l is steps next suits in_ shut v h =
+    shut_try_is_stopped r s t o e flat l is next suits in_ shut v (logs_next_can_follow r s t v (Try o) is refl steps h)
 
-pub no_result_logs_next_for_unsuited_try : (r : Recorded) (s : Flat) (t o : ℕ) → ask_of s.code (thread_of s t) ≡ Try o → 0 < steps_ahead r s t
-    → ((e : Event) → slice_get (recorded_thread r t).events (thread_of s t).events ≡ Some e → Suits (Try o) e → ⊥) → (v : ℕ)
+pub unsuited_try_logs_none : (r : Recorded) (s : Flat) (t o : ℕ) → ask_of s.code (thread_of s t) ≡ Try o → 0 < steps_ahead r s t
+    → ((e : Event) → slice_get (recorded_thread r t).events (thread_of s t).events ≡ Some e → SuitsEvent (Try o) e → ⊥) → (v : ℕ)
     → LogsNext r s t v → ⊥
-no_result_logs_next_for_unsuited_try r s t o is steps none v h =
-    thread_without_move_is_stopped r s t look.Disagrees (ask_of_try_is_not_done (ask_of s.code (thread_of s t)) o is, unsuited_try_disagrees r s t o is none) (λ m e. cc e) v
-    (step_that_logs_next_can_follow_if_not_ended r s t v (Try o) is refl steps h)
+unsuited_try_logs_none r s t o is steps none v h =
+    without_move_is_stopped r s t look.Disagrees (ask_of_try_is_not_done (ask_of s.code (thread_of s t)) o is, unsuited_try_disagrees r s t o is none) (λ m e. cc e) v
+    (logs_next_can_follow r s t v (Try o) is refl steps h)
 
 -- an object that is entered is one of the guest's
-pub entered_object_index_is_below_length_of_objects : (s : Flat) (t o : ℕ) (a : Access) (xs : List Cell) → IsFlat s → t < length s.threads
+pub entered_index_below : (s : Flat) (t o : ℕ) (a : Access) (xs : List Cell) → IsFlat s → t < length s.threads
     → ask_of s.code (thread_of s t) ≡ Enter o a → xs ≡ s.objects → o < length xs
-entered_object_index_is_below_length_of_objects s t o a xs flat l is same = subst (λ z. o < length z) (sym same) (entered_object_below_object_count s t o a flat l is)
+entered_index_below s t o a xs flat l is same = subst (λ z. o < length z) (sym same) (entered_object_exists s t o a flat l is)
 
 -- what is read in its place
-pub looked_up_entered_object_is_its_cell : (s : Flat) (t o : ℕ) (a : Access) (xs : List Cell) (x : Cell) → IsFlat s → t < length s.threads
+pub entered_is_its_cell : (s : Flat) (t o : ℕ) (a : Access) (xs : List Cell) (x : Cell) → IsFlat s → t < length s.threads
     → ask_of s.code (thread_of s t) ≡ Enter o a → xs ≡ s.objects → x ≡ slice_index_or xs o x → x ≡ cell_of s o
-looked_up_entered_object_is_its_cell s t o a xs x flat l is same read = read ∙ get_or_default xs o x empty (entered_object_index_is_below_length_of_objects s t o a xs flat l is same)
+entered_is_its_cell s t o a xs x flat l is same read = read ∙ get_or_default xs o x empty (entered_index_below s t o a xs flat l is same)
     ∙ ap (λ z. slice_index_or z o empty) same

@@ -17,20 +17,22 @@ use Rattle.ir_thread.specs.declared.ask.Reply.TheVariants.{Go, Value}
 use Rattle.ir_runs.specs.Run.{Step, trail, count}
 use Rattle.ir_flat.proofs.CallerLemmas.{events_added_by}
 use Rattle.ir_log.specs.Logging.{label_of}
-use Rattle.ir_log.specs.Asked.{ask_of as event_ask, Suits}
-use Rattle.ir_log.proofs.CallerLemmas.{ask_of_suiting_call_event}
+use Rattle.ir_log.specs.Asked.{ask_of as event_ask, SuitsEvent}
+use Rattle.ir_log.proofs.CallerLemmas.{ask_of_call_event}
 use Rattle.ir_log.specs.declared.event.Event.{Event}
 use Rattle.ir_log.specs.declared.event.Event.TheVariants.{Answer as Answered, Read, Write, Try as Refused}
 use Rattle.ir_trace.specs.Recorded.{recorded_thread}
 use Rattle.ir_fit.specs.Fit.{FittedTrace, IsRunOf}
 use Rattle.ir_cut.specs.Positions.{machine_of, start_of, thread_at}
 use Rattle.ir_weave.specs.Ahead.{IsRefusedTry, TouchesNoObject, event_of, HasStep, IsAhead, IsAsking, IsEntering, ask_at}
-use Rattle.ir_weave.specs.Woven.{View, M, trace_in, Met, progress, met_of, Rises, HasMet, Answers, IsFor, IsOpened, IsSeated, HasStepped, HasWaited, HasRunOn, WasStopped}
+use Rattle.ir_weave.specs.Woven.{View, M, trace_in, Met, progress, met_of, Rises, HasMet, Answers, IsFor, IsTableOpened, IsSeated, HasStepped, HasWaited, HasRunOn, WasStopped}
 use Rattle.ir_weave.specs.declared.plan.Plan.{Plan}
-use Rattle.ir_weave.proofs.Lone.{TakesStep, HasNoValue, IsNotDone, ahead_after_alone_step, ahead_by_nothing_after_object_step, ahead_of_own_position, takes_step_with_go_if_ask_has_no_value, takes_step_of_call_with_logged_answer, takes_step_of_try_with_logged_result, try_result, ahead_thread_asks_in_run, logged_step_has_recorded_event, steps_after_ask_are_one_more_if_not_done, number_after_ask_is_unchanged, thread_with_step_is_not_done}
-use Rattle.ir_weave.proofs.Trails.{StepOf, emitting_step_is_step_of}
-use Rattle.ir_weave.proofs.Ended.{thread_not_done_has_step, guest_runs_have_same_counts}
-use Rattle.ir_fit.proofs.CallerLemmas.{get_or_is_item_if_at_index}
+use Rattle.ir_weave.proofs.Lone.{TakesStep, HasNoValue, IsNotDone, ahead_after_alone_step, no_lead_after_object_step, ahead_of_own_position}
+use Rattle.ir_weave.proofs.Lone.{takes_step_with_go, takes_call_with_answer, takes_try_with_result, try_result, ahead_asks_in_run}
+use Rattle.ir_weave.proofs.Lone.{logged_step_has_event, steps_after_one_ask, number_after_ask, has_step_is_not_done}
+use Rattle.ir_weave.proofs.Trails.{StepOf, emitting_is_step_of}
+use Rattle.ir_weave.proofs.Ended.{not_done_has_step, runs_have_same_counts}
+use Rattle.ir_fit.proofs.CallerLemmas.{at_is_get_or}
 use Rattle.std.proofs.lemmas.Bool.{cases_lt}
 
 -- ---- the thread of a seat
@@ -46,11 +48,11 @@ seated_thread_is_ahead k (q ∷ []) x seated = subst (λ (z : Plan × ℕ). IsAh
     (λ i. (seated.0 i, sym seated.1.number i)) seated.1
 
 -- the thread advances, and the view stays
-pub seated_if_ahead_wherever_seated_thread_is_ahead : (k : Plan) (v : View) (x y : thread.ThreadState) → IsSeated k v x
+pub seated_by_ahead : (k : Plan) (v : View) (x y : thread.ThreadState) → IsSeated k v x
     → ((i : ℕ) → IsAhead (trace_in k) x.number i x → IsAhead (trace_in k) x.number i y) → IsSeated k v y
-seated_if_ahead_wherever_seated_thread_is_ahead k [] x y seated on = absurd seated
-seated_if_ahead_wherever_seated_thread_is_ahead k (q ∷ r ∷ qs) x y seated on = absurd seated
-seated_if_ahead_wherever_seated_thread_is_ahead k (q ∷ []) x y seated on = (
+seated_by_ahead k [] x y seated on = absurd seated
+seated_by_ahead k (q ∷ r ∷ qs) x y seated on = absurd seated
+seated_by_ahead k (q ∷ []) x y seated on = (
   seated.0,
   subst (λ (z : Plan × ℕ). IsAhead (trace_in z.0) z.1 q.position y) (λ i. (sym seated.0 i, seated.1.number i))
       (on q.position (seated_thread_is_ahead k (q ∷ []) x seated)),
@@ -58,10 +60,10 @@ seated_if_ahead_wherever_seated_thread_is_ahead k (q ∷ []) x y seated on = (
 
 -- ---- what the thread is after its reply
 
-after_reply_is_after_ask : (code : List ℕ) (f : FittedTrace) (x : thread.ThreadState) (q : Ask) (r : Reply) → code ≡ f.guest.code → ask_of f.guest.code x ≡ q
+reply_is_ask_reply : (code : List ℕ) (f : FittedTrace) (x : thread.ThreadState) (q : Ask) (r : Reply) → code ≡ f.guest.code → ask_of f.guest.code x ≡ q
     → after_reply code x r ≡ after_ask f.guest.code x q r
 unfolding after_reply
-after_reply_is_after_ask code f x q r same is = (λ i. after_ask (same i) x (ask_of (same i) x) r) ∙ ap (λ a. after_ask f.guest.code x a r) is
+reply_is_ask_reply code f x q r same is = (λ i. after_ask (same i) x (ask_of (same i) x) r) ∙ ap (λ a. after_ask f.guest.code x a r) is
 
 -- nothing more was met
 pub rises_is_reflexive : (m : Met) → Rises m m
@@ -73,13 +75,13 @@ pub stepped_by_alone_step : (k : Plan) (f : FittedTrace) (code : List ℕ) (me :
     → HasStepped k me me x y
 stepped_by_alone_step k f code me x y q r for same seated alone step takes is =
     let y_is : y ≡ after_ask (trace_in k).guest.code x q r = is
-    ∙ after_reply_is_after_ask code (trace_in k) x q r (same ∙ ap (λ z. z.guest.code) (sym for)) takes.asks in
+    ∙ reply_is_ask_reply code (trace_in k) x q r (same ∙ ap (λ z. z.guest.code) (sym for)) takes.asks in
     subst (λ z. HasStepped k me me x z) (sym y_is) (record {
-      seated = seated_if_ahead_wherever_seated_thread_is_ahead k me.0 x (after_ask (trace_in k).guest.code x q r) seated
+      seated = seated_by_ahead k me.0 x (after_ask (trace_in k).guest.code x q r) seated
           (λ i ahead. ahead_after_alone_step (trace_in k) x.number i x q r ahead takes alone);
       slots = refl;
-      steps = steps_after_ask_are_one_more_if_not_done (trace_in k).guest.code x q r step;
-      number = number_after_ask_is_unchanged (trace_in k).guest.code x q r;
+      steps = steps_after_one_ask (trace_in k).guest.code x q r step;
+      number = number_after_ask (trace_in k).guest.code x q r;
       rises = rises_is_reflexive (met_of me.0);
     })
 
@@ -90,46 +92,46 @@ pub stepped_by_object_step : (k : Plan) (f : FittedTrace) (code : List ℕ) (me 
     → ◌≡◌ {A = M} me' (progress k x.number (suc x.steps) false m ∷ [], me.1) → HasStepped k me me' x y
 stepped_by_object_step k f code me me' x y q r for same seated step takes is m rises moved =
     let y_is : y ≡ after_ask (trace_in k).guest.code x q r = is
-    ∙ after_reply_is_after_ask code (trace_in k) x q r (same ∙ ap (λ z. z.guest.code) (sym for)) takes.asks in
+    ∙ reply_is_ask_reply code (trace_in k) x q r (same ∙ ap (λ z. z.guest.code) (sym for)) takes.asks in
     subst (λ (z : thread.ThreadState × M). HasStepped k me z.1 x z.0) (λ i. (sym y_is i, sym moved i)) (record {
-      seated = (refl, ahead_by_nothing_after_object_step (trace_in k) x.number (position_of_view me.0) x q r (seated_thread_is_ahead k me.0 x seated) takes);
+      seated = (refl, no_lead_after_object_step (trace_in k) x.number (position_of_view me.0) x q r (seated_thread_is_ahead k me.0 x seated) takes);
       slots = refl;
-      steps = steps_after_ask_are_one_more_if_not_done (trace_in k).guest.code x q r step;
-      number = number_after_ask_is_unchanged (trace_in k).guest.code x q r;
+      steps = steps_after_one_ask (trace_in k).guest.code x q r step;
+      number = number_after_ask (trace_in k).guest.code x q r;
       rises = record { cut = rises.cut; looks = rises.looks };
     })
 
 -- ---- which steps it takes
 
 -- what it asks of the table's plan
-pub asking_in_trace_is_asking_in_plan : (k : Plan) (f : FittedTrace) (x : thread.ThreadState) (q : Ask) → IsFor k f → IsAsking f x q → IsAsking (trace_in k) x q
-asking_in_trace_is_asking_in_plan k f x q for asking = subst (λ z. IsAsking z x q) (sym for) asking
+pub asking_in_trace_is : (k : Plan) (f : FittedTrace) (x : thread.ThreadState) (q : Ask) → IsFor k f → IsAsking f x q → IsAsking (trace_in k) x q
+asking_in_trace_is k f x q for asking = subst (λ z. IsAsking z x q) (sym for) asking
 
-pub seated_thread_takes_step_with_go_if_no_value : (k : Plan) (v : View) (x : thread.ThreadState) (q : Ask) → IsSeated k v x → IsAsking (trace_in k) x q → HasNoValue q → IsNotDone q
+pub seated_takes_go : (k : Plan) (v : View) (x : thread.ThreadState) (q : Ask) → IsSeated k v x → IsAsking (trace_in k) x q → HasNoValue q → IsNotDone q
     → TakesStep (trace_in k) x.number x q Go
-seated_thread_takes_step_with_go_if_no_value k v x q seated asking go step = takes_step_with_go_if_ask_has_no_value (trace_in k) x.number (position_of_view v) x q (seated_thread_is_ahead k v x seated) asking.asks asking.has
+seated_takes_go k v x q seated asking go step = takes_step_with_go (trace_in k) x.number (position_of_view v) x q (seated_thread_is_ahead k v x seated) asking.asks asking.has
     go step
 
-pub seated_thread_takes_call_with_logged_answer : (k : Plan) (v : View) (x : thread.ThreadState) (kind j : EnvKind) (n : ℕ) → IsSeated k v x → IsAsking (trace_in k) x (Env kind)
+pub seated_takes_call : (k : Plan) (v : View) (x : thread.ThreadState) (kind j : EnvKind) (n : ℕ) → IsSeated k v x → IsAsking (trace_in k) x (Env kind)
     → slice_get (recorded_thread (trace_in k).recorded x.number).events x.events ≡ Some (Answered j n)
     → TakesStep (trace_in k) x.number x (Env kind) (Value n)
-seated_thread_takes_call_with_logged_answer k v x kind j n seated asking event =
-    takes_step_of_call_with_logged_answer (trace_in k) x.number (position_of_view v) x kind j n (seated_thread_is_ahead k v x seated) asking.asks asking.has event
+seated_takes_call k v x kind j n seated asking event =
+    takes_call_with_answer (trace_in k) x.number (position_of_view v) x kind j n (seated_thread_is_ahead k v x seated) asking.asks asking.has event
 
-pub seated_thread_takes_get_with_answer : (k : Plan) (v : View) (x : thread.ThreadState) (o i n : ℕ) → IsSeated k v x → IsAsking (trace_in k) x (Get o i)
+pub seated_takes_get : (k : Plan) (v : View) (x : thread.ThreadState) (o i n : ℕ) → IsSeated k v x → IsAsking (trace_in k) x (Get o i)
     → Answers (trace_in k) x.number x.steps n → TakesStep (trace_in k) x.number x (Get o i) (Value n)
-seated_thread_takes_get_with_answer k v x o i n seated asking answers = record {
+seated_takes_get k v x o i n seated asking answers = record {
   asks = asking.asks;
   step = tt;
   has = asking.has;
-  next = λ run of. (answers run of o i (ahead_thread_asks_in_run (trace_in k) x.number (position_of_view v) x (Get o i) run of (seated_thread_is_ahead k v x seated)
+  next = λ run of. (answers run of o i (ahead_asks_in_run (trace_in k) x.number (position_of_view v) x (Get o i) run of (seated_thread_is_ahead k v x seated)
       asking.asks)).1;
 }
 
 -- ---- the next event
 
 ask_suits_emitted_event : (f : FittedTrace) (q : Ask) (e : Event) (r : ℕ) (b : Object) → Admits (machine_of f) (act_of (shared_ask q) r) b
-    → label_of e ≡ emitted (act_of (shared_ask q) r) b → events_added_by q ≡ 1 → Suits q e
+    → label_of e ≡ emitted (act_of (shared_ask q) r) b → events_added_by q ≡ 1 → SuitsEvent q e
 ask_suits_emitted_event f (Env k) (Answered j v) r b can h one = let same : j ≡ k = cc h in inl (ap Env same)
 ask_suits_emitted_event f (Env k) (Read o v) r b can h one = absurd (cc h)
 ask_suits_emitted_event f (Env k) (Write o v l) r b can h one = absurd (cc h)
@@ -160,17 +162,17 @@ ask_suits_emitted_event f (End x) e r b can h one = absurd (omega (arith, one))
 ask_suits_emitted_event f Done e r b can h one = absurd (omega (arith, one))
 
 -- there is one, which suits what is asked
-pub asked_event_exists_and_suits : (k : Plan) (v : View) (x : thread.ThreadState) (q : Ask) → IsSeated k v x → IsAsking (trace_in k) x q → events_added_by q ≡ 1
-    → (e : Event) × (slice_get (recorded_thread (trace_in k).recorded x.number).events x.events ≡ Some e) × Suits q e
-asked_event_exists_and_suits k v x q seated asking one =
+pub asked_event_suits : (k : Plan) (v : View) (x : thread.ThreadState) (q : Ask) → IsSeated k v x → IsAsking (trace_in k) x q → events_added_by q ≡ 1
+    → (e : Event) × (slice_get (recorded_thread (trace_in k).recorded x.number).events x.events ≡ Some e) × SuitsEvent q e
+asked_event_suits k v x q seated asking one =
     let f : FittedTrace = trace_in k in
     let ahead : IsAhead f x.number (position_of_view v) x = seated_thread_is_ahead k v x seated in
     let run : List Step = ahead.run.run in
     let of = ahead.run.whole in
-    let asks : ask_at f run x.number x.steps ≡ q = ahead_thread_asks_in_run f x.number (position_of_view v) x q run of ahead asking.asks in
-    let found = logged_step_has_recorded_event f run of x.number x.steps ahead.there (asking.has run of) (ap events_added_by asks ∙ one) in
+    let asks : ask_at f run x.number x.steps ≡ q = ahead_asks_in_run f x.number (position_of_view v) x q run of ahead asking.asks in
+    let found = logged_step_has_event f run of x.number x.steps ahead.there (asking.has run of) (ap events_added_by asks ∙ one) in
     let z : StepOf (machine_of f) (thread_at f run x.number x.steps) (thread_at f run x.number (suc x.steps)) (label_of found.0) =
-    emitting_step_is_step_of (machine_of f) (start_of f) run of.1.runs x.number x.steps (label_of found.0) found.2 in (
+    emitting_is_step_of (machine_of f) (start_of f) run of.1.runs x.number x.steps (label_of found.0) found.2 in (
       found.0,
       ap (λ (y : thread.ThreadState). slice_get (recorded_thread f.recorded x.number).events y.events) (ahead.at run of).1 ∙ found.1,
       ask_suits_emitted_event f q found.0 z.result z.object
@@ -178,36 +180,36 @@ asked_event_exists_and_suits k v x q seated asking one =
     )
 
 -- so that it is never missing
-pub asked_event_is_not_missing : (k : Plan) (f : FittedTrace) (v : View) (x : thread.ThreadState) (q : Ask) → IsFor k f → IsSeated k v x → IsAsking f x q
+pub asked_event_exists : (k : Plan) (f : FittedTrace) (v : View) (x : thread.ThreadState) (q : Ask) → IsFor k f → IsSeated k v x → IsAsking f x q
     → events_added_by q ≡ 1
-    → ((e : Event) → slice_get (recorded_thread f.recorded x.number).events x.events ≡ Some e → Suits q e → ⊥) → ⊥
-asked_event_is_not_missing k f v x q for seated asking one none =
-    let some = asked_event_exists_and_suits k v x q seated (asking_in_trace_is_asking_in_plan k f x q for asking) one in
+    → ((e : Event) → slice_get (recorded_thread f.recorded x.number).events x.events ≡ Some e → SuitsEvent q e → ⊥) → ⊥
+asked_event_exists k f v x q for seated asking one none =
+    let some = asked_event_suits k v x q seated (asking_in_trace_is k f x q for asking) one in
     none some.0 (subst (λ z. slice_get (recorded_thread z.recorded x.number).events x.events ≡ Some some.0) for some.1) some.2
 
 -- ---- the end of a thread
 
 -- the thread of a seat that isn't done has a step
-pub seated_thread_not_done_has_step : (k : Plan) (f : FittedTrace) (v : View) (x : thread.ThreadState) → IsFor k f → IsSeated k v x → ask_of f.guest.code x ≢ Done
+pub seated_has_step : (k : Plan) (f : FittedTrace) (v : View) (x : thread.ThreadState) → IsFor k f → IsSeated k v x → ask_of f.guest.code x ≢ Done
     → HasStep f x.number x.steps
-seated_thread_not_done_has_step k f v x for seated not = subst (λ z. HasStep z x.number x.steps) for
-    (thread_not_done_has_step (trace_in k) x.number x (seated_thread_is_ahead k v x seated).at (subst (λ z. ask_of z.guest.code x ≢ Done) (sym for) not))
+seated_has_step k f v x for seated not = subst (λ z. HasStep z x.number x.steps) for
+    (not_done_has_step (trace_in k) x.number x (seated_thread_is_ahead k v x seated).at (subst (λ z. ask_of z.guest.code x ≢ Done) (sym for) not))
 
-pub asking_thread_is_not_done : (k : Plan) (f : FittedTrace) (v : View) (x : thread.ThreadState) → IsFor k f → IsSeated k v x → IsAsking f x Done → ⊥
-asking_thread_is_not_done k f v x for seated asking = let ask : IsAsking (trace_in k) x Done = asking_in_trace_is_asking_in_plan k f x Done for asking in
-    thread_with_step_is_not_done (trace_in k) x.number (position_of_view v) x (seated_thread_is_ahead k v x seated) ask.has ask.asks
+pub asking_is_not_done : (k : Plan) (f : FittedTrace) (v : View) (x : thread.ThreadState) → IsFor k f → IsSeated k v x → IsAsking f x Done → ⊥
+asking_is_not_done k f v x for seated asking = let ask : IsAsking (trace_in k) x Done = asking_in_trace_is k f x Done for asking in
+    has_step_is_not_done (trace_in k) x.number (position_of_view v) x (seated_thread_is_ahead k v x seated) ask.has ask.asks
 
 -- a thread that is done has taken all its steps, and at the end of each run it isn't admitted
-pub done_thread_has_waited : (k : Plan) (f : FittedTrace) (me : M) (x : thread.ThreadState) → IsFor k f → IsOpened k → IsSeated k me.0 x
+pub done_thread_has_waited : (k : Plan) (f : FittedTrace) (me : M) (x : thread.ThreadState) → IsFor k f → IsTableOpened k → IsSeated k me.0 x
     → ask_of f.guest.code x ≡ Done → HasWaited k me me x x
 done_thread_has_waited k f me x for opened seated done =
     let g : FittedTrace = trace_in k in
     let ahead : IsAhead g x.number (position_of_view me.0) x = seated_thread_is_ahead k me.0 x seated in
     let last : List Step = ahead.run.run in
-    let same = λ (run : List Step) (of : IsRunOf g.guest g.recorded run). guest_runs_have_same_counts g last run ahead.run.whole of in
+    let same = λ (run : List Step) (of : IsRunOf g.guest g.recorded run). runs_have_same_counts g last run ahead.run.whole of in
     let all : count (machine_of g) (start_of g) last x.number ≡ x.steps =
     elim (cases_lt x.steps (count (machine_of g) (start_of g) last x.number)) [
-      | inl less ↦ absurd (thread_with_step_is_not_done g x.number (position_of_view me.0) x ahead
+      | inl less ↦ absurd (has_step_is_not_done g x.number (position_of_view me.0) x ahead
           (λ run of. (let e = same run of x.number in omega (arith, less, e))) (subst (λ z. ask_of z.guest.code x ≡ Done) (sym for) done))
       | inr past ↦ (let within = (ahead.at last ahead.run.whole).0 in omega (arith, past, within))
     ] in
@@ -219,7 +221,7 @@ done_thread_has_waited k f me x for opened seated done =
         cut = count (machine_of g) (start_of g) last;
         is_cut = λ run of u. (let e = same run of u in omega (arith, e));
         consistent = λ run of t i u j a b emitted needed needs less.
-            (let within = (get_or_is_item_if_at_index (trail (machine_of g) (start_of g) run u) j (needed.0, b) needed.1).0 in let e = same run of u in
+            (let within = (at_is_get_or (trail (machine_of g) (start_of g) run u) j (needed.0, b) needed.1).0 in let e = same run of u in
             omega (arith, within, e));
         above = λ u. opened last ahead.run.whole u;
         here = all;
@@ -234,43 +236,43 @@ done_thread_has_waited k f me x for opened seated done =
 
 -- ---- many private steps
 
-ahead_after_private_steps : (f : FittedTrace) (t i n : ℕ) (x y : thread.ThreadState) → IsAhead f t i x → PrivateSteps f.guest.code n x y
+ahead_after_private : (f : FittedTrace) (t i n : ℕ) (x y : thread.ThreadState) → IsAhead f t i x → PrivateSteps f.guest.code n x y
     → IsAhead f t i (run_of f.guest.code n x) × ((run_of f.guest.code n x).steps ≡ x.steps + n)
 unfolding run_of step_of
-ahead_after_private_steps f t i zero x y ahead steps = (ahead, omega arith)
-ahead_after_private_steps f t i (suc n) x y ahead steps =
+ahead_after_private f t i zero x y ahead steps = (ahead, omega arith)
+ahead_after_private f t i (suc n) x y ahead steps =
     let z : thread.ThreadState = run_of f.guest.code n x in
-    let before = ahead_after_private_steps f t i n x z ahead (record { steps = refl; each = λ k l. steps.each k (omega (arith, l)) }) in
+    let before = ahead_after_private f t i n x z ahead (record { steps = refl; each = λ k l. steps.each k (omega (arith, l)) }) in
     let asks : ask_of f.guest.code z ≡ Private = steps.each n (omega arith) in
-    let takes : TakesStep f t z Private Go = takes_step_with_go_if_ask_has_no_value f t i z Private before.0 asks
-    (thread_not_done_has_step f t z before.0.at (λ done. cc (asks, done))) tt tt in
-    let next : after_reply f.guest.code z Go ≡ after_ask f.guest.code z Private Go = after_reply_is_after_ask f.guest.code f z Private Go refl asks in
-    let more = steps_after_ask_are_one_more_if_not_done f.guest.code z Private Go tt in (
+    let takes : TakesStep f t z Private Go = takes_step_with_go f t i z Private before.0 asks
+    (not_done_has_step f t z before.0.at (λ done. cc (asks, done))) tt tt in
+    let next : after_reply f.guest.code z Go ≡ after_ask f.guest.code z Private Go = reply_is_ask_reply f.guest.code f z Private Go refl asks in
+    let more = steps_after_one_ask f.guest.code z Private Go tt in (
       subst (IsAhead f t i) (sym next) (ahead_after_alone_step f t i z Private Go before.0 takes tt),
       ap (λ (w : thread.ThreadState). w.steps) next ∙ more
           ∙ (let s = before.1 in omega (arith, s)),
     )
 
-pub has_run_on_by_private_steps : (k : Plan) (f : FittedTrace) (code : List ℕ) (v : View) (x y : thread.ThreadState) (n : ℕ) → IsFor k f → code ≡ f.guest.code
+pub has_run_on_by_private : (k : Plan) (f : FittedTrace) (code : List ℕ) (v : View) (x y : thread.ThreadState) (n : ℕ) → IsFor k f → code ≡ f.guest.code
     → IsSeated k v x → PrivateSteps code n x y → HasRunOn k v x y n
-has_run_on_by_private_steps k f code v x y n for same seated steps =
+has_run_on_by_private k f code v x y n for same seated steps =
     let g : FittedTrace = trace_in k in
     let own : PrivateSteps g.guest.code n x y = subst (λ c. PrivateSteps c n x y) (same ∙ ap (λ z. z.guest.code) (sym for)) steps in
     let all : (i : ℕ) → IsAhead g x.number i x → IsAhead g x.number i y =
-    λ i ahead. subst (IsAhead g x.number i) (sym own.steps) (ahead_after_private_steps g x.number i n x y ahead own).0 in
+    λ i ahead. subst (IsAhead g x.number i) (sym own.steps) (ahead_after_private g x.number i n x y ahead own).0 in
     record {
-      seated = seated_if_ahead_wherever_seated_thread_is_ahead k v x y seated all;
+      seated = seated_by_ahead k v x y seated all;
       steps = ap (λ (z : thread.ThreadState). z.steps) own.steps
-          ∙ (ahead_after_private_steps g x.number (position_of_view v) n x y (seated_thread_is_ahead k v x seated) own).1;
+          ∙ (ahead_after_private g x.number (position_of_view v) n x y (seated_thread_is_ahead k v x seated) own).1;
       number = (all (position_of_view v) (seated_thread_is_ahead k v x seated)).number;
     }
 
 -- ---- a thread that waits
 
-pub stopped_thread_has_waited : (k : Plan) (me me' : M) (x : thread.ThreadState) → IsSeated k me.0 x
+pub stopped_has_waited : (k : Plan) (me me' : M) (x : thread.ThreadState) → IsSeated k me.0 x
     → ◌≡◌ {A = M} me' (progress k x.number x.steps false (met_of me'.0) ∷ [], me.1)
     → (s : WasStopped k x.number x.steps) → HasMet (met_of me.0) (met_of me'.0) s.cut → HasWaited k me me' x x
-stopped_thread_has_waited k me me' x seated is stopped met = subst (λ (z : M). HasWaited k me z x x) (sym is) (record {
+stopped_has_waited k me me' x seated is stopped met = subst (λ (z : M). HasWaited k me z x x) (sym is) (record {
   seated = (refl, ahead_of_own_position (trace_in k) x.number (position_of_view me.0) x (seated_thread_is_ahead k me.0 x seated));
   slots = refl;
   same = refl;
@@ -280,34 +282,34 @@ stopped_thread_has_waited k me me' x seated is stopped met = subst (λ (z : M). 
 
 -- ---- what the calls of a step promise
 
-pub stepped_by_private_print_or_end_step : (k : Plan) (f : FittedTrace) (code : List ℕ) (me : M) (x y : thread.ThreadState) (q : Ask) → IsFor k f → code ≡ f.guest.code
+pub stepped_by_own_step : (k : Plan) (f : FittedTrace) (code : List ℕ) (me : M) (x y : thread.ThreadState) (q : Ask) → IsFor k f → code ≡ f.guest.code
     → IsSeated k me.0 x → IsAsking f x q → (q ≡ Private) ⊎ ((q ≡ Print) ⊎ ((e : end.End) × (q ≡ End e))) → y ≡ after_reply code x Go
     → HasStepped k me me x y
-stepped_by_private_print_or_end_step k f code me x y q for same seated asking own is = elim own [
+stepped_by_own_step k f code me x y q for same seated asking own is = elim own [
   | inl a ↦ step Private a tt tt tt
   | inr rest ↦ elim rest [ inl a ↦ step Print a tt tt tt | inr a ↦ step (End a.0) a.1 tt tt tt ]
 ]
   where
     step : (p : Ask) → q ≡ p → TouchesNoObject p (event_of (trace_in k) x.number x) → HasNoValue p → IsNotDone p → HasStepped k me me x y
     step p a alone go real =
-        let ask : IsAsking (trace_in k) x p = subst (IsAsking (trace_in k) x) a (asking_in_trace_is_asking_in_plan k f x q for asking) in
-        stepped_by_alone_step k f code me x y p Go for same seated alone real (seated_thread_takes_step_with_go_if_no_value k me.0 x p seated ask go real) is
+        let ask : IsAsking (trace_in k) x p = subst (IsAsking (trace_in k) x) a (asking_in_trace_is k f x q for asking) in
+        stepped_by_alone_step k f code me x y p Go for same seated alone real (seated_takes_go k me.0 x p seated ask go real) is
 
-pub stepped_by_environment_call : (k : Plan) (f : FittedTrace) (code : List ℕ) (me : M) (x y : thread.ThreadState) (kind j : EnvKind) (n : ℕ) → IsFor k f
+pub stepped_by_call : (k : Plan) (f : FittedTrace) (code : List ℕ) (me : M) (x y : thread.ThreadState) (kind j : EnvKind) (n : ℕ) → IsFor k f
     → code ≡ f.guest.code → IsSeated k me.0 x → IsAsking f x (Env kind)
     → slice_get (recorded_thread f.recorded x.number).events x.events ≡ Some (Answered j n) → y ≡ after_reply code x (Value n)
     → HasStepped k me me x y
-stepped_by_environment_call k f code me x y kind j n for same seated asking event is =
+stepped_by_call k f code me x y kind j n for same seated asking event is =
     stepped_by_alone_step k f code me x y (Env kind) (Value n) for same seated tt tt
-    (seated_thread_takes_call_with_logged_answer k me.0 x kind j n seated (asking_in_trace_is_asking_in_plan k f x (Env kind) for asking)
+    (seated_takes_call k me.0 x kind j n seated (asking_in_trace_is k f x (Env kind) for asking)
     (subst (λ z. slice_get (recorded_thread z.recorded x.number).events x.events ≡ Some (Answered j n)) (sym for) event)) is
 
-pub stepped_by_object_step_without_value : (k : Plan) (f : FittedTrace) (code : List ℕ) (me me' : M) (x y : thread.ThreadState) (q : Ask) → IsFor k f
+pub stepped_without_value : (k : Plan) (f : FittedTrace) (code : List ℕ) (me me' : M) (x y : thread.ThreadState) (q : Ask) → IsFor k f
     → code ≡ f.guest.code → IsSeated k me.0 x → IsAsking f x q → HasNoValue q → IsNotDone q
     → y ≡ after_reply code x Go → (m : Met) → Rises (met_of me.0) m
     → ◌≡◌ {A = M} me' (progress k x.number (suc x.steps) false m ∷ [], me.1) → HasStepped k me me' x y
-stepped_by_object_step_without_value k f code me me' x y q for same seated asking go real is m rises moved =
-    stepped_by_object_step k f code me me' x y q Go for same seated real (seated_thread_takes_step_with_go_if_no_value k me.0 x q seated (asking_in_trace_is_asking_in_plan k f x q for asking) go real) is
+stepped_without_value k f code me me' x y q for same seated asking go real is m rises moved =
+    stepped_by_object_step k f code me me' x y q Go for same seated real (seated_takes_go k me.0 x q seated (asking_in_trace_is k f x q for asking) go real) is
     m rises moved
 
 pub stepped_by_get : (k : Plan) (f : FittedTrace) (code : List ℕ) (me me' : M) (x y : thread.ThreadState) (o i n : ℕ) → IsFor k f
@@ -316,24 +318,24 @@ pub stepped_by_get : (k : Plan) (f : FittedTrace) (code : List ℕ) (me me' : M)
     → HasStepped k me me' x y
 stepped_by_get k f code me me' x y o i n for same seated asking answers is moved =
     stepped_by_object_step k f code me me' x y (Get o i) (Value n) for same seated tt
-    (seated_thread_takes_get_with_answer k me.0 x o i n seated (asking_in_trace_is_asking_in_plan k f x (Get o i) for asking) answers) is (met_of me.0) (rises_is_reflexive (met_of me.0)) moved
+    (seated_takes_get k me.0 x o i n seated (asking_in_trace_is k f x (Get o i) for asking) answers) is (met_of me.0) (rises_is_reflexive (met_of me.0)) moved
 
-pub asked_entry_is_entering_in_plan : (k : Plan) (f : FittedTrace) (x : thread.ThreadState) (q : Ask) (o : ℕ) (a : Access) (e : Event) → IsFor k f → IsAsking f x q
-    → slice_get (recorded_thread f.recorded x.number).events x.events ≡ Some e → Suits q e → event_ask e ≡ Enter o a
+pub asked_entry_is_entering : (k : Plan) (f : FittedTrace) (x : thread.ThreadState) (q : Ask) (o : ℕ) (a : Access) (e : Event) → IsFor k f → IsAsking f x q
+    → slice_get (recorded_thread f.recorded x.number).events x.events ≡ Some e → SuitsEvent q e → event_ask e ≡ Enter o a
     → IsEntering (trace_in k) x o a e
-asked_entry_is_entering_in_plan k f x q o a e for asking event suits enters =
+asked_entry_is_entering k f x q o a e for asking event suits enters =
     subst (λ z. IsEntering z x o a e) (sym for)
     (record { asked = q; asking = asking; event = event; suits = suits; enters = enters })
 
 -- ---- tries
 
 -- the try that the trace says is answered so
-seated_thread_takes_try_with_logged_result : (k : Plan) (f : FittedTrace) (v : View) (x : thread.ThreadState) (o : ℕ) (e : Event) → IsFor k f → IsSeated k v x
+seated_takes_try : (k : Plan) (f : FittedTrace) (v : View) (x : thread.ThreadState) (o : ℕ) (e : Event) → IsFor k f → IsSeated k v x
     → IsAsking f x (Try o) → slice_get (recorded_thread f.recorded x.number).events x.events ≡ Some e
     → TakesStep (trace_in k) x.number x (Try o) (Value (try_result e))
-seated_thread_takes_try_with_logged_result k f v x o e for seated asking event =
-    let ask : IsAsking (trace_in k) x (Try o) = asking_in_trace_is_asking_in_plan k f x (Try o) for asking in
-    takes_step_of_try_with_logged_result (trace_in k) x.number (position_of_view v) x o e (seated_thread_is_ahead k v x seated) ask.asks ask.has
+seated_takes_try k f v x o e for seated asking event =
+    let ask : IsAsking (trace_in k) x (Try o) = asking_in_trace_is k f x (Try o) for asking in
+    takes_try_with_result (trace_in k) x.number (position_of_view v) x o e (seated_thread_is_ahead k v x seated) ask.asks ask.has
     (subst (λ z. slice_get (recorded_thread z.recorded x.number).events x.events ≡ Some e) (sym for) event)
 
 -- a try that got in
@@ -344,17 +346,17 @@ pub stepped_by_entering_try : (k : Plan) (f : FittedTrace) (code : List ℕ) (me
     → ◌≡◌ {A = M} me' (progress k x.number (suc x.steps) false m ∷ [], me.1) → HasStepped k me me' x y
 stepped_by_entering_try k f code me me' x y o e for same seated asking event one is m rises moved =
     stepped_by_object_step k f code me me' x y (Try o) (Value 1) for same seated tt
-    (subst (λ n. TakesStep (trace_in k) x.number x (Try o) (Value n)) one (seated_thread_takes_try_with_logged_result k f me.0 x o e for seated asking event)) is m rises moved
+    (subst (λ n. TakesStep (trace_in k) x.number x (Try o) (Value n)) one (seated_takes_try k f me.0 x o e for seated asking event)) is m rises moved
 
 -- what suits a try and isn't refused got in
-pub try_not_refused_has_result_one_and_enters_to_write : (o : ℕ) (e : Event) → Suits (Try o) e → ((p : ℕ) → e ≢ Refused p) → (try_result e ≡ 1) × (event_ask e ≡ Enter o Writing)
-try_not_refused_has_result_one_and_enters_to_write o (Answered j v) (inl is) other = absurd (cc is)
-try_not_refused_has_result_one_and_enters_to_write o (Answered j v) (inr is) other = absurd (cc is)
-try_not_refused_has_result_one_and_enters_to_write o (Read p v) (inl is) other = absurd (cc is)
-try_not_refused_has_result_one_and_enters_to_write o (Read p v) (inr is) other = absurd (cc is)
-try_not_refused_has_result_one_and_enters_to_write o (Write p v l) (inl is) other = absurd (cc is)
-try_not_refused_has_result_one_and_enters_to_write o (Write p v l) (inr is) other = let same : ◌≡◌ {A = ℕ} p o = cc is in (refl, ap (λ z. Enter z Writing) same)
-try_not_refused_has_result_one_and_enters_to_write o (Refused p) suits other = absurd (other p refl)
+pub entering_try_parts : (o : ℕ) (e : Event) → SuitsEvent (Try o) e → ((p : ℕ) → e ≢ Refused p) → (try_result e ≡ 1) × (event_ask e ≡ Enter o Writing)
+entering_try_parts o (Answered j v) (inl is) other = absurd (cc is)
+entering_try_parts o (Answered j v) (inr is) other = absurd (cc is)
+entering_try_parts o (Read p v) (inl is) other = absurd (cc is)
+entering_try_parts o (Read p v) (inr is) other = absurd (cc is)
+entering_try_parts o (Write p v l) (inl is) other = absurd (cc is)
+entering_try_parts o (Write p v l) (inr is) other = let same : ◌≡◌ {A = ℕ} p o = cc is in (refl, ap (λ z. Enter z Writing) same)
+entering_try_parts o (Refused p) suits other = absurd (other p refl)
 
 -- a refused try touches no object
 pub stepped_by_refused_try : (k : Plan) (f : FittedTrace) (code : List ℕ) (me : M) (x y : thread.ThreadState) (o p : ℕ) → IsFor k f
@@ -364,16 +366,16 @@ pub stepped_by_refused_try : (k : Plan) (f : FittedTrace) (code : List ℕ) (me 
 stepped_by_refused_try k f code me x y o p for same seated asking event is =
     stepped_by_alone_step k f code me x y (Try o) (Value 0) for same seated
     (subst IsRefusedTry (sym (subst (λ z. slice_get (recorded_thread z.recorded x.number).events x.events ≡ Some (Refused p)) (sym for) event))
-    tt) tt (seated_thread_takes_try_with_logged_result k f me.0 x o (Refused p) for seated asking event) is
+    tt) tt (seated_takes_try k f me.0 x o (Refused p) for seated asking event) is
 
 -- a thread of the guest
-pub seated_thread_number_is_below_thread_count : (k : Plan) (f : FittedTrace) (v : View) (x : thread.ThreadState) → IsFor k f → IsSeated k v x
+pub seated_below_threads : (k : Plan) (f : FittedTrace) (v : View) (x : thread.ThreadState) → IsFor k f → IsSeated k v x
     → x.number < length f.guest.entries
-seated_thread_number_is_below_thread_count k f v x for seated = subst (λ z. x.number < length z.guest.entries) for (seated_thread_is_ahead k v x seated).there
+seated_below_threads k f v x for seated = subst (λ z. x.number < length z.guest.entries) for (seated_thread_is_ahead k v x seated).there
 
 -- another kind of event
-pub call_event_is_not_other_than_answer : (q : Ask) (e : Event) → Suits q e → (j : EnvKind) → q ≡ Env j → ((i : EnvKind) (v : ℕ) → e ≡ Answered i v → ⊥) → ⊥
-call_event_is_not_other_than_answer q (Answered i v) suits j is none = none i v refl
-call_event_is_not_other_than_answer q (Read o v) suits j is none = let z = ask_of_suiting_call_event j (Read o v) (subst (λ p. Suits p (Read o v)) is suits) in cc z
-call_event_is_not_other_than_answer q (Write o v l) suits j is none = let z = ask_of_suiting_call_event j (Write o v l) (subst (λ p. Suits p (Write o v l)) is suits) in cc z
-call_event_is_not_other_than_answer q (Refused o) suits j is none = let z = ask_of_suiting_call_event j (Refused o) (subst (λ p. Suits p (Refused o)) is suits) in cc z
+pub call_event_is_answer : (q : Ask) (e : Event) → SuitsEvent q e → (j : EnvKind) → q ≡ Env j → ((i : EnvKind) (v : ℕ) → e ≡ Answered i v → ⊥) → ⊥
+call_event_is_answer q (Answered i v) suits j is none = none i v refl
+call_event_is_answer q (Read o v) suits j is none = let z = ask_of_call_event j (Read o v) (subst (λ p. SuitsEvent p (Read o v)) is suits) in cc z
+call_event_is_answer q (Write o v l) suits j is none = let z = ask_of_call_event j (Write o v l) (subst (λ p. SuitsEvent p (Write o v l)) is suits) in cc z
+call_event_is_answer q (Refused o) suits j is none = let z = ask_of_call_event j (Refused o) (subst (λ p. SuitsEvent p (Refused o)) is suits) in cc z

@@ -5,7 +5,7 @@ use Rattle.std.proofs.lemmas.List.{set-get_or}
 use Rattle.ir_image.specs.Guest.{most_object_words}
 use Rattle.ir_object.specs.Cell.{Cell}
 use Rattle.ir_object.specs.Empty.{empty}
-use Rattle.ir_object.specs.Word.{word_of}
+use Rattle.ir_object.specs.Word.{word_of_object}
 use Rattle.ir_object.specs.Layout.{word_place, content_place, table_length}
 use Rattle.ir_weave.specs.Table.{object_in, IsTable}
 
@@ -13,17 +13,17 @@ pub word_place_below_length : (cells : List Cell) (words : List ℕ) (o : ℕ) �
 word_place_below_length cells words o t l = let e = t.size in omega (arith, e, l)
 
 -- the word of an object
-pub is_table_after_object_word_set : (cells : List Cell) (words : List ℕ) (o w : ℕ) (c : Cell) → IsTable cells words → o < length cells → w ≡ word_of c.fields
+pub laid_after_object_word : (cells : List Cell) (words : List ℕ) (o w : ℕ) (c : Cell) → IsTable cells words → o < length cells → w ≡ word_of_object c.fields
     → c.words ≡ (object_in cells o).words → IsTable (set cells o c) (set words (word_place o) w)
-is_table_after_object_word_set cells words o w c t l is same = record {
+laid_after_object_word cells words o w c t l is same = record {
   size = length-set words (word_place o) w ∙ t.size ∙ ap table_length (sym (length-set cells o c));
   heads = λ p fits. elim (cases_eq p o) [
-    | inl here ↦ subst (λ z. get_or (set words (word_place o) w) (word_place z) 0 ≡ word_of (object_in (set cells o c) z).fields) (sym here)
+    | inl here ↦ subst (λ z. get_or (set words (word_place o) w) (word_place z) 0 ≡ word_of_object (object_in (set cells o c) z).fields) (sym here)
         (get_or-set_same words (word_place o) w 0 (word_place_below_length cells words o t l) ∙ is
-        ∙ sym (ap (λ z. word_of z.fields) (get_or-set_same cells o c empty l)))
+        ∙ sym (ap (λ z. word_of_object z.fields) (get_or-set_same cells o c empty l)))
     | inr ne ↦ get_or-set_other words (word_place o) (word_place p) w 0 (λ e. ne (omega (arith, e)))
         ∙ t.heads p (let e = length-set cells o c in omega (arith, fits, e))
-        ∙ sym (ap (λ z. word_of z.fields) (get_or-set_other cells o p c empty ne))
+        ∙ sym (ap (λ z. word_of_object z.fields) (get_or-set_other cells o p c empty ne))
   ];
   places = λ p i fits few. get_or-set_other words (word_place o) (content_place p i) w 0 (λ e. omega (arith, e, few))
       ∙ t.places p i (let e = length-set cells o c in omega (arith, fits, e)) few ∙ elim (cases_eq p o) [
@@ -40,17 +40,17 @@ is_table_after_object_word_set cells words o w c t l is same = record {
 }
 
 -- a word of its contents
-pub is_table_after_content_word_set : (cells : List Cell) (words : List ℕ) (o i v : ℕ) (c : Cell) → IsTable cells words → o < length cells → i < most_object_words
+pub laid_after_content_word : (cells : List Cell) (words : List ℕ) (o i v : ℕ) (c : Cell) → IsTable cells words → o < length cells → i < most_object_words
     → v < 2 ^ 32 → length (object_in cells o).words ≡ most_object_words → c.fields ≡ (object_in cells o).fields
     → c.words ≡ set (object_in cells o).words i v
     → IsTable (set cells o c) (set words (content_place o i) v)
-is_table_after_content_word_set cells words o i v c t l few value sizes same is = record {
+laid_after_content_word cells words o i v c t l few value sizes same is = record {
   size = length-set words (content_place o i) v ∙ t.size ∙ ap table_length (sym (length-set cells o c));
   heads = λ p fits. get_or-set_other words (content_place o i) (word_place p) v 0 (λ e. omega (arith, e, few))
       ∙ t.heads p (let e = length-set cells o c in omega (arith, fits, e)) ∙ elim (cases_eq p o) [
-        | inl here ↦ subst (λ z. word_of (object_in cells z).fields ≡ word_of (object_in (set cells o c) z).fields) (sym here)
-            (ap word_of (sym same) ∙ sym (ap (λ z. word_of z.fields) (get_or-set_same cells o c empty l)))
-        | inr ne ↦ sym (ap (λ z. word_of z.fields) (get_or-set_other cells o p c empty ne))
+        | inl here ↦ subst (λ z. word_of_object (object_in cells z).fields ≡ word_of_object (object_in (set cells o c) z).fields) (sym here)
+            (ap word_of_object (sym same) ∙ sym (ap (λ z. word_of_object z.fields) (get_or-set_same cells o c empty l)))
+        | inr ne ↦ sym (ap (λ z. word_of_object z.fields) (get_or-set_other cells o p c empty ne))
       ];
   places = λ p j fits few'. elim (cases_eq p o) [
     | inl here ↦ subst (λ z. get_or (set words (content_place o i) v) (content_place z j) 0 ≡ get_or (object_in (set cells o c) z).words j
@@ -84,5 +84,5 @@ is_table_after_content_word_set cells words o i v c t l few value sizes same is 
     ]
 
 -- a word that is written as it was
-pub is_table_after_word_set_to_itself : (cells : List Cell) (words : List ℕ) (i : ℕ) → IsTable cells words → IsTable cells (set words i (get_or words i 0))
-is_table_after_word_set_to_itself cells words i t = subst (IsTable cells) (sym (set-get_or words i 0)) t
+pub laid_after_same_word : (cells : List Cell) (words : List ℕ) (i : ℕ) → IsTable cells words → IsTable cells (set words i (get_or words i 0))
+laid_after_same_word cells words i t = subst (IsTable cells) (sym (set-get_or words i 0)) t

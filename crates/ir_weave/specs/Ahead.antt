@@ -7,7 +7,7 @@ use Rattle.ir_thread.specs.declared.ask.Ask.{Ask}
 use Rattle.ir_thread.specs.declared.ask.Ask.TheVariants as ask
 use Rattle.ir_runs.specs.declared.access.Access.{Access}
 use Rattle.ir_runs.specs.Run.{Step, count}
-use Rattle.ir_log.specs.Asked.{ask_of as event_ask, Suits}
+use Rattle.ir_log.specs.Asked.{ask_of as event_ask, SuitsEvent}
 use Rattle.ir_log.specs.declared.event.Event.{Event}
 use Rattle.ir_log.specs.declared.event.Event.TheVariants as event
 use Rattle.ir_trace.specs.Recorded.{recorded_thread}
@@ -82,5 +82,5 @@ pub record IsEntering (f : FittedTrace) (x : thread.ThreadState) (o : ℕ) (a : 
   pub asked : Ask
   pub asking : IsAsking f x asked
   pub event : slice_get (recorded_thread f.recorded x.number).events x.events ≡ Some e
-  pub suits : Suits asked e
+  pub suits : SuitsEvent asked e
   pub enters : event_ask e ≡ ask.Enter o a

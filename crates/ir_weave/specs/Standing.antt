@@ -22,7 +22,7 @@ abbrev pub positions : Flat → Cut
 positions s t = (thread_of s t).steps
 
 -- the cut p of the run is consistent, each thread t is as it was after p t of its steps, and each object as it is at the cut
-pub record IsAt (f : FittedTrace) (p : Cut) (s : Flat) (run : List Step) : Type 0 where
+pub record StandsAtPlace (f : FittedTrace) (p : Cut) (s : Flat) (run : List Step) : Type 0 where
   pub cut : IsCut (machine_of f) (start_of f) run p
   pub consistent : Consistent (machine_of f) (start_of f) run p
   pub threads : (t : ℕ) → thread_of s t ≡ th (machine_of f) (start_of f) run t (p t)
@@ -34,16 +34,16 @@ pub record IsStateAt (f : FittedTrace) (p : Cut) (s : Flat) : Type 0 where
   pub threads : length s.threads ≡ length f.guest.entries
   pub objects : length s.objects ≡ object_count f.guest
   pub steps : (t : ℕ) → positions s t ≡ p t
-  pub each : EachRun f (IsAt f p s)
+  pub each : EachRun f (StandsAtPlace f p s)
 
 -- the guest at the cut p of each complete run with the trace, each object's word counting who is inside
-pub record StandsAt (f : FittedTrace) (p : Cut) (s : Standing) : Type 0 where
+pub record StandsAtCut (f : FittedTrace) (p : Cut) (s : Standing) : Type 0 where
   pub flat : IsFlat (flat_in f s)
   pub at : IsStateAt f p (flat_in f s)
 
 -- the guest at a consistent cut between the old one and the target
 pub record IsBetween (f : FittedTrace) (target : List ℕ) (old new : Standing) : Type 0 where
-  pub stands : StandsAt f (positions (flat_in f new)) new
+  pub stands : StandsAtCut f (positions (flat_in f new)) new
   pub above : (t : ℕ) → positions (flat_in f old) t ≤ positions (flat_in f new) t
   pub below : (t : ℕ) → positions (flat_in f new) t ≤ cut_of target t
 

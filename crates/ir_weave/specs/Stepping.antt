@@ -17,9 +17,9 @@ LogsNext r s t v = Can (machine s) (tables s) (t, v)
     × (logged (label (machine s) (tables s) (t, v)) (unlogged (label (machine s) (tables s) (t, v)) (log_ahead r s t)) ≡ log_ahead r s t)
 
 -- such a result, or there is none
-abbrev pub IsNext : Recorded → Flat → ℕ → Option ℕ → Type 0
-IsNext r s t (Some v) = LogsNext r s t v
-IsNext r s t None = (v : ℕ) → LogsNext r s t v → ⊥
+abbrev pub IsNextOfSeat : Recorded → Flat → ℕ → Option ℕ → Type 0
+IsNextOfSeat r s t (Some v) = LogsNext r s t v
+IsNextOfSeat r s t None = (v : ℕ) → LogsNext r s t v → ⊥
 
 -- there is a run with the trace, and the target is one of its consistent cuts
 pub record IsTarget (f : FittedTrace) (target : List ℕ) : Type 0 where
@@ -38,12 +38,12 @@ pub record HasGone (old new : Flat) (t n : ℕ) : Type 0 where
   pub others : (u : ℕ) → u ≢ t → positions new u ≡ positions old u
 
 -- no thread has
-abbrev pub IsSame : Flat → Flat → Type 0
-IsSame old new = (u : ℕ) → positions new u ≡ positions old u
+abbrev pub IsSameSeat : Flat → Flat → Type 0
+IsSameSeat old new = (u : ℕ) → positions new u ≡ positions old u
 
 -- thread t is at its target, or its next step isn't admitted
-abbrev pub Rests : FittedTrace → List ℕ → Flat → ℕ → Type 0
-Rests f target s t = (cut_of target t ≤ positions s t) ⊎ EachRun f (λ run. Admitted (machine_of f) (start_of f) run (positions s) t → ⊥)
+abbrev pub RestsAtTarget : FittedTrace → List ℕ → Flat → ℕ → Type 0
+RestsAtTarget f target s t = (cut_of target t ≤ positions s t) ⊎ EachRun f (λ run. Admitted (machine_of f) (start_of f) run (positions s) t → ⊥)
 
 -- how many steps are left to all threads
 abbrev pub steps_left : List ℕ → Flat → ℕ

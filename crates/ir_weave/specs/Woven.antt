@@ -14,7 +14,7 @@ use Rattle.ir_thread.specs.declared.ask.Ask.TheVariants as ask
 use Rattle.ir_thread.specs.declared.ask.Reply.TheVariants.{Value}
 use Rattle.ir_image.specs.Guest.{most_object_words}
 use Rattle.ir_object.specs.Cell.{Cell}
-use Rattle.ir_object.specs.Word.{version_unit, fields_of, word_of}
+use Rattle.ir_object.specs.Word.{version_unit, fields_of, word_of_object}
 use Rattle.ir_flat.specs.Flat.{Flat, IsFlat, idle}
 use Rattle.ir_log.specs.declared.event.Event.{Event}
 use Rattle.ir_trace.specs.Recorded.{recorded_thread}
@@ -50,8 +50,8 @@ abbrev pub opened_at : Plan → Cut
 opened_at k = positions (opened_in k)
 
 -- the table was opened at a cut of each run
-abbrev pub IsOpened : Plan → Type 0
-IsOpened k = EachRun (trace_in k) (λ run. IsCut (machine_of (trace_in k)) (start_of (trace_in k)) run (opened_at k))
+abbrev pub IsTableOpened : Plan → Type 0
+IsTableOpened k = EachRun (trace_in k) (λ run. IsCut (machine_of (trace_in k)) (start_of (trace_in k)) run (opened_at k))
 
 -- what a seat has met: the threads and objects as it last looked or, if it never did, as the table was opened; how many times it has looked
 pub record Met : Type 0 where
@@ -62,8 +62,8 @@ abbrev pub progress : Plan → ℕ → ℕ → Bool → Met → Progress
 progress k t i g m = record { plan = k; thread = t; position = i; granted = g; met = record k.opened { value = m.state }; looks = m.looks }
 
 -- what a seat has met that never looked
-abbrev pub first_met : Plan → Met
-first_met k = record { state = k.opened.value; looks = 0 }
+abbrev pub first_met_cut : Plan → Met
+first_met_cut k = record { state = k.opened.value; looks = 0 }
 
 abbrev pub met_in : Progress → Met
 met_in q = record { state = q.met.value; looks = q.looks }
@@ -134,8 +134,8 @@ abbrev pub IsEventAt : FittedTrace → ℕ → ℕ → Event → Type 0
 IsEventAt f t k e = EachRun f (λ run. slice_get (recorded_thread f.recorded t).events (thread_at f run t k).events ≡ Some e)
 
 -- an object with this word can be entered as the event says
-abbrev pub Opens : ℕ → Event → Type 0
-Opens n e = IsOpen (record { fields = fields_of n; words = [] }) e
+abbrev pub OpensTable : ℕ → Event → Type 0
+OpensTable n e = IsOpen (record { fields = fields_of n; words = [] }) e
 
 -- where the value that was found is that of the word that step k of thread t asks for, it is what the thread is answered
 abbrev pub Answers : FittedTrace → ℕ → ℕ → ℕ → Type 0
@@ -143,8 +143,8 @@ Answers f t k n = EachRun f (λ run. (o i : ℕ) → ask_at f run t k ≡ ask.Ge
     × (thread_at f run t (suc k) ≡ after_ask f.guest.code (thread_at f run t k) (ask.Get o i) (Value n)))
 
 -- where step k of thread t is a writer's leave of the object with this word, this is the version that it leaves
-abbrev pub Leaves : FittedTrace → ℕ → ℕ → ℕ → ℕ → Type 0
-Leaves f t k word v = EachRun f (λ run. (o : ℕ) → word ≡ word_place o → ask_at f run t k ≡ ask.Leave o Writing
+abbrev pub LeavesTable : FittedTrace → ℕ → ℕ → ℕ → ℕ → Type 0
+LeavesTable f t k word v = EachRun f (λ run. (o : ℕ) → word ≡ word_place o → ask_at f run t k ≡ ask.Leave o Writing
     → Emits (machine_of f) (start_of f) run t k (LeftAt o Writing v))
 
 -- what a load before an entry emits: the position is that of the entry, and the thread is granted it if the word is open to its event.
@@ -155,8 +155,8 @@ looked s (q ∷ r ∷ qs, c) n w = ⊥
 looked s (q ∷ [], c) n w = (i : ℕ) × (e : Event) × IsNextObject (trace_in q.plan) q.thread q.position i
     × IsEventAt (trace_in q.plan) q.thread i e
     × Rises (met_in q) (met_of w.0)
-    × (Opens n e → w ≡ (progress q.plan q.thread i true (met_of w.0) ∷ [], c))
-    × ((Opens n e → ⊥) → (w ≡ (progress q.plan q.thread i false (met_of w.0) ∷ [], c)) × (s : WasStopped q.plan q.thread i)
+    × (OpensTable n e → w ≡ (progress q.plan q.thread i true (met_of w.0) ∷ [], c))
+    × ((OpensTable n e → ⊥) → (w ≡ (progress q.plan q.thread i false (met_of w.0) ∷ [], c)) × (s : WasStopped q.plan q.thread i)
     × HasMet (met_in q) (met_of w.0) s.cut)
 
 -- what a step on an object emits: it is the thread's next such, and what was found where it is a load
@@ -171,12 +171,12 @@ abbrev pub read_version : Step (Unit {0}) → M → ℕ → M → Type 0
 read_version s ([], c) n w = ⊥
 read_version s (q ∷ r ∷ qs, c) n w = ⊥
 read_version s (q ∷ [], c) n w = (i : ℕ) × IsNextObject (trace_in q.plan) q.thread q.position i × (w ≡ (q ∷ [], c)) × (n < 2 ^ 63)
-    × Leaves (trace_in q.plan) q.thread i s.word (n / version_unit)
+    × LeavesTable (trace_in q.plan) q.thread i s.word (n / version_unit)
 
 -- the tracks of n threads from t on, at these positions
 abbrev pub tracks_from : Plan → ℕ → ℕ → View
 tracks_from k t zero = []
-tracks_from k t (suc n) = progress k t (opened_at k t) false (first_met k) ∷ tracks_from k (suc t) n
+tracks_from k t (suc n) = progress k t (opened_at k t) false (first_met_cut k) ∷ tracks_from k (suc t) n
 
 -- the thread x and a seat of its own
 abbrev pub IsSeated : Plan → View → thread.ThreadState → Type 0
@@ -225,7 +225,7 @@ pub record HasRunOn (k : Plan) (v : View) (x y : thread.ThreadState) (n : ℕ) :
 -- seats of the threads from t on, one for each, where they stood when the table was opened
 abbrev pub AreSeats : TableId → Plan → ℕ → List (Seat (Unit {0}) View) → Type 0
 AreSeats id k t [] = Unit {0}
-AreSeats id k t (x ∷ xs) = ((x.table_id ≡ id) × (x.me ≡ (progress k t (opened_at k t) false (first_met k) ∷ [], []))) × AreSeats id k (suc t) xs
+AreSeats id k t (x ∷ xs) = ((x.table_id ≡ id) × (x.me ≡ (progress k t (opened_at k t) false (first_met_cut k) ∷ [], []))) × AreSeats id k (suc t) xs
 
 -- at what cut the threads of a view are
 abbrev pub AreAt : Cut → View → Type 0
@@ -234,7 +234,7 @@ AreAt p (q ∷ qs) = (p q.thread ≡ q.position) × AreAt p qs
 
 -- the objects of the guest at a consistent cut of each run, at or above the one at which the table was opened, in which the threads of the
 -- view are where it says
-pub record IsClosed (k : Plan) (v : View) (cells : List Cell) : Type 0 where
+pub record IsClosedTable (k : Plan) (v : View) (cells : List Cell) : Type 0 where
   pub state : Flat
   pub flat : IsFlat state
   pub at : IsStateAt (trace_in k) (positions state) state
@@ -247,8 +247,8 @@ pub record IsEnd (k : Plan) (v : View) (ws : List ℕ) : Type 0 where
   pub cells : List Cell
   pub table : IsTable cells ws
   pub sizes : (o : ℕ) → o < length cells → length (object_in cells o).words ≡ most_object_words
-  pub fits : (o : ℕ) → o < length cells → fields_of (word_of (object_in cells o).fields) ≡ (object_in cells o).fields
-  pub closed : IsClosed k v cells
+  pub fits : (o : ℕ) → o < length cells → fields_of (word_of_object (object_in cells o).fields) ≡ (object_in cells o).fields
+  pub closed : IsClosedTable k v cells
 
 -- the first n of these are the words from a content_place on
 pub record AreRead (ws : List ℕ) (from : ℕ) (xs : List ℕ) (n : ℕ) : Type 0 where

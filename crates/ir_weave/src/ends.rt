@@ -6,10 +6,10 @@ ghost use Rattle.ir_weave.specs.declared.plan.Plan.{Plan};
 ghost use Rattle.ir_weave.specs.declared.plan.Progress.{Progress};
 ghost use Rattle.ir_image.specs.Guest.{most_objects, object_count, most_object_words};
 ghost use Rattle.ir_object.specs.Cell.{Cell};
-ghost use Rattle.ir_weave.specs.Standing.{StandsAt, flat_in, positions};
+ghost use Rattle.ir_weave.specs.Standing.{StandsAtCut, flat_in, positions};
 ghost use Rattle.ir_object.specs.Layout.{content_place, table_length};
 ghost use Rattle.ir_weave.specs.Table.{IsLaid, IsTable, laid, object_in};
-ghost use Rattle.ir_weave.specs.Woven.{trace_in, IsFor, AreSeats, IsSeated, IsClosed, IsEnd, AreRead, tracks_from};
+ghost use Rattle.ir_weave.specs.Woven.{trace_in, IsFor, AreSeats, IsSeated, IsClosedTable, IsEnd, AreRead, tracks_from};
 
 use crate::plan::Plan;
 use crate::plays::{Both, OffFirst};
@@ -67,7 +67,7 @@ impl Weave {
         fitted: &Fitted,
         state: &State,
     ) -> Result<(Weave, Vec<WeaveSeat>), AllocError>
-        requires { StandsAt fitted.now (positions (flat_in fitted.now state.now)) state.now }
+        requires { StandsAtCut fitted.now (positions (flat_in fitted.now state.now)) state.now }
         ensures table { IfOk result (λ r. IsFor r.0.table.shared.key fitted.now) }
         ensures opened { IfOk result (λ r. r.0.table.shared.key.opened.value ≡ state.now) }
         ensures seats { IfOk result (λ r. AreSeats r.0.table.shared.table_id r.0.table.shared.key 0 r.1.items × (length r.1.items ≡ length fitted.now.guest.entries)) }
@@ -119,7 +119,7 @@ impl Weave {
     pub fn close(self, seat: WeaveSeat, objects: &mut [Object])
         requires seat { seat.table_id ≡ self.table.shared.table_id }
         requires room { length objects.old ≡ object_count (trace_in self.table.shared.key).guest }
-        ensures { IsClosed self.table.shared.key seat.me.0 objects.new }
+        ensures { IsClosedTable self.table.shared.key seat.me.0 objects.new }
     {
         let Weave { table } = self;
         let closed = table.close_with(seat);

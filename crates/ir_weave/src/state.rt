@@ -26,16 +26,16 @@ impl Model for State {
 impl State {
     ghost use Rattle.std.specs.Prelude.{◌≤◌, ℕ, IfOk};
     ghost use Rattle.ir_fit.specs.Passed.{IsPassed};
-    ghost use Rattle.ir_weave.specs.Standing.{StandsAt, flat_in, positions};
+    ghost use Rattle.ir_weave.specs.Standing.{StandsAtCut, flat_in, positions};
 
     /// The guest before its first step.
     ///
     /// # Errors
     /// Out of memory.
     pub fn start(alloc: Global, fitted: &Fitted) -> Result<State, AllocError>
-        ensures start { IfOk result (StandsAt fitted.now (λ t. 0)) }
+        ensures start { IfOk result (StandsAtCut fitted.now (λ t. 0)) }
         // The same by its own positions, which are below all others.
-        ensures own { IfOk result (λ s. StandsAt fitted.now (positions (flat_in fitted.now s)) s) }
+        ensures own { IfOk result (λ s. StandsAtCut fitted.now (positions (flat_in fitted.now s)) s) }
         ensures below { IfOk result (λ s. (p : ℕ → ℕ) (t : ℕ) → positions (flat_in fitted.now s) t ≤ p t) }
     {
         fitted.known();
@@ -48,7 +48,7 @@ impl State {
     /// The state that a run along the trace passed.
     pub fn passed(fitted: &Fitted, passed: PassedState) -> State
         requires { IsPassed fitted.now.guest fitted.now.recorded passed }
-        ensures stands { StandsAt fitted.now (positions (flat_in fitted.now result)) result }
+        ensures stands { StandsAtCut fitted.now (positions (flat_in fitted.now result)) result }
         ensures same { result ≡ record { threads = passed.threads.items; objects = passed.objects.items } }
     {
         fitted.known();

@@ -8,7 +8,7 @@ ghost use Rattle.ir_log.specs.declared.event.Event.{Event};
 ghost use Rattle.ir_fit.specs.Ahead.{IsOpen};
 ghost use Rattle.ir_weave.specs.Ahead.{IsAsking, IsEntering};
 ghost use Rattle.ir_object.specs.Layout.{table_length};
-ghost use Rattle.ir_weave.specs.Woven.{trace_in, progress, met_of, Rises, HasMet, IsOpened, IsSeated, IsGranted, WasStopped, Opens, Answers};
+ghost use Rattle.ir_weave.specs.Woven.{trace_in, progress, met_of, Rises, HasMet, IsTableOpened, IsSeated, IsGranted, WasStopped, OpensTable, Answers};
 ghost use Rattle.ir_runs.specs.Machine.{LeftAt};
 ghost use Rattle.ir_runs.specs.declared.access.Access.TheVariants.{Writing};
 ghost use Rattle.ir_runs.specs.Run.{Emits};
@@ -33,12 +33,12 @@ pub struct Weave {
     pub table: Table<(), LinkedList<Progress>, Plan, Law, Global>,
     ghost words: { table.shared.table_id.words ≡ table_length (object_count (trace_in table.shared.key).guest) },
     ghost slots: { table.shared.table_id.slots ≡ 0 },
-    ghost opened: { IsOpened table.shared.key },
+    ghost opened: { IsTableOpened table.shared.key },
 }
 
 // Whether an object with this word can be entered as the event says.
 fn opens(word: u64, event: Event) -> bool
-    ensures { IsTrue result ↔ Opens word event }
+    ensures { IsTrue result ↔ OpensTable word event }
 {
     let fields = Word { bits: word }.fields();
     match event {
@@ -71,8 +71,15 @@ impl Weave {
         requires thread { IsSeated self.now.table.shared.key seat.old.me.0 thread.now }
         requires entering { IsEntering (trace_in self.now.table.shared.key) thread.now object access event }
         ensures seat { (seat.new.table_id ≡ seat.old.table_id) × (seat.new.id ≡ seat.old.id) }
-        ensures granted { result ≡ true → (seat.new.me ≡ (progress self.now.table.shared.key thread.now.number thread.now.steps true (met_of seat.new.me.0) ∷ [], seat.old.me.1)) × IsGranted self.now.table.shared.key seat.new.me.0 thread.now }
-        ensures stopped { result ≡ false → (seat.new.me ≡ (progress self.now.table.shared.key thread.now.number thread.now.steps false (met_of seat.new.me.0) ∷ [], seat.old.me.1)) × (s : WasStopped self.now.table.shared.key thread.now.number thread.now.steps) × HasMet (met_of seat.old.me.0) (met_of seat.new.me.0) s.cut }
+        ensures granted { result ≡ true
+            → (seat.new.me
+            ≡ (progress self.now.table.shared.key thread.now.number thread.now.steps true (met_of seat.new.me.0) ∷ [], seat.old.me.1))
+            × IsGranted self.now.table.shared.key seat.new.me.0 thread.now }
+        ensures stopped { result ≡ false
+            → (seat.new.me
+            ≡ (progress self.now.table.shared.key thread.now.number thread.now.steps false (met_of seat.new.me.0) ∷ [], seat.old.me.1))
+            × (s : WasStopped self.now.table.shared.key thread.now.number thread.now.steps)
+            × HasMet (met_of seat.old.me.0) (met_of seat.new.me.0) s.cut }
         ensures rises { Rises (met_of seat.old.me.0) (met_of seat.new.me.0) }
     {
         let place = WORD_PLACE + APART * object as usize;
@@ -115,7 +122,11 @@ impl Weave {
         requires entering { IsEntering (trace_in self.now.table.shared.key) thread.now object access event }
         ensures seat { (seat.new.table_id ≡ seat.old.table_id) × (seat.new.id ≡ seat.old.id) }
         ensures entered { result ≡ true → seat.new.me ≡ (progress self.now.table.shared.key thread.now.number (suc thread.now.steps) false (met_of seat.new.me.0) ∷ [], seat.old.me.1) }
-        ensures stopped { result ≡ false → (seat.new.me ≡ (progress self.now.table.shared.key thread.now.number thread.now.steps false (met_of seat.new.me.0) ∷ [], seat.old.me.1)) × (s : WasStopped self.now.table.shared.key thread.now.number thread.now.steps) × HasMet (met_of seat.old.me.0) (met_of seat.new.me.0) s.cut }
+        ensures stopped { result ≡ false
+            → (seat.new.me
+            ≡ (progress self.now.table.shared.key thread.now.number thread.now.steps false (met_of seat.new.me.0) ∷ [], seat.old.me.1))
+            × (s : WasStopped self.now.table.shared.key thread.now.number thread.now.steps)
+            × HasMet (met_of seat.old.me.0) (met_of seat.new.me.0) s.cut }
         ensures rises { Rises (met_of seat.old.me.0) (met_of seat.new.me.0) }
     {
         if !self.look(seat, thread, object, access, event) {
@@ -132,7 +143,9 @@ impl Weave {
         requires asking { IsAsking (trace_in self.now.table.shared.key) thread.now (ask.Leave object Writing) }
         ensures seat { (seat.new.table_id ≡ seat.old.table_id) × (seat.new.id ≡ seat.old.id) × (seat.new.me ≡ seat.old.me) }
         ensures small { result < 2 ^ 31 }
-        ensures version { EachRun (trace_in self.now.table.shared.key) (λ run. Emits (machine_of (trace_in self.now.table.shared.key)) (start_of (trace_in self.now.table.shared.key)) run thread.now.number thread.now.steps (LeftAt object Writing result)) }
+        ensures version { EachRun (trace_in self.now.table.shared.key)
+            (λ run. Emits (machine_of (trace_in self.now.table.shared.key)) (start_of (trace_in self.now.table.shared.key)) run
+            thread.now.number thread.now.steps (LeftAt object Writing result)) }
     {
         let place = WORD_PLACE + APART * object as usize;
         self.table.shared.load::<ReadVersion>(seat, place) / Word::VERSION

@@ -1,3 +1,4 @@
 mod Shown
 mod Listed
 mod Within
+pub mod CallerLemmas

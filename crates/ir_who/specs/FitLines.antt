@@ -8,7 +8,7 @@ use Rattle.ir_past.specs.Answers.{NotAnswered}
 use Rattle.ir_past.specs.declared.place.Place.{Place}
 use Rattle.ir_past.specs.Past.{AreReaders, IsOverwriter}
 use Rattle.ir_past.specs.Naming.{place_text, maker_text}
-use Rattle.ir_events.specs.Events.{entry_of}
+use Rattle.ir_events.specs.Events.{event_entry}
 use Rattle.ir_opened.specs.Answers.{IsFitAnswerOf}
 use Rattle.ir_opened.specs.Opened.{IsFit}
 use Rattle.ir_opened.specs.Paired.{ArePaired}
@@ -34,7 +34,7 @@ pub record IsDated (f : FittedTrace) (x : Version) (d : Dated) : Type 0 where
 
 -- an event with its step
 abbrev pub step_place : FittedTrace → Place → List ℕ
-step_place f p = place_text p ++ step_part (entry_of f p.thread p.event)
+step_place f p = place_text p ++ step_part (event_entry f p.thread p.event)
 
 -- the line of version v
 abbrev pub dated_line : ℕ → Dated → List ℕ

@@ -113,14 +113,14 @@ pub record IsOfNothing (asked : Question) (read : Result Recorded TraceErr) (wha
   pub works : w.failed ≡ false
 
 -- why a question about bytes wasn't answered, and what that leaves
-abbrev pub IsUnanswered : Question → Result Recorded TraceErr → WhoErr → Writer → Type 0
-IsUnanswered asked read (who.Absent what) w = IsOfNothing asked read what w
-IsUnanswered asked read (who.Unwritten e) w = NotAnswered (IsAnswerOf (IsWhoAnswer asked) read) e w
+abbrev pub IsWhoUnanswered : Question → Result Recorded TraceErr → WhoErr → Writer → Type 0
+IsWhoUnanswered asked read (who.Absent what) w = IsOfNothing asked read what w
+IsWhoUnanswered asked read (who.Unwritten e) w = NotAnswered (IsAnswerOf (IsWhoAnswer asked) read) e w
 
 -- the exit status of a question that wasn't answered
-abbrev pub status_of : WhoErr → ExitStatus
-status_of (who.Absent what) = status.BadArguments
-status_of (who.Unwritten e) = status.Failed
+abbrev pub who_status : WhoErr → ExitStatus
+who_status (who.Absent what) = status.BadArguments
+who_status (who.Unwritten e) = status.Failed
 
 -- why it wasn't, in words
 abbrev pub who_fault_words : WhoErr → List ℕ

@@ -11,7 +11,7 @@ ghost use Rattle.ir_opened.specs.Opened.{IsFit};
 ghost use Rattle.ir_opened.specs.Paired.{ArePaired};
 ghost use Rattle.ir_opened.specs.Positions.{IsInside};
 ghost use Rattle.ir_who.specs.FitLines.{IsMadeAt, IsDated, IsFitObjectAnswer, IsFitVersionAnswer, IsFitWhoAnswer, IsFitUnanswered};
-ghost use Rattle.ir_who.specs.Lines.{IsUnsaidVersion, IsUnsaid, status_of, who_fault_words};
+ghost use Rattle.ir_who.specs.Lines.{IsUnsaidVersion, IsUnsaid, who_status, who_fault_words};
 ghost use Rattle.ir_who.specs.declared.version.Version as version;
 ghost use Rattle.ir_who.specs.declared.who_err.WhoErr.{WhoErr};
 
@@ -118,7 +118,10 @@ fn show_fitted<O: Sink>(
     out: &mut O,
 ) -> Result<ExitStatus, WhoErr>
     requires { O.broken out.old ≡ false }
-    ensures ok { IfOk result (λ answered. (i t : List ℕ) → IsFit i t fitted.now → Answered (IsFitAnswerOf (IsFitWhoAnswer asked.now) i t) answered (writer_of (O.written out.old) (O.written out.new) (O.broken out.new))) }
+    ensures ok { IfOk result
+        (λ answered. (i t : List ℕ) → IsFit i t fitted.now
+        → Answered (IsFitAnswerOf (IsFitWhoAnswer asked.now) i t) answered
+        (writer_of (O.written out.old) (O.written out.new) (O.broken out.new))) }
     ensures fails { IfErr result (λ e. (i t : List ℕ) → IsFit i t fitted.now → IsFitUnanswered asked.now i t e (writer_of (O.written out.old) (O.written out.new) (O.broken out.new))) }
 {
     let text = answer(alloc, fitted, asked)?;
@@ -164,7 +167,7 @@ pub fn who_fit_run<O: Sink, E: Sink>(
         → Answered (IsFitAnswerOf (IsFitWhoAnswer asked.now) image.now trace.now) result (writer_of (O.written out.old) (O.written out.new) (O.broken out.new)) × (faults.new ≡ faults.old) }
     // Else why there is none, what that leaves, and that it is reported.
     ensures failed { (result ≡ status.Failed) ⊎ (result ≡ status.BadArguments) → (e : WhoErr)
-        × (result ≡ status_of e)
+        × (result ≡ who_status e)
         × IsFitUnanswered asked.now image.now trace.now e (writer_of (O.written out.old) (O.written out.new) (O.broken out.new))
         × Reports (writer_of (E.written faults.old) (E.written faults.new) (E.broken faults.new)) (fault_text (who_fault_words e)) }
 {

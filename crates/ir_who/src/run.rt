@@ -6,7 +6,7 @@ ghost use Rattle.ir_trace.specs.Recorded.{recorded_at};
 ghost use Rattle.ir_files.specs.Writers.{writer_of, Reports, fault_text};
 ghost use Rattle.ir_files.specs.declared.exit_status.ExitStatus.TheVariants as status;
 ghost use Rattle.ir_past.specs.Answers.{AreCoherent, IsAnswerOf, Answered};
-ghost use Rattle.ir_who.specs.Lines.{IsObjectAnswer, IsVersionAnswer, IsWhoAnswer, IsUnsaidVersion, IsUnsaid, IsUnanswered, status_of, who_fault_words};
+ghost use Rattle.ir_who.specs.Lines.{IsObjectAnswer, IsVersionAnswer, IsWhoAnswer, IsUnsaidVersion, IsUnsaid, IsWhoUnanswered, who_status, who_fault_words};
 ghost use Rattle.ir_who.specs.declared.who_err.WhoErr.{WhoErr};
 
 use crate::question::Question;
@@ -69,7 +69,7 @@ fn show_trace<O: Sink>(
     requires works { O.broken out.old ≡ false }
     requires coherent { AreCoherent trace.now }
     ensures ok { IfOk result (λ answered. Answered (IsAnswerOf (IsWhoAnswer asked.now) (Ok trace.now)) answered (writer_of (O.written out.old) (O.written out.new) (O.broken out.new))) }
-    ensures fails { IfErr result (λ e. IsUnanswered asked.now (Ok trace.now) e (writer_of (O.written out.old) (O.written out.new) (O.broken out.new))) }
+    ensures fails { IfErr result (λ e. IsWhoUnanswered asked.now (Ok trace.now) e (writer_of (O.written out.old) (O.written out.new) (O.broken out.new))) }
 {
     let text = answer(alloc, trace, asked)?;
     write_all(out, text.as_bytes())?;
@@ -85,7 +85,7 @@ fn show<O: Sink>(
 ) -> Result<ExitStatus, WhoErr>
     requires { O.broken out.old ≡ false }
     ensures ok { IfOk result (λ answered. Answered (IsAnswerOf (IsWhoAnswer asked.now) (recorded_at bytes.now)) answered (writer_of (O.written out.old) (O.written out.new) (O.broken out.new))) }
-    ensures fails { IfErr result (λ e. IsUnanswered asked.now (recorded_at bytes.now) e (writer_of (O.written out.old) (O.written out.new) (O.broken out.new))) }
+    ensures fails { IfErr result (λ e. IsWhoUnanswered asked.now (recorded_at bytes.now) e (writer_of (O.written out.old) (O.written out.new) (O.broken out.new))) }
 {
     match open_trace(alloc, bytes)? {
         Opened::Coherent(trace) => show_trace(alloc, &trace, asked, out),
@@ -112,8 +112,8 @@ pub fn who_run<O: Sink, E: Sink>(
         → Answered (IsAnswerOf (IsWhoAnswer asked.now) (recorded_at bytes.now)) result (writer_of (O.written out.old) (O.written out.new) (O.broken out.new)) × (faults.new ≡ faults.old) }
     // Else why there is none, what that leaves, and that it is reported.
     ensures failed { (result ≡ status.Failed) ⊎ (result ≡ status.BadArguments) → (e : WhoErr)
-        × (result ≡ status_of e)
-        × IsUnanswered asked.now (recorded_at bytes.now) e (writer_of (O.written out.old) (O.written out.new) (O.broken out.new))
+        × (result ≡ who_status e)
+        × IsWhoUnanswered asked.now (recorded_at bytes.now) e (writer_of (O.written out.old) (O.written out.new) (O.broken out.new))
         × Reports (writer_of (E.written faults.old) (E.written faults.new) (E.broken faults.new)) (fault_text (who_fault_words e)) }
 {
     match show(alloc, bytes, asked, out) {

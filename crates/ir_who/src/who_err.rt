@@ -29,11 +29,11 @@ pub enum WhoErr {
 }
 
 impl WhoErr {
-    ghost use Rattle.ir_who.specs.Lines.{who_fault_words, status_of};
+    ghost use Rattle.ir_who.specs.Lines.{who_fault_words, who_status};
 
     /// The exit status that it gives.
     pub fn status(self) -> ExitStatus
-        ensures { result ≡ status_of self }
+        ensures { result ≡ who_status self }
     {
         match self {
             WhoErr::Absent(_) => ExitStatus::BadArguments,

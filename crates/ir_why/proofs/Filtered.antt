@@ -11,11 +11,11 @@ IsIn xs x = (k : ℕ) × (slice_get xs k ≡ Some x)
 abbrev pub InOrder : {X : Type 0} → List X → X → X → Type 0
 InOrder xs x y = (a b : ℕ) × (a < b) × (slice_get xs a ≡ Some x) × (slice_get xs b ≡ Some y)
 
-pub slice_get_of_right_in_append : {X : Type 0} (xs ys : List X) (k : ℕ) (x : X) → slice_get ys k ≡ Some x → slice_get (xs ++ ys) (length xs + k) ≡ Some x
-slice_get_of_right_in_append [] ys k x e = let same : 0 + k ≡ k = omega arith in ap (λ m. slice_get ys m) same ∙ e
-slice_get_of_right_in_append (z ∷ zs) ys k x e =
+pub slice_get_append_right : {X : Type 0} (xs ys : List X) (k : ℕ) (x : X) → slice_get ys k ≡ Some x → slice_get (xs ++ ys) (length xs + k) ≡ Some x
+slice_get_append_right [] ys k x e = let same : 0 + k ≡ k = omega arith in ap (λ m. slice_get ys m) same ∙ e
+slice_get_append_right (z ∷ zs) ys k x e =
     let same : suc (length zs) + k ≡ suc (length zs + k) = omega arith in
-    ap (λ m. slice_get (z ∷ (zs ++ ys)) m) same ∙ slice_get_of_right_in_append zs ys k x e
+    ap (λ m. slice_get (z ∷ (zs ++ ys)) m) same ∙ slice_get_append_right zs ys k x e
 
 -- ---- what is filtered
 
@@ -40,20 +40,20 @@ pub filter_sound : {X : Type 0} (f : X → Bool) (xs : List X) (k : ℕ) (x : X)
 filter_sound f [] k x e = absurd (none-some x e)
 filter_sound f (z ∷ zs) k x e = filter_sound_step f z zs (f z) refl k x e (filter_sound f zs)
 
-filter_begins_with_passing_head : {X : Type 0} (f : X → Bool) (z : X) (zs : List X) → f z ≡ true → slice_get (filter f (z ∷ zs)) 0 ≡ Some z
-filter_begins_with_passing_head f z zs e = ap (λ (c : Bool). slice_get (if c then z ∷ filter f zs else filter f zs) 0) e
+filter_first_passing : {X : Type 0} (f : X → Bool) (z : X) (zs : List X) → f z ≡ true → slice_get (filter f (z ∷ zs)) 0 ≡ Some z
+filter_first_passing f z zs e = ap (λ (c : Bool). slice_get (if c then z ∷ filter f zs else filter f zs) 0) e
 
-filter_of_tail_is_in_filter : {X : Type 0} (f : X → Bool) (z : X) (zs : List X) (c : Bool) → f z ≡ c → (x : X) → IsIn (filter f zs) x → IsIn (filter f (z ∷ zs)) x
-filter_of_tail_is_in_filter f z zs true e x h = (suc h.0, ap (λ (c : Bool). slice_get (if c then z ∷ filter f zs else filter f zs) (suc h.0)) e ∙ h.1)
-filter_of_tail_is_in_filter f z zs false e x h = (h.0, ap (λ (c : Bool). slice_get (if c then z ∷ filter f zs else filter f zs) h.0) e ∙ h.1)
+filter_tail_is_in : {X : Type 0} (f : X → Bool) (z : X) (zs : List X) (c : Bool) → f z ≡ c → (x : X) → IsIn (filter f zs) x → IsIn (filter f (z ∷ zs)) x
+filter_tail_is_in f z zs true e x h = (suc h.0, ap (λ (c : Bool). slice_get (if c then z ∷ filter f zs else filter f zs) (suc h.0)) e ∙ h.1)
+filter_tail_is_in f z zs false e x h = (h.0, ap (λ (c : Bool). slice_get (if c then z ∷ filter f zs else filter f zs) h.0) e ∙ h.1)
 
 -- what passes is in the filtered list
 pub filter_complete : {X : Type 0} (f : X → Bool) (xs : List X) (k : ℕ) (x : X) → slice_get xs k ≡ Some x → f x ≡ true → IsIn (filter f xs) x
 filter_complete f [] k x e t = absurd (none-some x e)
 filter_complete f (z ∷ zs) zero x e t =
     let same : z ≡ x = same_Some z x e in
-    (0, filter_begins_with_passing_head f z zs (ap f same ∙ t) ∙ ap Some same)
-filter_complete f (z ∷ zs) (suc k) x e t = filter_of_tail_is_in_filter f z zs (f z) refl x (filter_complete f zs k x e t)
+    (0, filter_first_passing f z zs (ap f same ∙ t) ∙ ap Some same)
+filter_complete f (z ∷ zs) (suc k) x e t = filter_tail_is_in f z zs (f z) refl x (filter_complete f zs k x e t)
 
 filter_keeps_order_step : {X : Type 0} (f : X → Bool) (z : X) (zs : List X) (c : Bool) → f z ≡ c → (a b : ℕ) (x y : X) → a < b
     → slice_get (filter f (z ∷ zs)) a ≡ Some x → slice_get (filter f (z ∷ zs)) b ≡ Some y
@@ -63,7 +63,7 @@ filter_keeps_order_step f z zs true e a zero x y less first second rest = absurd
 filter_keeps_order_step f z zs true e zero (suc b) x y less first second rest =
     let there : slice_get (filter f (z ∷ zs)) (suc b) ≡ slice_get (filter f zs) b = ap (λ (c : Bool). slice_get (if c then z ∷ filter f zs else filter f zs) (suc b)) e in
     let own = filter_sound f zs b y (sym there ∙ second) in
-    (0, suc own.1.0, omega arith, sym (filter_begins_with_passing_head f z zs e) ∙ first, own.1.1)
+    (0, suc own.1.0, omega arith, sym (filter_first_passing f z zs e) ∙ first, own.1.1)
 filter_keeps_order_step f z zs true e (suc a) (suc b) x y less first second rest =
     let one : slice_get (filter f (z ∷ zs)) (suc a) ≡ slice_get (filter f zs) a = ap (λ (c : Bool). slice_get (if c then z ∷ filter f zs else filter f zs) (suc a)) e in
     let two : slice_get (filter f (z ∷ zs)) (suc b) ≡ slice_get (filter f zs) b = ap (λ (c : Bool). slice_get (if c then z ∷ filter f zs else filter f zs) (suc b)) e in

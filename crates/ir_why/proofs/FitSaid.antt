@@ -6,16 +6,16 @@ use Rattle.ir_files.specs.declared.exit_status.ExitStatus.{ExitStatus}
 use Rattle.ir_files.specs.declared.exit_status.ExitStatus.TheVariants as status
 use Rattle.ir_past.specs.Answers.{Answered}
 use Rattle.ir_opened.specs.Answers.{IsFitAnswerOf}
-use Rattle.ir_opened.proofs.CallerLemmas.{refusal_status_is_no_failure}
+use Rattle.ir_opened.proofs.CallerLemmas.{unfit_status_no_failure}
 
-answer_status_is_no_failure : (P : FittedTrace → List ℕ → Type 0) (image trace : List ℕ) (s : ExitStatus) (text : List ℕ) → IsFitAnswerOf P image trace s text
+why_answer_no_failure : (P : FittedTrace → List ℕ → Type 0) (image trace : List ℕ) (s : ExitStatus) (text : List ℕ) → IsFitAnswerOf P image trace s text
     → (s ≡ status.Failed) ⊎ (s ≡ status.BadArguments) → ⊥
-answer_status_is_no_failure P image trace s text (inl h) (inl failed) = let bad : status.Failed ≡ status.Done = sym failed ∙ h.status in cc
-answer_status_is_no_failure P image trace s text (inl h) (inr bad) = let wrong : status.BadArguments ≡ status.Done = sym bad ∙ h.status in cc
-answer_status_is_no_failure P image trace s text (inr h) (inl failed) = (refusal_status_is_no_failure h.why).0 (sym failed ∙ h.status)
-answer_status_is_no_failure P image trace s text (inr h) (inr bad) = (refusal_status_is_no_failure h.why).1 (sym bad ∙ h.status)
+why_answer_no_failure P image trace s text (inl h) (inl failed) = let bad : status.Failed ≡ status.Done = sym failed ∙ h.status in cc
+why_answer_no_failure P image trace s text (inl h) (inr bad) = let wrong : status.BadArguments ≡ status.Done = sym bad ∙ h.status in cc
+why_answer_no_failure P image trace s text (inr h) (inl failed) = (unfit_status_no_failure h.why).0 (sym failed ∙ h.status)
+why_answer_no_failure P image trace s text (inr h) (inr bad) = (unfit_status_no_failure h.why).1 (sym bad ∙ h.status)
 
 -- an answer leaves the status of neither a failure nor bad arguments
-pub answered_status_is_no_failure : (P : FittedTrace → List ℕ → Type 0) (image trace : List ℕ) (s : ExitStatus) (w : Writer) → Answered (IsFitAnswerOf P image trace) s w
+pub why_answered_no_failure : (P : FittedTrace → List ℕ → Type 0) (image trace : List ℕ) (s : ExitStatus) (w : Writer) → Answered (IsFitAnswerOf P image trace) s w
     → (s ≡ status.Failed) ⊎ (s ≡ status.BadArguments) → ⊥
-answered_status_is_no_failure P image trace s w a = answer_status_is_no_failure P image trace s a.text a.is
+why_answered_no_failure P image trace s w a = why_answer_no_failure P image trace s a.text a.is

@@ -4,30 +4,30 @@ use Rattle.std.specs.Prelude.{slice_get}
 use Rattle.std.proofs.lemmas.Bool.{cases_eq, cases_lt}
 use Rattle.std.proofs.lemmas.List.{get_or_past}
 use Rattle.std.proofs.lemmas.Option.{same_Some, slice_get_within}
-use Rattle.ir_lemmas.proofs.CallerLemmas.{element_of_zeros_is_zero}
-use Rattle.ir_runs.proofs.CallerLemmas.{sum_below_less_if_one_less}
-use Rattle.ir_coherence.proofs.CallerLemmas.{recorded_thread_at_number_is_recorded}
+use Rattle.ir_lemmas.proofs.CallerLemmas.{get_or-zeros}
+use Rattle.ir_runs.proofs.CallerLemmas.{sum_below_less}
+use Rattle.ir_coherence.proofs.CallerLemmas.{recorded_thread_fits}
 use Rattle.ir_trace.specs.Recorded.{Recorded, recorded_thread}
 use Rattle.ir_trace.specs.Bounds.{IsRecorded}
 use Rattle.ir_past.specs.declared.place.Place.{Place}
-use Rattle.ir_past.proofs.CallerLemmas.{event_is_of_existing_thread}
+use Rattle.ir_past.proofs.CallerLemmas.{event_thread_exists}
 use Rattle.ir_why.specs.Needed.{NeedsOther, AreNeeds}
 use Rattle.ir_why.specs.Before.{IsPast}
 use Rattle.ir_why.specs.Tables.{AreThere, AreRaised, IsGathered, HaveRisen, unscanned}
 
 -- ---- a number of a list that is set
 
-pub get_or_after_set_of_same_place : (xs : List ℕ) (i v : ℕ) → i < length xs → get_or (slice_set xs i v) i 0 ≡ v
-get_or_after_set_of_same_place [] i v l = absurd (omega arith)
-get_or_after_set_of_same_place (x ∷ xs) zero v l = refl
-get_or_after_set_of_same_place (x ∷ xs) (suc i) v l = get_or_after_set_of_same_place xs i v (omega arith)
+pub get_or_set_zero_own : (xs : List ℕ) (i v : ℕ) → i < length xs → get_or (slice_set xs i v) i 0 ≡ v
+get_or_set_zero_own [] i v l = absurd (omega arith)
+get_or_set_zero_own (x ∷ xs) zero v l = refl
+get_or_set_zero_own (x ∷ xs) (suc i) v l = get_or_set_zero_own xs i v (omega arith)
 
-pub get_or_after_set_of_other_place : (xs : List ℕ) (i o v : ℕ) → (i ≡ o → ⊥) → get_or (slice_set xs i v) o 0 ≡ get_or xs o 0
-get_or_after_set_of_other_place [] i o v ne = refl
-get_or_after_set_of_other_place (x ∷ xs) zero zero v ne = absurd (ne refl)
-get_or_after_set_of_other_place (x ∷ xs) zero (suc o) v ne = refl
-get_or_after_set_of_other_place (x ∷ xs) (suc i) zero v ne = refl
-get_or_after_set_of_other_place (x ∷ xs) (suc i) (suc o) v ne = get_or_after_set_of_other_place xs i o v (λ e. ne (ap suc e))
+pub get_or_set_zero_other : (xs : List ℕ) (i o v : ℕ) → (i ≡ o → ⊥) → get_or (slice_set xs i v) o 0 ≡ get_or xs o 0
+get_or_set_zero_other [] i o v ne = refl
+get_or_set_zero_other (x ∷ xs) zero zero v ne = absurd (ne refl)
+get_or_set_zero_other (x ∷ xs) zero (suc o) v ne = refl
+get_or_set_zero_other (x ∷ xs) (suc i) zero v ne = refl
+get_or_set_zero_other (x ∷ xs) (suc i) (suc o) v ne = get_or_set_zero_other xs i o v (λ e. ne (ap suc e))
 
 pub length_of_set : (xs : List ℕ) (i v : ℕ) → length (slice_set xs i v) ≡ length xs
 length_of_set [] i v = refl
@@ -35,10 +35,10 @@ length_of_set (x ∷ xs) zero v = refl
 length_of_set (x ∷ xs) (suc i) v = ap suc (length_of_set xs i v)
 
 -- what is at a place of a list
-pub slice_get_of_places_is_get_or : (places : List Place) (n : ℕ) (d : Place) → n < length places → slice_get places n ≡ Some (get_or places n d)
-slice_get_of_places_is_get_or [] n d l = absurd (omega arith)
-slice_get_of_places_is_get_or (x ∷ xs) zero d l = refl
-slice_get_of_places_is_get_or (x ∷ xs) (suc n) d l = slice_get_of_places_is_get_or xs n d (omega arith)
+pub place_is_get_or : (places : List Place) (n : ℕ) (d : Place) → n < length places → slice_get places n ≡ Some (get_or places n d)
+place_is_get_or [] n d l = absurd (omega arith)
+place_is_get_or (x ∷ xs) zero d l = refl
+place_is_get_or (x ∷ xs) (suc n) d l = place_is_get_or xs n d (omega arith)
 
 -- ---- counts that rise
 
@@ -60,14 +60,14 @@ raised_by_next_event old now places n c p h at within above more least = record 
   has = λ k q less is. elim (cases_eq k n) [
     | inl here ↦ let same : p ≡ q = same_Some p q (sym at ∙ subst (λ z. slice_get places z ≡ Some q) here is) in
         subst (λ (z : Place). z.event < get_or (slice_set now p.thread c) z.thread 0) same
-        (let set = get_or_after_set_of_same_place now p.thread c within in omega (arith, set, more))
+        (let set = get_or_set_zero_own now p.thread c within in omega (arith, set, more))
     | inr ne ↦ let own = h.has k q (omega (arith, less, ne)) is in let after = rise q.thread in omega (arith, own, after)
   ];
   least = λ d below has u. elim (cases_eq p.thread u) [
-    | inl here ↦ let set = get_or_after_set_of_same_place now p.thread c within in
+    | inl here ↦ let set = get_or_set_zero_own now p.thread c within in
         let bound = least (d p.thread) (h.least d below (λ k q less is. has k q (omega (arith, less)) is) p.thread) (has n p (omega arith) at) in
         subst (λ z. get_or (slice_set now p.thread c) z 0 ≤ d z) here (omega (arith, set, bound))
-    | inr ne ↦ let set = get_or_after_set_of_other_place now p.thread u c ne in
+    | inr ne ↦ let set = get_or_set_zero_other now p.thread u c ne in
         let bound = h.least d below (λ k q less is. has k q (omega (arith, less)) is) u in omega (arith, set, bound)
   ];
 }
@@ -75,8 +75,8 @@ raised_by_next_event old now places n c p h at within above more least = record 
     rise : (u : ℕ) → get_or now u 0 ≤ get_or (slice_set now p.thread c) u 0
     rise u = elim (cases_eq p.thread u) [
       | inl here ↦ subst (λ z. get_or now z 0 ≤ get_or (slice_set now p.thread c) z 0) here
-          (let set = get_or_after_set_of_same_place now p.thread c within in omega (arith, set, above))
-      | inr ne ↦ let set = get_or_after_set_of_other_place now p.thread u c ne in omega (arith, set)
+          (let set = get_or_set_zero_own now p.thread c within in omega (arith, set, above))
+      | inr ne ↦ let set = get_or_set_zero_other now p.thread u c ne in omega (arith, set)
     ]
 
 -- ---- a past
@@ -84,15 +84,15 @@ raised_by_next_event old now places n c p h at within above more least = record 
 -- an event that is needed is there
 pub needed_event_exists : (r : Recorded) (t i u j : ℕ) → NeedsOther r t i u j → (u < length r.threads) × (j < length (recorded_thread r u).events)
 needed_event_exists r t i u j (inl maker, other) =
-    (event_is_of_existing_thread r u j _ maker.made, slice_get_within (recorded_thread r u).events j _ maker.made)
+    (event_thread_exists r u j _ maker.made, slice_get_within (recorded_thread r u).events j _ maker.made)
 needed_event_exists r t i u j (inr reader, other) =
-    (event_is_of_existing_thread r u j _ reader.read, slice_get_within (recorded_thread r u).events j _ reader.read)
+    (event_thread_exists r u j _ reader.read, slice_get_within (recorded_thread r u).events j _ reader.read)
 
 -- what an event of a recorded trace needs is there
 pub needed_events_exist : (r : Recorded) (t i : ℕ) (needs : List Place) → IsRecorded r → AreNeeds r t i needs → AreThere r needs
 needed_events_exist r t i needs recorded need = λ k p is.
     let there = needed_event_exists r t i p.thread p.event (need.sound k p is) in
-    let few = (recorded_thread_at_number_is_recorded r recorded p.thread there.0).few_events in
+    let few = (recorded_thread_fits r recorded p.thread there.0).few_events in
     (there.0, there.1, omega (arith, there.1, few))
 
 -- the next event of thread u is scanned
@@ -109,12 +109,12 @@ gathered_step r t i u k counts scanned new needs h within at less need raised = 
       | inl same ↦ fresh w j (subst (λ z. NeedsOther r u z w j) same (subst (λ z. NeedsOther r z m w j) (sym here) n))
       | inr ne ↦ old v m w j (earlier v m here ne below) n
     ]
-    | inr ne ↦ let set = get_or_after_set_of_other_place scanned u v (k + 1) ne in old v m w j (omega (arith, set, below)) n
+    | inr ne ↦ let set = get_or_set_zero_other scanned u v (k + 1) ne in old v m w j (omega (arith, set, below)) n
   ];
   behind = λ v. elim (cases_eq u v) [
     | inl here ↦ subst (λ z. get_or (slice_set scanned u (k + 1)) z 0 ≤ get_or new z 0) here
-        (let set = get_or_after_set_of_same_place scanned u (k + 1) inside in let above = raised.above u in omega (arith, set, above, under))
-    | inr ne ↦ let set = get_or_after_set_of_other_place scanned u v (k + 1) ne in let above = raised.above v in let own = h.behind v in omega (arith, set, above, own)
+        (let set = get_or_set_zero_own scanned u (k + 1) inside in let above = raised.above u in omega (arith, set, above, under))
+    | inr ne ↦ let set = get_or_set_zero_other scanned u v (k + 1) ne in let above = raised.above v in let own = h.behind v in omega (arith, set, above, own)
   ];
   within = raised.least (λ v. length (recorded_thread r v).events) h.within
       (λ m p l is. (needed_event_exists r u k p.thread p.event (need.sound m p is)).1);
@@ -139,7 +139,7 @@ gathered_step r t i u k counts scanned new needs h within at less need raised = 
 
     earlier : (v m : ℕ) → u ≡ v → m ≢ k → m < get_or (slice_set scanned u (k + 1)) v 0 → m < get_or scanned v 0
     earlier v m here ne below = subst (λ z. m < get_or scanned z 0) here
-        (let set = get_or_after_set_of_same_place scanned u (k + 1) inside in
+        (let set = get_or_set_zero_own scanned u (k + 1) inside in
         let less = subst (λ z. m < get_or (slice_set scanned u (k + 1)) z 0) (sym here) below in
         omega (arith, set, less, at, ne))
 
@@ -151,7 +151,7 @@ pub gathered_at_start : (r : Recorded) (t i : ℕ) (blank new none : List ℕ) (
 gathered_at_start r t i blank new none needs is_blank is_none size sizes within event need raised = record {
   size = raised.size ∙ length_of_set blank t i ∙ size;
   sizes = sizes;
-  own = let above = raised.above t in let set = get_or_after_set_of_same_place blank t i inside in omega (arith, above, set);
+  own = let above = raised.above t in let set = get_or_set_zero_own blank t i inside in omega (arith, above, set);
   needs = λ w j x. let place = need.complete w j x in
       let has = raised.has place.number place.place (slice_get_within needs place.number place.place place.there) place.there in
       subst (λ z. j < get_or new z 0) place.thread (subst (λ z. z < get_or new place.place.thread 0) place.event has);
@@ -163,7 +163,7 @@ gathered_at_start r t i blank new none needs is_blank is_none size sizes within 
 }
   where
     nothing : (xs : List ℕ) → xs ≡ replicate (length r.threads) 0 → (u : ℕ) → get_or xs u 0 ≡ 0
-    nothing xs is u = ap (λ (z : List ℕ). get_or z u 0) is ∙ element_of_zeros_is_zero (length r.threads) u
+    nothing xs is u = ap (λ (z : List ℕ). get_or z u 0) is ∙ get_or-zeros (length r.threads) u
 
     inside : t < length blank
     inside = omega (arith, size, within)
@@ -171,14 +171,14 @@ gathered_at_start r t i blank new none needs is_blank is_none size sizes within 
     first : (v : ℕ) (d : ℕ → ℕ) → i ≤ d t → get_or (slice_set blank t i) v 0 ≤ d v
     first v d own = elim (cases_eq t v) [
       | inl here ↦ subst (λ z. get_or (slice_set blank t i) z 0 ≤ d z) here
-          (let set = get_or_after_set_of_same_place blank t i inside in omega (arith, set, own))
-      | inr ne ↦ let set = get_or_after_set_of_other_place blank t v i ne in let zero_at = nothing blank is_blank v in omega (arith, set, zero_at)
+          (let set = get_or_set_zero_own blank t i inside in omega (arith, set, own))
+      | inr ne ↦ let set = get_or_set_zero_other blank t v i ne in let zero_at = nothing blank is_blank v in omega (arith, set, zero_at)
     ]
 
 -- all is scanned
-pub counts_are_past_if_all_scanned : (r : Recorded) (t i : ℕ) (counts scanned : List ℕ) → IsGathered r t i counts scanned
+pub all_scanned_is_past : (r : Recorded) (t i : ℕ) (counts scanned : List ℕ) → IsGathered r t i counts scanned
     → ((u : ℕ) → u < length r.threads → get_or scanned u 0 ≡ get_or counts u 0) → IsPast r t i counts
-counts_are_past_if_all_scanned r t i counts scanned h all = record {
+all_scanned_is_past r t i counts scanned h all = record {
   size = h.size;
   has = record { own = h.own; needs = h.needs; closed = λ u k v j below n. h.closed u k v j (by u k below) n };
   least = λ d past. h.least d past.own past.needs past.closed;
@@ -192,8 +192,8 @@ counts_are_past_if_all_scanned r t i counts scanned h all = record {
     ]
 
 -- one thread's number has risen, and none has fallen: less is left to scan
-pub unscanned_falls_if_number_rises : (r : Recorded) (old new : List ℕ) (t : ℕ) → HaveRisen old new → t < length r.threads → get_or old t 0 < get_or new t 0
+pub unscanned_falls : (r : Recorded) (old new : List ℕ) (t : ℕ) → HaveRisen old new → t < length r.threads → get_or old t 0 < get_or new t 0
     → get_or new t 0 ≤ length (recorded_thread r t).events → unscanned r new < unscanned r old
-unscanned_falls_if_number_rises r old new t risen within more most = sum_below_less_if_one_less (length r.threads) t
+unscanned_falls r old new t risen within more most = sum_below_less (length r.threads) t
     (λ u. length (recorded_thread r u).events - get_or new u 0) (λ u. length (recorded_thread r u).events - get_or old u 0)
     within (omega (arith, more, most)) (λ u. let own = risen u in omega (arith, own))

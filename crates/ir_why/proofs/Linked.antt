@@ -17,6 +17,7 @@ use Rattle.ir_why.specs.Chain.{IsPlacedBefore, IsLatestNeed, IsWaiting, WaitsFor
 use Rattle.ir_why.specs.Tables.{HaveBoxes, IsLatestIn}
 use Rattle.ir_why.specs.declared.link.Link.{Link}
 use Rattle.ir_why.proofs.Gathered.{needed_event_exists}
+use Rattle.ir_picture.proofs.CallerLemmas.{before_transitive}
 
 -- ---- places
 
@@ -39,12 +40,6 @@ places_equal_or_ordered p q = elim (cases_eq p.thread q.thread) [
   ]
 ]
 
-pub before_transitive : (a b c d e f : ℕ) → IsBefore a b c d → IsBefore c d e f → IsBefore a b e f
-before_transitive a b c d e f (inl x) (inl y) = inl (omega (arith, x, y))
-before_transitive a b c d e f (inl x) (inr y) = inl (omega (arith, x, y.0))
-before_transitive a b c d e f (inr x) (inl y) = inl (omega (arith, x.0, y))
-before_transitive a b c d e f (inr x) (inr y) = inr (x.0 ∙ y.0, omega (arith, x.1, y.1))
-
 -- ---- the need that is placed latest
 
 -- an event that starts at x is less far than one that starts at `most`, or as far and after it by thread and event
@@ -59,15 +54,15 @@ pub record StartsFurthest (boxes : List PlacedBox) (places : List Place) (n : �
   pub others : (k : ℕ) (q : Place) → k < n → slice_get places k ≡ Some q
       → (q ≡ best) ⊎ ((x : ℕ) × StartsAt boxes q.thread q.event x × StartsLessFar x most q best)
 
-pub first_event_starts_furthest : (boxes : List PlacedBox) (places : List Place) (p : Place) (x : ℕ) → slice_get places 0 ≡ Some p → StartsAt boxes p.thread p.event x
+pub first_starts_furthest : (boxes : List PlacedBox) (places : List Place) (p : Place) (x : ℕ) → slice_get places 0 ≡ Some p → StartsAt boxes p.thread p.event x
     → StartsFurthest boxes places 0 p x
-first_event_starts_furthest boxes places p x at start = record { number = 0; there = at; start = start; others = λ k q less is. absurd (omega (arith, less)) }
+first_starts_furthest boxes places p x at start = record { number = 0; there = at; start = start; others = λ k q less is. absurd (omega (arith, less)) }
 
 -- the next event starts further, or as far and is before it
-pub next_event_starts_furthest : (boxes : List PlacedBox) (places : List Place) (n : ℕ) (best p : Place) (most x : ℕ) → StartsFurthest boxes places n best most
+pub next_starts_furthest : (boxes : List PlacedBox) (places : List Place) (n : ℕ) (best p : Place) (most x : ℕ) → StartsFurthest boxes places n best most
     → slice_get places n ≡ Some p → StartsAt boxes p.thread p.event x
     → (most < x) ⊎ ((x ≡ most) × IsBefore p.thread p.event best.thread best.event) → StartsFurthest boxes places (n + 1) p x
-next_event_starts_furthest boxes places n best p most x h at start further = record {
+next_starts_furthest boxes places n best p most x h at start further = record {
   number = n;
   there = at;
   start = start;
@@ -96,10 +91,10 @@ next_event_starts_furthest boxes places n best p most x h at start further = rec
         inr (is.0 ∙ sym same.0, before_transitive p.thread p.event best.thread best.event q.thread q.event same.1 is.1)
 
 -- it doesn't
-pub furthest_stays_after_next_event : (boxes : List PlacedBox) (places : List Place) (n : ℕ) (best p : Place) (most x : ℕ) → StartsFurthest boxes places n best most
+pub furthest_stays_next : (boxes : List PlacedBox) (places : List Place) (n : ℕ) (best p : Place) (most x : ℕ) → StartsFurthest boxes places n best most
     → slice_get places n ≡ Some p → StartsAt boxes p.thread p.event x → x ≤ most
     → (x ≡ most → IsBefore p.thread p.event best.thread best.event → ⊥) → StartsFurthest boxes places (n + 1) best most
-furthest_stays_after_next_event boxes places n best p most x h at start no_more not_before = record {
+furthest_stays_next boxes places n best p most x h at start no_more not_before = record {
   number = h.number;
   there = h.there;
   start = h.start;
@@ -120,9 +115,9 @@ furthest_stays_after_next_event boxes places n best p most x h at start no_more 
       | inr ne ↦ inr (x, start, inl (omega (arith, ne, no_more)))
     ]
 
-pub latest_if_furthest_of_all : (boxes : List PlacedBox) (places : List Place) (n : ℕ) (best : Place) (most : ℕ) → StartsFurthest boxes places n best most → length places ≤ n
+pub furthest_is_latest : (boxes : List PlacedBox) (places : List Place) (n : ℕ) (best : Place) (most : ℕ) → StartsFurthest boxes places n best most → length places ≤ n
     → IsLatestIn boxes places best
-latest_if_furthest_of_all boxes places n best most h all = record {
+furthest_is_latest boxes places n best most h all = record {
   number = h.number;
   there = h.there;
   latest = λ k q is. elim (h.others k q (let within = slice_get_within places k q is in omega (arith, within, all)) is) [
@@ -134,9 +129,9 @@ latest_if_furthest_of_all boxes places n best most h all = record {
 -- ---- boxes
 
 -- the placed box that has an event
-pub placed_box_of_event_exists : (boxes : List PlacedBox) (t i : ℕ) → HasBox (events_of_all boxes) t i
+pub event_has_placed_box : (boxes : List PlacedBox) (t i : ℕ) → HasBox (events_of_all boxes) t i
     → (k : ℕ) × (b : PlacedBox) × (slice_get boxes k ≡ Some b) × IsInBox b.events t i
-placed_box_of_event_exists boxes t i h = by (slice_get boxes h.number) refl
+event_has_placed_box boxes t i h = by (slice_get boxes h.number) refl
   where
     mapped : (x : Option PlacedBox) → slice_get boxes h.number ≡ x → option_map (λ (b : PlacedBox). b.events) x ≡ Some h.box
     mapped x is = ap (option_map (λ (b : PlacedBox). b.events)) (sym is) ∙ sym (slice_get-map (λ (b : PlacedBox). b.events) boxes h.number) ∙ h.there
@@ -154,15 +149,15 @@ placed_box_of_event_exists boxes t i h = by (slice_get boxes h.number) refl
 -- ---- links
 
 -- each event that is needed is in a box
-pub needed_events_have_boxes : (r : Recorded) (boxes : List PlacedBox) (t i : ℕ) (needs : List Place) → AreBoxes r (events_of_all boxes)
+pub needed_have_boxes : (r : Recorded) (boxes : List PlacedBox) (t i : ℕ) (needs : List Place) → AreBoxes r (events_of_all boxes)
     → AreNeeds r t i needs → HaveBoxes boxes needs
-needed_events_have_boxes r boxes t i needs are need = λ k p is.
+needed_have_boxes r boxes t i needs are need = λ k p is.
     are.all p.thread p.event (needed_event_exists r t i p.thread p.event (need.sound k p is)).1
 
 -- of what an event needs, the latest
-pub latest_in_needs_is_latest_need : (r : Recorded) (boxes : List PlacedBox) (t i : ℕ) (needs : List Place) (p : Place) → AreNeeds r t i needs → IsLatestIn boxes needs p
+pub latest_in_needs : (r : Recorded) (boxes : List PlacedBox) (t i : ℕ) (needs : List Place) (p : Place) → AreNeeds r t i needs → IsLatestIn boxes needs p
     → IsLatestNeed r boxes t i p
-latest_in_needs_is_latest_need r boxes t i needs p need h = record {
+latest_in_needs r boxes t i needs p need h = record {
   needed = need.sound h.number p h.there;
   latest = λ q other. let own = need.complete q.thread q.event other in
       let same : own.place ≡ q = places_equal_by_fields own.place q own.thread own.event in
@@ -170,23 +165,23 @@ latest_in_needs_is_latest_need r boxes t i needs p need h = record {
 }
 
 -- event k waits, and none after it up to event i
-pub is_link_if_later_events_need_no_other : (r : Recorded) (boxes : List PlacedBox) (t i k : ℕ) (needs : List Place) (l : Link) → AreNeeds r t k needs
+pub no_other_needs_is_link : (r : Recorded) (boxes : List PlacedBox) (t i k : ℕ) (needs : List Place) (l : Link) → AreNeeds r t k needs
     → IsLatestIn boxes needs l.needed → l.waiting.thread ≡ t → l.waiting.event ≡ k → k ≤ i
     → ((m u j : ℕ) → k < m → m ≤ i → NeedsOther r t m u j → ⊥) → IsLink r boxes t i l
-is_link_if_later_events_need_no_other r boxes t i k needs l need latest thread event by last = record {
+no_other_needs_is_link r boxes t i k needs l need latest thread event by last = record {
   thread = thread;
   waiting = subst (IsWaiting r t i) (sym event) (record {
     by = by;
     need = (l.needed.thread, l.needed.event, need.sound latest.number l.needed latest.there);
     last = last;
   });
-  needed = subst (λ z. IsLatestNeed r boxes t z l.needed) (sym event) (latest_in_needs_is_latest_need r boxes t k needs l.needed need latest);
+  needed = subst (λ z. IsLatestNeed r boxes t z l.needed) (sym event) (latest_in_needs r boxes t k needs l.needed need latest);
 }
 
 -- event k waits for none, as none after it
-pub none_needs_other_from_event_on_if_its_needs_are_empty : (r : Recorded) (t i k : ℕ) (needs : List Place) → AreNeeds r t k needs → needs ≡ []
+pub empty_needs_no_other : (r : Recorded) (t i k : ℕ) (needs : List Place) → AreNeeds r t k needs → needs ≡ []
     → ((m u j : ℕ) → k < m → m ≤ i → NeedsOther r t m u j → ⊥) → (m u j : ℕ) → k ≤ m → m ≤ i → NeedsOther r t m u j → ⊥
-none_needs_other_from_event_on_if_its_needs_are_empty r t i k needs need none last m u j from to other = elim (cases_eq m k) [
+empty_needs_no_other r t i k needs need none last m u j from to other = elim (cases_eq m k) [
   | inl here ↦ let own = need.complete u j (subst (λ z. NeedsOther r t z u j) here other) in
       none-some own.place (sym (ap (λ (z : List Place). slice_get z own.number) none) ∙ own.there)
   | inr ne ↦ last m u j (omega (arith, from, ne)) to other
@@ -197,8 +192,8 @@ abbrev pub ChainGoesOn : Recorded → List PlacedBox → ℕ → Place → List 
 ChainGoesOn r boxes n here links m last = (ls : List Link) → AreLinks r boxes m last.thread last.event ls
     → AreLinks r boxes n here.thread here.event (links ++ ls)
 
-pub chain_goes_on_by_no_link : (r : Recorded) (boxes : List PlacedBox) (n : ℕ) (here : Place) → ChainGoesOn r boxes n here [] n here
-chain_goes_on_by_no_link r boxes n here = λ ls h. h
+pub no_link_chain_goes_on : (r : Recorded) (boxes : List PlacedBox) (n : ℕ) (here : Place) → ChainGoesOn r boxes n here [] n here
+no_link_chain_goes_on r boxes n here = λ ls h. h
 
 pub chain_goes_on_by_link : (r : Recorded) (boxes : List PlacedBox) (n : ℕ) (here : Place) (links : List Link) (m k : ℕ) (last : Place) (l : Link)
     → ChainGoesOn r boxes n here links m last → m ≡ suc k → IsLink r boxes last.thread last.event l

@@ -1,20 +1,21 @@
 -- How many events are before a step, and the chain of waits of a run, wait by wait.
-use Rattle.std.proofs.Common.{◌≡◌, ℕ, zero, suc, ◌+◌, ◌-◌, ◌<◌, ◌≤◌, ◌^◌, ◌⊎◌, inl, inr, Option, Some, None, true, false, ltb, ltb-true, ltb-false, List, [], ◌∷◌, ◌++◌, length, get_or, append_assoc, append-nil, refl, sym, ap, ◌∙◌, subst, arith}
+use Rattle.std.proofs.Common.{◌≡◌, ℕ, zero, suc, ◌+◌, ◌-◌, ◌<◌, ◌≤◌, ◌^◌, ◌⊎◌, inl, inr, Option, Some, None, true, false, ltb, ltb-true}
+use Rattle.std.proofs.Common.{ltb-false, List, [], ◌∷◌, ◌++◌, length, get_or, append_assoc, append-nil, refl, sym, ap, ◌∙◌, subst, arith}
 use Rattle.std.specs.Prelude.{slice_get, MatchOption}
 use Rattle.std.specs.List.Sorted.{IsNonDecreasingBy, IsPartitionPoint}
 use Rattle.std.proofs.lemmas.Bool.{cases_lt}
 use Rattle.std.proofs.lemmas.Option.{same_Some, none-some}
-use Rattle.ir_lemmas.proofs.CallerLemmas.{slice_get_of_append_cases, length_of_append_item}
-use Rattle.ir_coherence.proofs.CallerLemmas.{recorded_thread_at_number_is_recorded}
+use Rattle.ir_lemmas.proofs.CallerLemmas.{slice_get_append_cases, length_of_append_item}
+use Rattle.ir_coherence.proofs.CallerLemmas.{recorded_thread_fits}
 use Rattle.ir_log.specs.declared.event.Event.TheVariants.{Read, Write}
 use Rattle.ir_trace.specs.Recorded.{Recorded}
 use Rattle.ir_fit.specs.Fit.{FittedTrace, HasRun}
 use Rattle.ir_fit.specs.Within.{IsFitted}
-use Rattle.ir_fit.proofs.CallerLemmas.{event_positions_are_as_many_as_events, event_positions_rise}
+use Rattle.ir_fit.proofs.CallerLemmas.{entries_count_events, event_positions_rise}
 use Rattle.ir_cut.specs.Positions.{cut_of}
 use Rattle.ir_past.specs.declared.place.Place.{Place}
 use Rattle.ir_picture.specs.declared.placed_box.PlacedBox.{PlacedBox}
-use Rattle.ir_events.specs.Events.{entries_of, entry_of}
+use Rattle.ir_events.specs.Events.{entries_of, event_entry}
 use Rattle.ir_opened.specs.Positions.{IsInside, IsLeaveOf}
 use Rattle.ir_opened.proofs.CallerLemmas.{entering_event_has_leave, leave_is_past_event}
 use Rattle.ir_why.specs.Chain.{IsLink, WaitsForNone}
@@ -23,14 +24,14 @@ use Rattle.ir_why.specs.Waits.{AreBefore, IsLastBefore, IsWait, IsWaitFrom, AreW
 use Rattle.ir_why.specs.declared.link.Link.{Link}
 use Rattle.ir_why.specs.declared.wait.Wait.{Wait}
 use Rattle.ir_why.proofs.Linked.{linked_event_exists}
-use Rattle.ir_why.proofs.Within.{trace_event_is_inside, inside_event_is_of_trace}
+use Rattle.ir_why.proofs.Within.{trace_event_is_inside, inside_is_of_trace}
 
 -- ---- events before a step
 
 -- the steps of a thread's events are in order
-pub entry_steps_are_in_order : (f : FittedTrace) → HasRun f → (t : ℕ) (xs : List ℕ) → t < length f.guest.entries → xs ≡ entries_of f t
+pub entry_steps_sorted : (f : FittedTrace) → HasRun f → (t : ℕ) (xs : List ℕ) → t < length f.guest.entries → xs ≡ entries_of f t
     → IsNonDecreasingBy (λ (i : ℕ). i) xs
-entry_steps_are_in_order f h t xs l is i j d le lj = elim (cases_lt i j) [
+entry_steps_sorted f h t xs l is i j d le lj = elim (cases_lt i j) [
   | inl less ↦
       let inside : j < length (entries_of f t) = subst (λ (z : List ℕ). j < length z) is lj in
       let up = event_positions_rise f h t l i j less inside in
@@ -51,15 +52,15 @@ entry_steps_are_in_order f h t xs l is i j d le lj = elim (cases_lt i j) [
 -- they are few
 pub entries_fit_32_bits : (f : FittedTrace) → IsFitted f → (t : ℕ) → t < length f.guest.entries → length (entries_of f t) < 2 ^ 32
 entries_fit_32_bits f fitted t l =
-    let long = event_positions_are_as_many_as_events f fitted.run t l in
+    let long = entries_count_events f fitted.run t l in
     let same = fitted.run.whole.0.threads in
-    let few = (recorded_thread_at_number_is_recorded f.recorded fitted.within t (omega (arith, l, same))).few_events in
+    let few = (recorded_thread_fits f.recorded fitted.within t (omega (arith, l, same))).few_events in
     omega (arith, long, few)
 
 -- where a search found that the steps from `step` on begin
-pub partition_point_of_steps_if_by_test : (xs : List ℕ) (step n : ℕ) → IsPartitionPoint (λ (i : ℕ). ltb i step ≡ true) (λ i. ltb i step ≡ false) xs n
+pub partition_by_step_test : (xs : List ℕ) (step n : ℕ) → IsPartitionPoint (λ (i : ℕ). ltb i step ≡ true) (λ i. ltb i step ≡ false) xs n
     → IsPartitionPoint (λ (i : ℕ). i < step) (λ i. step ≤ i) xs n
-partition_point_of_steps_if_by_test xs step n h = (λ k d low lt. ltb-true _ step (h.0 k d low lt), λ k d low lt. ltb-false _ step (h.1 k d low lt))
+partition_by_step_test xs step n h = (λ k d low lt. ltb-true _ step (h.0 k d low lt), λ k d low lt. ltb-false _ step (h.1 k d low lt))
 
 -- ---- the past
 
@@ -71,11 +72,11 @@ pub record IsPastSoFar (f : FittedTrace) (p : Place) (cut counts : List ℕ) (n 
 pub past_so_far_at_start : (f : FittedTrace) (p : Place) (cut : List ℕ) → IsPastSoFar f p cut [] 0
 past_so_far_at_start f p cut = record { size = refl; each = λ u m is. absurd (none-some m is) }
 
-pub past_so_far_after_next_thread : (f : FittedTrace) (p : Place) (cut counts : List ℕ) (n count : ℕ) → IsPastSoFar f p cut counts n
+pub past_next_thread : (f : FittedTrace) (p : Place) (cut counts : List ℕ) (n count : ℕ) → IsPastSoFar f p cut counts n
     → AreBefore f n (cut_of cut n) (count + itself p n) → IsPastSoFar f p cut (counts ++ count ∷ []) (n + 1)
-past_so_far_after_next_thread f p cut counts n count h own = record {
+past_next_thread f p cut counts n count h own = record {
   size = length_of_append_item counts count ∙ ap (λ k. k + 1) h.size;
-  each = λ u m is. elim (slice_get_of_append_cases counts (count ∷ []) u m is) [
+  each = λ u m is. elim (slice_get_append_cases counts (count ∷ []) u m is) [
     | inl before ↦ h.each u m before
     | inr here ↦ last u m here.0 here.1 here.2
   ];
@@ -94,7 +95,7 @@ past_so_far_after_next_thread f p cut counts n count h own = record {
 pub link_is_inside : (f : FittedTrace) → HasRun f → (boxes : List PlacedBox) (t i : ℕ) (l : Link) → IsInside f t i → IsLink f.recorded boxes t i l
     → IsInside f l.waiting.thread l.waiting.event × IsInside f l.needed.thread l.needed.event
 link_is_inside f h boxes t i l inside link =
-    let here = inside_event_is_of_trace f h t i inside in
+    let here = inside_is_of_trace f h t i inside in
     let there = linked_event_exists f.recorded boxes t i l link in
     let by = link.waiting.by in (
       subst (λ z. IsInside f z l.waiting.event) (sym link.thread) (trace_event_is_inside f h t l.waiting.event here.0 (omega (arith, by, here.1))),
@@ -112,17 +113,17 @@ pub found_link_is_of_run : (f : FittedTrace) (r : Recorded) → r ≡ f.recorded
 found_link_is_of_run f r same boxes t i found l is h = subst (λ (x : Recorded). IsLink x boxes t i l) same
     (subst (λ (x : Option Link). MatchOption x (WaitsForNone r t i) (IsLink r boxes t i)) is h)
 
-pub waits_for_none_in_run_if_none_found : (f : FittedTrace) (r : Recorded) → r ≡ f.recorded → (boxes : List PlacedBox) (t i : ℕ) (found : Option Link) → found ≡ None
+pub waits_for_none_in_run : (f : FittedTrace) (r : Recorded) → r ≡ f.recorded → (boxes : List PlacedBox) (t i : ℕ) (found : Option Link) → found ≡ None
     → MatchOption found (WaitsForNone r t i) (IsLink r boxes t i) → WaitsForNone f.recorded t i
-waits_for_none_in_run_if_none_found f r same boxes t i found is h = subst (λ (x : Recorded). WaitsForNone x t i) same
+waits_for_none_in_run f r same boxes t i found is h = subst (λ (x : Recorded). WaitsForNone x t i) same
     (subst (λ (x : Option Link). MatchOption x (WaitsForNone r t i) (IsLink r boxes t i)) is h)
 
 -- what a wait needs is among the steps of the run, and is logged before it is left
 pub needed_event_is_inside : (f : FittedTrace) (l : Link) (w : Wait) → IsWait f l w → IsInside f l.needed.thread l.needed.event → IsInside f w.needed.thread w.needed.event
 needed_event_is_inside f l w h inside = subst (λ (p : Place). IsInside f p.thread p.event) (sym h.needed) inside
 
-pub needed_event_is_before_leave : (f : FittedTrace) (l : Link) (w : Wait) → IsWait f l w → entry_of f w.needed.thread w.needed.event < w.left
-needed_event_is_before_leave f l w h = subst (λ (p : Place). entry_of f p.thread p.event < w.left) (sym h.needed)
+pub needed_before_leave : (f : FittedTrace) (l : Link) (w : Wait) → IsWait f l w → event_entry f w.needed.thread w.needed.event < w.left
+needed_before_leave f l w h = subst (λ (p : Place). event_entry f p.thread p.event < w.left) (sym h.needed)
     (let past = leave_is_past_event f l.needed.thread l.needed.event w.left h.left.leaves in omega (arith, past))
 
 -- the waits so far, with waits from event i of thread t on, are a chain

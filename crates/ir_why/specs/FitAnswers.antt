@@ -18,7 +18,7 @@ use Rattle.ir_picture.specs.Places.{AreBoxesPlaced}
 use Rattle.ir_picture.specs.declared.placed_box.PlacedBox.{PlacedBox}
 use Rattle.ir_picture.specs.declared.placed_box.Point.{Point}
 use Rattle.ir_picture.specs.declared.view_err.Absent.TheVariants as absent
-use Rattle.ir_events.specs.Events.{entry_of}
+use Rattle.ir_events.specs.Events.{event_entry}
 use Rattle.ir_opened.specs.Answers.{IsFitAnswerOf}
 use Rattle.ir_opened.specs.Opened.{IsFit}
 use Rattle.ir_opened.specs.Positions.{IsInside, IsLeft}
@@ -53,11 +53,11 @@ pub record AreNeedsOf (f : FittedTrace) (p : Place) (xs : List Need) : Type 0 wh
 pub record IsHereLine (f : FittedTrace) (p : Place) (line : List ℕ) : Type 0 where
   pub event : Event
   pub logged : event_at f.recorded p.thread p.event ≡ Some event
-  pub text : line ≡ here_line p event (entry_of f p.thread p.event)
+  pub text : line ≡ here_line p event (event_entry f p.thread p.event)
 
 -- the least consistent cut that has the step by which an event is logged
 abbrev pub IsLeastFor : FittedTrace → Place → List ℕ → Type 0
-IsLeastFor f p cut = IsLeastCut f (first_cut f) p.thread (entry_of f p.thread p.event + 1) cut
+IsLeastFor f p cut = IsLeastCut f (first_cut f) p.thread (event_entry f p.thread p.event + 1) cut
 
 -- the lines about an event of a run: the event, what it needs of other threads, how much of the least cut that has it is before it, that cut,
 -- and the chain of at most this many waits that led to it; what is needed is held against a cut, if there is one

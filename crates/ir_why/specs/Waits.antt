@@ -5,7 +5,7 @@ use Rattle.ir_fit.specs.Fit.{FittedTrace}
 use Rattle.ir_cut.specs.Positions.{cut_of}
 use Rattle.ir_past.specs.declared.place.Place.{Place}
 use Rattle.ir_picture.specs.declared.placed_box.PlacedBox.{PlacedBox}
-use Rattle.ir_events.specs.Events.{entries_of, entry_of}
+use Rattle.ir_events.specs.Events.{entries_of, event_entry}
 use Rattle.ir_opened.specs.Positions.{IsInside, IsLeaveOf}
 use Rattle.ir_why.specs.Chain.{IsLink, WaitsForNone}
 use Rattle.ir_why.specs.declared.link.Link.{Link}
@@ -14,19 +14,19 @@ use Rattle.ir_why.specs.declared.wait.Wait.{Wait}
 -- thread u logs its first n events before its step l, and no other
 pub record AreBefore (f : FittedTrace) (u l n : ℕ) : Type 0 where
   pub within : n ≤ length (entries_of f u)
-  pub before : (k : ℕ) → k < n → entry_of f u k < l
-  pub rest : (k : ℕ) → n ≤ k → k < length (entries_of f u) → l ≤ entry_of f u k
+  pub before : (k : ℕ) → k < n → event_entry f u k < l
+  pub rest : (k : ℕ) → n ≤ k → k < length (entries_of f u) → l ≤ event_entry f u k
 
 -- event e is the last that thread u logs before its step l
 pub record IsLastBefore (f : FittedTrace) (u l e : ℕ) : Type 0 where
   pub inside : IsInside f u e
-  pub before : entry_of f u e < l
-  pub last : (k : ℕ) → e < k → k < length (entries_of f u) → l ≤ entry_of f u k
+  pub before : event_entry f u e < l
+  pub last : (k : ℕ) → e < k → k < length (entries_of f u) → l ≤ event_entry f u k
 
 -- a wait of a chain: a link, the step that logs the event that waits, and the step that leaves what it needs
 pub record IsWait (f : FittedTrace) (l : Link) (w : Wait) : Type 0 where
   pub waiting : w.waiting ≡ l.waiting
-  pub step : w.step ≡ entry_of f l.waiting.thread l.waiting.event
+  pub step : w.step ≡ event_entry f l.waiting.thread l.waiting.event
   pub needed : w.needed ≡ l.needed
   pub left : IsLeaveOf f l.needed.thread l.needed.event w.left
 

@@ -6,7 +6,7 @@ ghost use Rattle.ir_trace.specs.Recorded.{recorded_thread};
 ghost use Rattle.ir_past.specs.Answers.{AreCoherent};
 ghost use Rattle.ir_past.specs.declared.place.Place as place;
 ghost use Rattle.ir_picture.specs.Boxes.{AreBoxes};
-ghost use Rattle.ir_picture.specs.Boxing.{AreApart};
+ghost use Rattle.ir_picture.specs.Boxing.{AreBoxesApart};
 ghost use Rattle.ir_picture.specs.Placing.{events_of_all};
 ghost use Rattle.ir_why.specs.Chain.{IsLink, WaitsForNone, AreLinks};
 ghost use Rattle.ir_why.specs.Tables.{HasTables, HaveBoxes, IsLatestIn};
@@ -37,7 +37,7 @@ fn is_later(start: u64, one: Place, most: u64, other: Place) -> bool
 
 // Of these events the one that is placed latest; of such the first by thread and event.
 fn latest(boxes: &[PlacedBox], needs: &[Place]) -> Option<Place>
-    requires apart { AreApart (events_of_all boxes.now) }
+    requires apart { AreBoxesApart (events_of_all boxes.now) }
     requires there { HaveBoxes boxes.now needs.now }
     ensures { MatchOption result (needs.now ≡ []) (IsLatestIn boxes.now needs.now) }
 {
@@ -57,7 +57,7 @@ fn latest(boxes: &[PlacedBox], needs: &[Place]) -> Option<Place>
 ///
 /// # Errors
 /// Out of memory.
-#[tactic(auto, using(ir_picture::proofs::CallerLemmas::boxes_are_apart, crate::proofs::Linked::needed_events_have_boxes))]
+#[tactic(auto, using(ir_picture::proofs::CallerLemmas::boxes_are_apart, crate::proofs::Linked::needed_have_boxes))]
 pub fn link_from(
     alloc: Global,
     trace: &Trace,

@@ -3,7 +3,7 @@
 ghost use Rattle.std.specs.Prelude.{◌≡◌, ◌<◌, ◌≤◌, ◌+◌, ℕ, length, IfOk};
 ghost use Rattle.std.specs.List.Sorted.{IsNonDecreasingBy, IsPartitionPoint};
 ghost use Rattle.ir_cut.specs.Positions.{cut_of};
-ghost use Rattle.ir_events.specs.Events.{entry_of};
+ghost use Rattle.ir_events.specs.Events.{event_entry};
 ghost use Rattle.ir_opened.specs.Positions.{IsInside};
 ghost use Rattle.ir_why.specs.Waits.{AreBefore, IsPastIn, itself};
 
@@ -35,7 +35,7 @@ fn count_in(fitted: &Fitted, here: Place, cut: &Cut, thread: usize) -> u32
     requires thread { thread < length fitted.now.guest.entries }
     requires size { length cut.now ≡ length fitted.now.guest.entries }
     requires inside { IsInside fitted.now here.thread here.event }
-    requires has { entry_of fitted.now here.thread here.event < cut_of cut.now here.thread }
+    requires has { event_entry fitted.now here.thread here.event < cut_of cut.now here.thread }
     ensures { AreBefore fitted.now thread (cut_of cut.now thread) (result + itself here thread) }
 {
     let count = events_before(fitted, thread, cut.position(thread));
@@ -58,7 +58,7 @@ pub fn past_in(
 ) -> Result<Vec<u32>, AllocError>
     requires size { length cut.now ≡ length fitted.now.guest.entries }
     requires inside { IsInside fitted.now here.thread here.event }
-    requires has { entry_of fitted.now here.thread here.event < cut_of cut.now here.thread }
+    requires has { event_entry fitted.now here.thread here.event < cut_of cut.now here.thread }
     ensures { IfOk result (λ counts. IsPastIn fitted.now here cut.now counts.items) }
 {
     let mut counts = Vec::new(alloc);

@@ -90,7 +90,10 @@ fn show_fitted<O: Sink>(
     out: &mut O,
 ) -> Result<ExitStatus, WhyErr>
     requires { O.broken out.old ≡ false }
-    ensures ok { IfOk result (λ status. (i t : List ℕ) → IsFit i t fitted.now → Answered (IsFitAnswerOf (IsFitReason asked.now) i t) status (writer_of (O.written out.old) (O.written out.new) (O.broken out.new))) }
+    ensures ok { IfOk result
+        (λ status. (i t : List ℕ) → IsFit i t fitted.now
+        → Answered (IsFitAnswerOf (IsFitReason asked.now) i t) status
+        (writer_of (O.written out.old) (O.written out.new) (O.broken out.new))) }
     ensures fails { IfErr result (λ e. (i t : List ℕ) → IsFit i t fitted.now → IsWhyFitUnanswered asked.now i t e (writer_of (O.written out.old) (O.written out.new) (O.broken out.new))) }
 {
     let text = text_asked(alloc, fitted, asked)?;

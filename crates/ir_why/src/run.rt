@@ -23,7 +23,7 @@ use std::alloc::{AllocError, Global};
 ///
 /// # Errors
 /// The trace has no such thread, or the thread no such event.
-#[tactic(auto, using(ir_trace::proofs::CallerLemmas::recorded_threads_at_most_limit))]
+#[tactic(auto, using(ir_trace::proofs::CallerLemmas::recorded_threads_within))]
 pub fn find(trace: &Trace, asked: &Question) -> Result<Place, Absent>
     ensures place { IfOk result (λ place. place ≡ event_asked asked.now) }
     ensures there { OnOk result (HasAsked trace.now asked.now) }

@@ -1,7 +1,7 @@
 //! Where the boxes of events start.
 
 ghost use Rattle.ir_picture.specs.Boxes.{HasBox};
-ghost use Rattle.ir_picture.specs.Boxing.{AreApart};
+ghost use Rattle.ir_picture.specs.Boxing.{AreBoxesApart};
 ghost use Rattle.ir_picture.specs.Placing.{events_of_all};
 ghost use Rattle.ir_picture.specs.Shown.{StartsAt};
 
@@ -10,7 +10,7 @@ use ir_picture::{PlacedBox, box_of};
 
 /// Where the box of an event starts.
 pub fn start_of(boxes: &[PlacedBox], place: Place) -> u64
-    requires apart { AreApart (events_of_all boxes.now) }
+    requires apart { AreBoxesApart (events_of_all boxes.now) }
     requires there { HasBox (events_of_all boxes.now) place.thread place.event }
     ensures { StartsAt boxes.now place.thread place.event result }
 {

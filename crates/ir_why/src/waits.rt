@@ -1,7 +1,7 @@
 //! The chain of waits of a run: a thread that holds an object may wait for another one before it leaves.
 
 ghost use Rattle.std.specs.Prelude.{◌≡◌, ◌<◌, ℕ, IfOk};
-ghost use Rattle.ir_events.specs.Events.{entry_of};
+ghost use Rattle.ir_events.specs.Events.{event_entry};
 ghost use Rattle.ir_opened.specs.Positions.{IsInside, IsLeaveOf};
 ghost use Rattle.ir_picture.specs.Boxes.{AreBoxes};
 ghost use Rattle.ir_picture.specs.Placing.{events_of_all};
@@ -52,7 +52,7 @@ fn wait_of(fitted: &Fitted, link: &Link) -> Wait
 // The last event that a thread logs before a step of it, which comes after this event.
 fn last_before(fitted: &Fitted, place: Place, step: u64) -> Place
     requires inside { IsInside fitted.now place.thread place.event }
-    requires before { entry_of fitted.now place.thread place.event < step }
+    requires before { event_entry fitted.now place.thread place.event < step }
     ensures thread { result.thread ≡ place.thread }
     ensures last { IsLastBefore fitted.now place.thread step result.event }
 {

@@ -2,7 +2,7 @@
 
 ghost use Rattle.std.specs.Prelude.{◌≡◌, ◌<◌, ◌≤◌, length, None, Some, IfOk, IfSome, MatchOption, OnOk};
 ghost use Rattle.ir_cut.specs.Positions.{EachRun, IsConsistentCut, cut_of, last_of, threads_of};
-ghost use Rattle.ir_weave.specs.Standing.{StandsAt};
+ghost use Rattle.ir_weave.specs.Standing.{StandsAtCut};
 ghost use Rattle.ir_hits.specs.Watchable.{AreWatchable};
 ghost use Rattle.ir_hits.specs.Searching.{IsNextHit};
 ghost use Rattle.ir_hits.specs.Hits.{Finds};
@@ -63,7 +63,7 @@ impl Debugger {
     pub fn visit<H: Hands>(&mut self, hands: &H, cut: &Cut) -> Result<(), AllocError>
         requires { IsCutOf self.old.desk.fitted cut.now }
         ensures desk { self.new.desk ≡ spoken self.old.desk }
-        ensures there { OnOk result (StandsAt self.new.desk.fitted (cut_of cut.now) self.new.state) }
+        ensures there { OnOk result (StandsAtCut self.new.desk.fitted (cut_of cut.now) self.new.state) }
     {
         self.fresh = false;
         self.timeline.go_to(hands, cut)

@@ -4,7 +4,7 @@ ghost use Rattle.std.specs.Prelude.{◌≡◌, ◌<◌, [], length, map, IfOk, O
 ghost use Rattle.ir_image.specs.Guest.{Guest};
 ghost use Rattle.ir_flat.specs.Flat.{start_flat, tables, machine};
 ghost use Rattle.ir_trace.specs.Recorded.{trace_of};
-ghost use Rattle.ir_fit.specs.Ahead.{IsStopped};
+ghost use Rattle.ir_fit.specs.Ahead.{IsStoppedAhead};
 ghost use Rattle.ir_fit.specs.Fit.{HasHeader};
 ghost use Rattle.ir_fit.specs.Follower.{IsFollower, IsFollowed, IsSized};
 ghost use Rattle.ir_fit.specs.Passed.{ArePassed};
@@ -69,8 +69,10 @@ impl Follower<'_> {
     pub fn verdict(&self, t: usize) -> ThreadVerdict
         requires sized { IsSized self.now }
         requires thread { t < length self.now.flat.threads }
-        requires stopped { IsStopped self.now.trace self.now.flat t }
-        ensures { (guest : Guest) (k : IsFollower guest self.now.trace self.now.flat self.now.places.items) → StandsAs (machine (start_flat guest self.now.trace.budget self.now.trace.profile)) (tables (start_flat guest self.now.trace.budget self.now.trace.profile)) (trace_of self.now.trace) k.run t result }
+        requires stopped { IsStoppedAhead self.now.trace self.now.flat t }
+        ensures { (guest : Guest) (k : IsFollower guest self.now.trace self.now.flat self.now.places.items)
+            → StandsAs (machine (start_flat guest self.now.trace.budget self.now.trace.profile))
+            (tables (start_flat guest self.now.trace.budget self.now.trace.profile)) (trace_of self.now.trace) k.run t result }
     {
         let thread = self.thread(t);
         match self.look(t) {

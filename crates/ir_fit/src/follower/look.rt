@@ -6,7 +6,7 @@ ghost use Rattle.ir_thread.specs.State.{ask_of};
 ghost use Rattle.ir_thread.specs.Permitted.{held_count};
 ghost use Rattle.ir_thread.specs.declared.ask.Ask.TheVariants as ask;
 ghost use Rattle.ir_flat.specs.Flat.{thread_of, IsFlat};
-ghost use Rattle.ir_log.specs.Asked.{Suits};
+ghost use Rattle.ir_log.specs.Asked.{SuitsEvent};
 ghost use Rattle.ir_log.specs.declared.event.Event.{Event};
 ghost use Rattle.ir_trace.specs.Recorded.{recorded_thread};
 ghost use Rattle.ir_trace.specs.Bounds.{IsRecordedThread};
@@ -79,10 +79,10 @@ impl Follower<'_> {
         requires thread { t < length self.now.flat.threads }
         requires emitted { t < length self.now.trace.threads }
         ensures next { IfOk result (λ event. slice_get (recorded_thread self.now.trace t).events (thread_of self.now.flat t).events ≡ Some event) }
-        ensures suits { IfOk result (λ event. Suits asked event) }
+        ensures suits { IfOk result (λ event. SuitsEvent asked event) }
         ensures flat { IsFlat self.now.flat }
         ensures within { IsRecordedThread self.now.trace.profile self.now.trace.objects (recorded_thread self.now.trace t) }
-        ensures disagrees { OnErr result ((event : Event) → slice_get (recorded_thread self.now.trace t).events (thread_of self.now.flat t).events ≡ Some event → Suits asked event → ⊥) }
+        ensures disagrees { OnErr result ((event : Event) → slice_get (recorded_thread self.now.trace t).events (thread_of self.now.flat t).events ≡ Some event → SuitsEvent asked event → ⊥) }
     {
         self.trace.next_event(t, self.thread(t).events(), asked)
     }

@@ -75,7 +75,8 @@ impl Follower<'_> {
         ensures places { self.new.places.items ≡ self.old.places.items }
         ensures trace { self.new.trace ≡ self.old.trace }
         ensures sized { IsSized self.new }
-        ensures passed { (guest : Guest) → IsAlong guest self.old.trace self.old.flat → ArePassed guest self.old.trace passing.old.states.items → ArePassed guest self.old.trace passing.new.states.items }
+        ensures passed { (guest : Guest) → IsAlong guest self.old.trace self.old.flat
+            → ArePassed guest self.old.trace passing.old.states.items → ArePassed guest self.old.trace passing.new.states.items }
     {
         if passing.pauses.is_empty() {
             return;

@@ -1,8 +1,8 @@
 //! A run that follows the trace as far as any can.
 
 ghost use Rattle.std.specs.Prelude.{◌≡◌, ◌<◌, ℕ, true, length, IfSome, IfNone};
-ghost use Rattle.ir_fit.specs.Ahead.{IsMove, IsStopped};
-ghost use Rattle.ir_fit.specs.Follower.{all_ahead, GoesOn, IsFollower, IsSized};
+ghost use Rattle.ir_fit.specs.Ahead.{IsMove, IsStoppedAhead};
+ghost use Rattle.ir_fit.specs.Follower.{all_ahead, FollowerGoesOn, IsFollower, IsSized};
 ghost use Rattle.ir_fit.specs.Passed.{IsAlong, ArePassed};
 ghost use Rattle.ir_flat.specs.Flat.{thread_of};
 ghost use Rattle.ir_image.specs.Guest.{Guest};
@@ -31,7 +31,7 @@ impl Follower<'_> {
         requires sized { IsSized self.old }
         requires thread { t < length self.old.flat.threads }
         requires asked { asked ≡ ask_of self.old.flat.code (thread_of self.old.flat t) }
-        ensures goes { GoesOn self.old.trace self.old.flat self.old.places.items self.new.flat self.new.places.items }
+        ensures goes { FollowerGoesOn self.old.trace self.old.flat self.old.places.items self.new.flat self.new.places.items }
         ensures fewer { IfNone result (all_ahead self.new.trace self.new.flat < all_ahead self.old.trace self.old.flat) }
         ensures trace { self.new.trace ≡ self.old.trace }
         ensures sized { IsSized self.new }
@@ -51,7 +51,7 @@ impl Follower<'_> {
         requires sized { IsSized self.old }
         requires thread { t < length self.old.flat.threads }
         requires asked { asked ≡ ask_of self.old.flat.code (thread_of self.old.flat t) }
-        ensures goes { GoesOn self.old.trace self.old.flat self.old.places.items self.new.flat self.new.places.items }
+        ensures goes { FollowerGoesOn self.old.trace self.old.flat self.old.places.items self.new.flat self.new.places.items }
         ensures fewer { IfNone result (all_ahead self.new.trace self.new.flat < all_ahead self.old.trace self.old.flat) }
         ensures trace { self.new.trace ≡ self.old.trace }
         ensures sized { IsSized self.new }
@@ -70,7 +70,7 @@ impl Follower<'_> {
     fn advance_untold(&mut self, t: usize, pause: u64) -> Advanced
         requires sized { IsSized self.old }
         requires thread { t < length self.old.flat.threads }
-        ensures goes { GoesOn self.old.trace self.old.flat self.old.places.items self.new.flat self.new.places.items }
+        ensures goes { FollowerGoesOn self.old.trace self.old.flat self.old.places.items self.new.flat self.new.places.items }
         ensures fewer { result.more ≡ true → all_ahead self.new.trace self.new.flat < all_ahead self.old.trace self.old.flat }
         ensures trace { self.new.trace ≡ self.old.trace }
         ensures sized { IsSized self.new }
@@ -100,7 +100,7 @@ impl Follower<'_> {
     pub fn advance<G: Gate>(&mut self, t: usize, pause: u64, gate: &G)
         requires sized { IsSized self.old }
         requires thread { t < length self.old.flat.threads }
-        ensures goes { GoesOn self.old.trace self.old.flat self.old.places.items self.new.flat self.new.places.items }
+        ensures goes { FollowerGoesOn self.old.trace self.old.flat self.old.places.items self.new.flat self.new.places.items }
         ensures trace { self.new.trace ≡ self.old.trace }
         ensures sized { IsSized self.new }
     {
@@ -139,7 +139,7 @@ impl Follower<'_> {
     fn last_look(&self) -> Option<Move>
         requires { IsSized self.now }
         ensures follows { IfSome result (λ next. IsMove self.now.trace self.now.flat next) }
-        ensures none { IfNone result ((t : ℕ) → t < length self.now.flat.threads → IsStopped self.now.trace self.now.flat t) }
+        ensures none { IfNone result ((t : ℕ) → t < length self.now.flat.threads → IsStoppedAhead self.now.trace self.now.flat t) }
     {
         for t in 0..self.ready.len() {
             if let Look::Goes(next) = self.look(t) {
@@ -158,8 +158,9 @@ impl Follower<'_> {
         ensures trace { self.new.trace ≡ self.old.trace }
         ensures sized { IsSized self.new }
         ensures follows { IfSome result (λ next. IsMove self.old.trace self.old.flat next) }
-        ensures none { IfNone result ((t : ℕ) → t < length self.old.flat.threads → IsStopped self.old.trace self.old.flat t) }
-        ensures passed { (guest : Guest) → IsAlong guest self.old.trace self.old.flat → ArePassed guest self.old.trace passing.old.states.items → ArePassed guest self.old.trace passing.new.states.items }
+        ensures none { IfNone result ((t : ℕ) → t < length self.old.flat.threads → IsStoppedAhead self.old.trace self.old.flat t) }
+        ensures passed { (guest : Guest) → IsAlong guest self.old.trace self.old.flat
+            → ArePassed guest self.old.trace passing.old.states.items → ArePassed guest self.old.trace passing.new.states.items }
     {
         if let Some(next) = self.ready_step() {
             return Some(next);
@@ -193,11 +194,12 @@ impl Follower<'_> {
     // Continues while any thread has a step that follows, and keeps states on the way.
     pub fn follow<G: Gate>(&mut self, passing: &mut Passing, gate: &G)
         requires { IsSized self.old }
-        ensures goes { GoesOn self.old.trace self.old.flat self.old.places.items self.new.flat self.new.places.items }
+        ensures goes { FollowerGoesOn self.old.trace self.old.flat self.old.places.items self.new.flat self.new.places.items }
         ensures trace { self.new.trace ≡ self.old.trace }
         ensures sized { IsSized self.new }
-        ensures stopped { (t : ℕ) → t < length self.new.flat.threads → IsStopped self.new.trace self.new.flat t }
-        ensures passed { (guest : Guest) → IsFollower guest self.old.trace self.old.flat self.old.places.items → ArePassed guest self.old.trace passing.old.states.items → ArePassed guest self.old.trace passing.new.states.items }
+        ensures stopped { (t : ℕ) → t < length self.new.flat.threads → IsStoppedAhead self.new.trace self.new.flat t }
+        ensures passed { (guest : Guest) → IsFollower guest self.old.trace self.old.flat self.old.places.items
+            → ArePassed guest self.old.trace passing.old.states.items → ArePassed guest self.old.trace passing.new.states.items }
     {
         'moves: while let Some(next) = self.next(passing) {
             self.take(next);

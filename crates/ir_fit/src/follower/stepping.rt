@@ -3,7 +3,7 @@
 ghost use Rattle.std.specs.Prelude.{◌≡◌, ◌<◌, ◌+◌, ◌≤◌, length};
 ghost use Rattle.ir_fit.specs.Ahead.{IsMove};
 ghost use Rattle.ir_flat.specs.Flat.{IsFlat};
-ghost use Rattle.ir_fit.specs.Follower.{all_ahead, GoesOn, IsSized};
+ghost use Rattle.ir_fit.specs.Follower.{all_ahead, FollowerGoesOn, IsSized};
 ghost use Rattle.ir_fit.specs.Growing.{placed_more};
 
 use crate::follower::Follower;
@@ -106,7 +106,7 @@ impl Follower<'_> {
     pub fn take(&mut self, next: Move)
         requires sized { IsSized self.old }
         requires follows { IsMove self.old.trace self.old.flat next }
-        ensures goes { GoesOn self.old.trace self.old.flat self.old.places.items self.new.flat self.new.places.items }
+        ensures goes { FollowerGoesOn self.old.trace self.old.flat self.old.places.items self.new.flat self.new.places.items }
         ensures fewer { all_ahead self.new.trace self.new.flat < all_ahead self.old.trace self.old.flat }
         ensures trace { self.new.trace ≡ self.old.trace }
         ensures sized { IsSized self.new }

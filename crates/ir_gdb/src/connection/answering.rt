@@ -8,7 +8,9 @@ ghost use Rattle.ir_packet.specs.Stream.{TooLong};
 ghost use Rattle.ir_packet.specs.declared.request.Request.TheVariants.{Register};
 ghost use Rattle.ir_debug.specs.Machine.{quits};
 ghost use Rattle.ir_gdb.specs.Replies.{has_reply};
-ghost use Rattle.ir_gdb.specs.Connection.{sign, before_new_reply, before_reply, is_copy, is_packet, Consults, AnswersLine, RepliesToItem, AnswersRequest, AnswersPacket, AnswersNew, AnswersItem, ends_request, request_ends, item_ends, SendsOrFails};
+ghost use Rattle.ir_gdb.specs.Connection.{sign, before_new_reply, before_reply, is_copy, is_packet, Consults, AnswersLine, RepliesToItem};
+ghost use Rattle.ir_gdb.specs.Connection.{AnswersRequest, AnswersPacket, AnswersNew, AnswersItem, ends_request, request_ends, item_ends};
+ghost use Rattle.ir_gdb.specs.Connection.{SendsOrFails};
 
 use crate::connection::Connection;
 use crate::console::Answered;
@@ -60,7 +62,9 @@ impl Connection {
     fn answer_line<H: Hands, W: Sink>(&mut self, hands: &H, writer: &mut W) -> Result<(), Fault>
         requires { length self.old.reading.payload ≤ 4096 }
         ensures reading { self.new.reading ≡ self.old.reading }
-        ensures writes { SendsOrFails W.written W.broken (AnswersLine (quits (console_line self.old.reading.payload)) self.old.link (console_line self.old.reading.payload)) [] self.new.link writer.old writer.new result }
+        ensures writes { SendsOrFails W.written W.broken
+            (AnswersLine (quits (console_line self.old.reading.payload)) self.old.link (console_line self.old.reading.payload)) []
+            self.new.link writer.old writer.new result }
         ensures fault { IfErr result (λ f. f ≡ Fault.Write) }
     {
         match self.answer_of(hands) {
@@ -163,7 +167,8 @@ impl Connection {
     ) -> Result<Flow, Fault>
         requires { found ≡ Found.Packet → length self.old.reading.payload ≤ 4096 }
         ensures reading { self.new.reading ≡ self.old.reading }
-        ensures writes { SendsOrFails W.written W.broken (AnswersNew self.old.link (item_found found self.old.reading.payload)) (before_new_reply self.old.link (item_found found self.old.reading.payload)) self.new.link writer.old writer.new result }
+        ensures writes { SendsOrFails W.written W.broken (AnswersNew self.old.link (item_found found self.old.reading.payload))
+            (before_new_reply self.old.link (item_found found self.old.reading.payload)) self.new.link writer.old writer.new result }
         ensures flow { IfOk result (λ f. f ≡ flow_after (request_ends (item_found found self.old.reading.payload))) }
         ensures fault { IfErr result (λ f. f ≡ Fault.Write) }
     {
@@ -206,7 +211,8 @@ impl Connection {
     ) -> Result<Flow, Fault>
         requires { found ≡ Found.Packet → length self.old.reading.payload ≤ 4096 }
         ensures reading { self.new.reading ≡ self.old.reading }
-        ensures writes { SendsOrFails W.written W.broken (AnswersItem self.old.link (item_found found self.old.reading.payload)) (before_reply self.old.link (item_found found self.old.reading.payload)) self.new.link writer.old writer.new result }
+        ensures writes { SendsOrFails W.written W.broken (AnswersItem self.old.link (item_found found self.old.reading.payload))
+            (before_reply self.old.link (item_found found self.old.reading.payload)) self.new.link writer.old writer.new result }
         ensures flow { IfOk result (λ f. f ≡ flow_after (item_ends self.old.link (item_found found self.old.reading.payload))) }
         ensures fault { IfErr result (λ f. f ≡ Fault.Write) }
     {

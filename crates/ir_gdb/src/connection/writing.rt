@@ -4,7 +4,7 @@ ghost use Rattle.std.specs.Prelude.{◌≡◌, ◌≤◌, ℕ, List, length, IfE
 ghost use Rattle.ir_stream.specs.Writing.{WritesText};
 ghost use Rattle.ir_packet.specs.Packets.{packet_of};
 ghost use Rattle.ir_packet.specs.Replies.{reply_text, output_reply};
-ghost use Rattle.ir_gdb.specs.Connection.{sent, resent, sign, answer_text};
+ghost use Rattle.ir_gdb.specs.Connection.{sent, resent, sign, connection_answer_text};
 
 use crate::connection::Connection;
 use ir_packet::{Reply, put_output, put_packet, put_text, reply_text};
@@ -86,7 +86,7 @@ impl Connection {
     pub fn send_answer<W: Sink>(&mut self, answer: &[u8], writer: &mut W) -> Result<(), Fault>
         ensures link { (packet : List ℕ) → sent self.new.link self.new.link.stub packet ≡ sent self.old.link self.old.link.stub packet }
         ensures reading { self.new.reading ≡ self.old.reading }
-        ensures writes { WritesText W.written W.broken writer.old writer.new (answer_text answer.now) result }
+        ensures writes { WritesText W.written W.broken writer.old writer.new (connection_answer_text answer.now) result }
         ensures fault { IfErr result (λ f. f ≡ Fault.Write) }
     {
         let mut rest = answer;

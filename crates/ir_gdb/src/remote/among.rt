@@ -40,7 +40,9 @@ impl Remote {
     ) -> Result<(), AllocError>
         requires cut { IsCutOf self.old.stub.desk.fitted cut }
         requires thread { thread < threads_of self.old.stub.desk.fitted }
-        ensures ok { OnOk result ((h : Halt) × EachRun self.old.stub.desk.fitted (λ run. MetBy true run self.old.stub direction cut (halt thread cut reason) h) × (self.new.stub ≡ all_at_stop self.old.stub h)) }
+        ensures ok { OnOk result
+            ((h : Halt) × EachRun self.old.stub.desk.fitted (λ run. MetBy true run self.old.stub direction cut (halt thread cut reason) h)
+            × (self.new.stub ≡ all_at_stop self.old.stub h)) }
         ensures err { OnErr result (self.new.stub ≡ stub_spoken self.old.stub) }
     {
         let each = self.stops(hands, thread, direction)?;

@@ -16,7 +16,7 @@ use ir_stream::{DeviceErr, Sink};
 
 impl Remote {
     // Carries out what a line asks, if it has words.
-    #[tactic(auto, using(crate::proofs::Stubs::stub_with_other_desk_is_stub))]
+    #[tactic(auto, using(crate::proofs::Stubs::stub_with_other_desk))]
     fn consult<H: Hands>(
         &mut self,
         hands: &H,

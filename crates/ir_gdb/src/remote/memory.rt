@@ -4,10 +4,10 @@ ghost use Rattle.std.specs.Prelude.{◌≡◌, ◌≤◌, ◌<◌, Some, slice_i
 ghost use Rattle.ir_image.specs.Guest.{most_object_words, word_at_pc};
 ghost use Rattle.ir_mach.specs.Core.{memory_size};
 ghost use Rattle.ir_mach.specs.Execution.{byte_at};
-ghost use Rattle.ir_mach.specs.Within.{byte_of};
+ghost use Rattle.ir_mach.specs.Within.{byte_in_word};
 ghost use Rattle.ir_cut.specs.Positions.{EachRun};
 ghost use Rattle.ir_gdb.specs.Reads.{word_byte, object_byte, byte_seen, bytes_there, most_read_bytes};
-ghost use Rattle.ir_gdb.specs.Serving.{IsThere};
+ghost use Rattle.ir_gdb.specs.Serving.{IsRemoteThere};
 
 use crate::remote::Remote;
 use arrayvec::ArrayVec;
@@ -20,7 +20,7 @@ pub const MOST_READ: usize = 2000;
 // A byte of a word, from its lowest up.
 fn byte_of(word: u32, place: u32) -> u8
     requires { place < 4 }
-    ensures { result ≡ byte_of word place }
+    ensures { result ≡ byte_in_word word place }
 {
     word.to_le_bytes()[place as usize]
 }
@@ -63,10 +63,10 @@ fn object_byte(contents: &[u32], words: usize, place: u32) -> u8
 }
 
 impl Remote {
-    #[tactic(auto, using(crate::proofs::Seen::no_object_byte_behind_objects, crate::proofs::Seen::object_byte_is_byte_of_object_in_hand, crate::proofs::Seen::guest_object_is_below_number_of_objects_in_hand))]
+    #[tactic(auto, using(crate::proofs::Seen::no_object_byte_past, crate::proofs::Seen::object_byte_in_hand, crate::proofs::Seen::guest_object_is_in_hand))]
     // The byte of the objects at an address from their start on.
     fn object_byte(&self, offset: u32) -> Option<u8>
-        requires { IsThere self.now }
+        requires { IsRemoteThere self.now }
         ensures { EachRun self.now.stub.desk.fitted (λ run. result ≡ object_byte run self.now.stub offset) }
     {
         let image = self.debugger.fitted().image();
@@ -84,7 +84,7 @@ impl Remote {
 
     // The byte that the general thread has at an address.
     fn byte(&self, address: u32) -> Option<u8>
-        requires { IsThere self.now }
+        requires { IsRemoteThere self.now }
         ensures { EachRun self.now.stub.desk.fitted (λ run. result ≡ byte_seen run self.now.stub address) }
     {
         if address >= OBJECTS_START {
@@ -94,10 +94,10 @@ impl Remote {
         byte_at(code, self.general_thread().mach().memory(), address)
     }
 
-    #[tactic(auto, using(crate::proofs::Bytes::bytes_there_of_no_count, crate::proofs::Bytes::bytes_there_step, crate::proofs::Bytes::bytes_there_end_at_missing_byte, crate::proofs::Seen::no_byte_seen_at_high_address))]
+    #[tactic(auto, using(crate::proofs::Bytes::bytes_there_of_no_count, crate::proofs::Bytes::bytes_there_step, crate::proofs::Bytes::bytes_end_at_missing, crate::proofs::Seen::no_byte_at_high))]
     // The bytes from an address on, as many as there are, at most this number and `MOST_READ`.
     pub fn bytes_here(&self, address: u32, size: u32) -> ArrayVec<u8, MOST_READ>
-        requires { IsThere self.now }
+        requires { IsRemoteThere self.now }
         ensures { EachRun self.now.stub.desk.fitted (λ run. result.items ≡ bytes_there (byte_seen run self.now.stub) (min size most_read_bytes) address) }
     {
         let mut bytes = ArrayVec::new();

@@ -4,7 +4,7 @@ ghost use Rattle.std.specs.Prelude.{◌≡◌, ◌<◌, ◌≤◌, ◌+◌, ◌+
 ghost use Rattle.ir_cut.specs.Positions.{EachRun, threads_of};
 ghost use Rattle.ir_timeline.specs.Hand.{IsCutOf};
 ghost use Rattle.ir_gdb.specs.Reads.{thread_of_id};
-ghost use Rattle.ir_gdb.specs.Serving.{IsThere};
+ghost use Rattle.ir_gdb.specs.Serving.{IsRemoteThere};
 ghost use Rattle.ir_gdb.specs.Stub.{Stub, stub_spoken};
 ghost use Rattle.ir_gdb.specs.Stops.{direction_of};
 ghost use Rattle.ir_gdb.specs.Together.{Halt, halt, MovesAlone};
@@ -50,7 +50,7 @@ fn stop_with(told: Told, mach: &Mach) -> Stop
 impl Remote {
     // Puts the last stop at the end.
     fn put_told(&self, out: &mut Vec<u8>)
-        requires there { IsThere self.now }
+        requires there { IsRemoteThere self.now }
         requires room { vec_len out.old + 96 ≤ vec_capacity out.old }
         ensures bytes { EachRun self.now.stub.desk.fitted (λ run. out.new.items ≡ out.old.items ++ told_text run self.now.stub) }
         ensures capacity { vec_capacity out.new ≡ vec_capacity out.old }
@@ -178,7 +178,7 @@ impl Remote {
     fn stay<H: Hands>(&mut self, hands: &H, thread: u32) -> Result<(), AllocError>
         requires { thread < threads_of self.old.stub.desk.fitted }
         ensures ok { OnOk result (self.new.stub ≡ after_told self.old.stub (interrupted_at thread)) }
-        ensures there { OnOk result (IsThere self.new) }
+        ensures there { OnOk result (IsRemoteThere self.new) }
         ensures err { OnErr result (self.new.stub ≡ stub_spoken self.old.stub) }
     {
         let Ok(_) = self.be_here(hands) else {
@@ -211,7 +211,9 @@ impl Remote {
     // A thread moves, and gdb is told where it stops, or of the bad end to which the move has come.
     fn arrive<H: Hands>(&mut self, hands: &H, who: Moving, motion: Motion) -> Result<(), AllocError>
         requires { who.thread < threads_of self.old.stub.desk.fitted }
-        ensures ok { OnOk result ((h : Halt) × EachRun self.old.stub.desk.fitted (λ run. MotionLeads run self.old.stub who.among who.thread motion h) × (self.new.stub ≡ arrived self.old.stub who.among h)) }
+        ensures ok { OnOk result
+            ((h : Halt) × EachRun self.old.stub.desk.fitted (λ run. MotionLeads run self.old.stub who.among who.thread motion h)
+            × (self.new.stub ≡ arrived self.old.stub who.among h)) }
         ensures err { OnErr result (self.new.stub ≡ stub_spoken self.old.stub) }
     {
         let Ok(from) = self.here() else {
@@ -245,7 +247,11 @@ impl Remote {
     ) -> Result<(), AllocError>
         requires room { vec_len out.old + 96 ≤ vec_capacity out.old }
         requires thread { who.thread < threads_of self.old.stub.desk.fitted }
-        ensures ok { OnOk result ((after : Stub) × EachRun self.old.stub.desk.fitted (λ run. Moves run self.old.stub who motion after × (out.new.items ≡ out.old.items ++ told_text run after)) × (self.new.stub ≡ after)) }
+        ensures ok { OnOk result
+            ((after : Stub)
+            × EachRun self.old.stub.desk.fitted
+            (λ run. Moves run self.old.stub who motion after × (out.new.items ≡ out.old.items ++ told_text run after))
+            × (self.new.stub ≡ after)) }
         ensures err { OnErr result ((self.new.stub ≡ stub_spoken self.old.stub) × (out.new.items ≡ out.old.items)) }
         ensures capacity { vec_capacity out.new ≡ vec_capacity out.old }
     {
@@ -273,7 +279,11 @@ impl Remote {
         out: &mut Vec<u8>,
     ) -> Result<(), AllocError>
         requires { vec_len out.old + 96 ≤ vec_capacity out.old }
-        ensures ok { OnOk result ((text : List ℕ) × EachRun self.old.stub.desk.fitted (λ run. RepliesToMove (moving_of self.old.stub mover) run self.old.stub motion text self.new.stub) × (out.new.items ≡ out.old.items ++ text)) }
+        ensures ok { OnOk result
+            ((text : List ℕ)
+            × EachRun self.old.stub.desk.fitted
+            (λ run. RepliesToMove (moving_of self.old.stub mover) run self.old.stub motion text self.new.stub)
+            × (out.new.items ≡ out.old.items ++ text)) }
         ensures err { OnErr result ((self.new.stub ≡ stub_spoken self.old.stub) × (out.new.items ≡ out.old.items)) }
         ensures capacity { vec_capacity out.new ≡ vec_capacity out.old }
     {

@@ -2,7 +2,8 @@
 
 ghost use Rattle.std.specs.Prelude.{◌≡◌};
 ghost use Rattle.ir_mach.specs.Execution.{lies_in_memory};
-ghost use Rattle.ir_gdb.specs.Setting.{is_code_word, lies_in_objects, can_watch, room_setting, break_setting, watch_setting, setting_reply, with_break, with_watch, clear_break_reply, clear_watch_reply, without_break, without_watch};
+ghost use Rattle.ir_gdb.specs.Setting.{is_code_word, lies_in_objects, can_watch, room_setting, break_setting, watch_setting, setting_reply};
+ghost use Rattle.ir_gdb.specs.Setting.{with_break, with_watch, clear_break_reply, clear_watch_reply, without_break, without_watch};
 
 use crate::holders::{has_break, has_watch};
 use crate::point::{Breakpoint, Setting, Watched};
@@ -95,7 +96,7 @@ impl Remote {
         self.setting(has_watch(self.watches.as_slice(), watched))
     }
 
-    #[tactic(auto, using(crate::proofs::Setting::stub_with_break_is_stub_if_points_have_room))]
+    #[tactic(auto, using(crate::proofs::Setting::stub_with_break_is_stub))]
     /// `Z0`, `Z1`: sets a breakpoint of all threads.
     pub fn set_break(&mut self, point: Breakpoint) -> Reply
         ensures reply { result ≡ setting_reply (break_setting self.old.stub point) }
@@ -121,7 +122,7 @@ impl Remote {
         Reply::Done
     }
 
-    #[tactic(auto, using(crate::proofs::Setting::stub_with_watch_is_stub_if_room_and_can_watch))]
+    #[tactic(auto, using(crate::proofs::Setting::stub_with_watch_is_stub))]
     /// `Z2`: sets a watch of the words in which bytes lie.
     pub fn set_watch(&mut self, watched: Watched) -> Reply
         ensures reply { result ≡ setting_reply (watch_setting self.old.stub watched) }

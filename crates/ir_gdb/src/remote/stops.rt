@@ -21,7 +21,7 @@ use std::alloc::{AllocError, Global};
 
 impl Remote {
     // The watches that count for a thread: all for the one that moves, and those of the objects for another.
-    #[tactic(auto, using(crate::proofs::Setting::shared_watches_are_watched))]
+    #[tactic(auto, using(crate::proofs::Setting::shared_are_watched))]
     fn watches_if(&self, watched: bool) -> &[Watched]
         ensures value { result.now ≡ watches_if self.now.stub watched }
         ensures watched { AllByRecursion IsWatched result.now }

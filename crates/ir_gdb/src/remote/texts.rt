@@ -51,7 +51,7 @@ impl Remote {
     }
 
     // The list of threads.
-    #[tactic(auto, using(ir_image::proofs::CallerLemmas::guest_threads_at_most_limit, crate::proofs::Threads::first_threads_text_put_at_start, crate::proofs::Threads::first_threads_text_put_step, crate::proofs::Threads::append_of_three_put_texts))]
+    #[tactic(auto, using(ir_image::proofs::CallerLemmas::guest_threads_within, crate::proofs::Threads::text_put_start, crate::proofs::Threads::text_put_step, crate::proofs::Threads::append_3_texts))]
     fn thread_list(&self, alloc: Global) -> Result<Vec<u8>, AllocError>
         ensures text { IfOk result (λ list. list.items ≡ thread_list_text self.now.stub) }
         ensures len { IfOk result (λ list. vec_len list ≤ 2400) }

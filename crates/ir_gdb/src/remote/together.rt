@@ -15,7 +15,7 @@ use std::alloc::{AllocError, Global};
 
 impl Remote {
     // How many threads there are.
-    #[tactic(auto, using(ir_image::proofs::CallerLemmas::guest_threads_at_most_limit))]
+    #[tactic(auto, using(ir_image::proofs::CallerLemmas::guest_threads_within))]
     pub(crate) fn count(&self) -> u32
         ensures value { result ≡ threads_of self.now.stub.desk.fitted }
         ensures few { result ≤ 16 }
@@ -84,7 +84,7 @@ impl Remote {
     }
 
     // Whether no other thread than this one has a hit on its way to a cut.
-    #[tactic(auto, using(crate::proofs::Together::is_free_of_no_threads, crate::proofs::Together::is_free_if_next_passes, crate::proofs::Together::not_free_if_thread_does_not_pass))]
+    #[tactic(auto, using(crate::proofs::Together::is_free_of_no_threads, crate::proofs::Together::is_free_if_next_passes, crate::proofs::Together::not_free_by_one))]
     fn is_free(&self, direction: Direction, each: &[Stopped], cut: &Cut, thread: u32) -> bool
         requires count { length each.now ≡ threads_of self.now.stub.desk.fitted }
         requires cut { length cut.now ≡ threads_of self.now.stub.desk.fitted }
@@ -112,7 +112,7 @@ impl Remote {
     }
 
     // Whether another thread than this one isn't where it is in a cut.
-    #[tactic(auto, using(crate::proofs::Together::moves_other_of_no_threads, crate::proofs::Together::moves_other_false_step, crate::proofs::Together::moves_other_if_thread_moves))]
+    #[tactic(auto, using(crate::proofs::Together::moves_other_nobody, crate::proofs::Together::moves_other_false_step, crate::proofs::Together::moves_other_by_one))]
     pub fn moves_other(&self, cut: &Cut, thread: u32) -> bool
         requires { length cut.now ≡ threads_of self.now.stub.desk.fitted }
         ensures { result ≡ moves_other self.now.stub cut.now thread (threads_of self.now.stub.desk.fitted) }

@@ -4,7 +4,7 @@ ghost use Rattle.std.specs.Prelude.{◌≡◌, ◌≤◌, length, map, vec_len, 
 ghost use Rattle.std.specs.List.{AllByRecursion};
 ghost use Rattle.ir_image.specs.Guest.{limits_of};
 ghost use Rattle.ir_thread.specs.State.{largest, most_budget};
-ghost use Rattle.ir_record.specs.Threads.{IsEmptyFor, AreOutputBuffers, HasRoom, IsOver, AreTraces, IsSeatOf, views_of};
+ghost use Rattle.ir_record.specs.Threads.{IsEmptyFor, AreOutputBuffers, HasRoomForThread, IsOver, AreTraces, IsSeatOf, views_of};
 
 use crate::by_threads::buffers::Buffers;
 use crate::by_threads::worker::Worker;
@@ -28,7 +28,7 @@ fn output_buffers(alloc: Global, count: usize) -> Result<Vec<Vec<u8>>, AllocErro
 
 // Buffers for what `count` workers hand back.
 pub fn new_buffers<W: Drop>(alloc: Global, count: usize) -> Result<Buffers<W>, AllocError>
-    ensures { IfOk result (HasRoom count) }
+    ensures { IfOk result (HasRoomForThread count) }
 {
     Ok(Buffers {
         seats: Vec::with_capacity(alloc, count)?,
@@ -41,7 +41,7 @@ pub fn new_buffers<W: Drop>(alloc: Global, count: usize) -> Result<Buffers<W>, A
 
 // The worlds of the workers.
 pub fn worlds_of<W: Drop>(buffers: Buffers<W>, workers: Vec<Worker<W>>) -> Vec<W>
-    requires { HasRoom (vec_len workers) buffers }
+    requires { HasRoomForThread (vec_len workers) buffers }
     ensures { result.items ≡ map (λ w. w.world) workers.items }
 {
     let mut worlds = buffers.worlds;
@@ -68,7 +68,7 @@ pub fn gathered<W: Drop>(
     profile: Profile,
     workers: Vec<Worker<W>>,
 ) -> (Vec<CrewSeat>, Trace, Outputs<W>)
-    requires buffers { HasRoom (vec_len workers) buffers }
+    requires buffers { HasRoomForThread (vec_len workers) buffers }
     requires over { AllByRecursion (IsOver profile objects) workers.items }
     requires some { 1 ≤ vec_len workers }
     requires few { vec_len workers ≤ (limits_of (largest profile)).threads }

@@ -5,7 +5,7 @@ ghost use Rattle.ir_thread.specs.State.{ask_of};
 ghost use Rattle.ir_runs.specs.declared.access.Access.TheVariants.{Reading, Writing};
 ghost use Rattle.ir_runs.specs.declared.env_kind.EnvKind.{EnvKind};
 ghost use Rattle.ir_thread.specs.declared.ask.Ask.TheVariants as ask;
-ghost use Rattle.ir_record.specs.Working.{IsAtWork, StaysAtWork, IsStopped, IsReadyWorker, RanToEnd, TouchesNothing, IsInside, IsOutside, own_steps_left};
+ghost use Rattle.ir_record.specs.Working.{IsAtWork, StaysAtWork, IsStoppedWorker, IsReadyWorker, RanToEnd, TouchesNothing, IsInsideWork, IsOutside, own_steps_left};
 
 use crate::by_threads::worker::Worker;
 use crate::world::{World, WorldErr};
@@ -172,7 +172,7 @@ impl<W: World> Worker<W> {
         ensures stays { OnOk result (StaysAtWork W.answers crew.now self.old self.new) }
         ensures fewer { OnOk result (own_steps_left self.new.thread < own_steps_left self.old.thread) }
         ensures works { OnOk result (W.broken self.new.world ≡ false) }
-        ensures stopped { OnErr result (IsStopped W.answers W.broken code.now self.old self.new) }
+        ensures stopped { OnErr result (IsStoppedWorker W.answers W.broken code.now self.old self.new) }
         ensures world { W.origin self.new.world ≡ W.origin self.old.world }
     {
         match self.world.answer(kind) {
@@ -218,7 +218,7 @@ impl<W: World> Worker<W> {
     // It leaves all that its thread holds, the greatest object first.
     fn release_all<G: Gate>(&mut self, crew: &Crew, gate: &G)
         requires seat { self.old.seat.table_id ≡ crew.now.table.shared.table_id }
-        requires worker { IsInside crew.now.table.shared.key self.old.seat.me self.old.thread }
+        requires worker { IsInsideWork crew.now.table.shared.key self.old.seat.me self.old.thread }
         ensures world { self.new.world ≡ self.old.world }
         ensures released { IsOutside self.old.seat.table_id self.new.seat }
     {

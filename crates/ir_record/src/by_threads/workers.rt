@@ -2,7 +2,7 @@
 
 ghost use Rattle.std.specs.Prelude.{◌≡◌, ◌<◌, ◌≤◌, ℕ, length, map, slice_index_or, vec_len, IfOk, IfSome, None};
 ghost use Rattle.ir_thread.specs.State.{most_budget};
-ghost use Rattle.ir_crew.specs.Ends.{AreSeats};
+ghost use Rattle.ir_crew.specs.Ends.{AreCrewSeats};
 ghost use Rattle.ir_record.specs.Threads.{AreNew};
 ghost use Rattle.std.specs.List.{AllZip};
 ghost use Rattle.ir_record.specs.Working.{AreReady, RanToEnd};
@@ -33,7 +33,7 @@ pub fn new_workers<W: Drop>(
     requires budget { budget ≤ most_budget }
     requires each { vec_len worlds ≡ length image.now.entries }
     requires seats { length seats.items ≡ length image.now.entries }
-    ensures new { IfOk result (λ v. (id : _) → AreSeats id 0 seats.items → AreNew image.now budget profile id 0 v.items) }
+    ensures new { IfOk result (λ v. (id : _) → AreCrewSeats id 0 seats.items → AreNew image.now budget profile id 0 v.items) }
     ensures worlds { IfOk result (λ v. map (λ w. w.world) v.items ≡ worlds.items) }
 {
     let mut made = Vec::with_capacity(alloc, worlds.len())?;

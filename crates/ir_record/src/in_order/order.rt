@@ -2,7 +2,7 @@
 
 ghost use Rattle.std.specs.Prelude.{replicate, true, OnOk, IfErr};
 ghost use Rattle.ir_flat.specs.Flat.{tables};
-ghost use Rattle.ir_record.specs.Progress.{Took, TookTurns};
+ghost use Rattle.ir_record.specs.Progress.{TookSteps, TookTurns};
 ghost use Rattle.ir_record.specs.Recorders.{progress_of, CanContinue, StopsIn, StopsInTurns, StaysReady};
 ghost use Rattle.ir_record.specs.Recording.{turns_of_items};
 
@@ -15,7 +15,7 @@ impl<W: World> Recorder<'_, W> {
     // `count` turns of thread t; none of them is a step if there is no such thread.
     fn turns(&mut self, t: usize, count: u64) -> Result<(), Failed>
         requires { CanContinue W.answers W.broken self.old }
-        ensures took { OnOk result (Took (replicate count t) (progress_of W.answers self.old) (progress_of W.answers self.new)) }
+        ensures took { OnOk result (TookSteps (replicate count t) (progress_of W.answers self.old) (progress_of W.answers self.new)) }
         ensures stopped { IfErr result (StopsIn W.answers (replicate count t) (tables self.old.guest.flat) self.old self.new.worlds.items) }
         ensures stays { StaysReady W.answers W.broken W.origin self.old self.new result }
     {

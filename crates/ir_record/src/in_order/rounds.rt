@@ -5,9 +5,9 @@ ghost use Rattle.std.specs.List.{range_with_len};
 ghost use Rattle.ir_thread.specs.State as thread;
 ghost use Rattle.ir_flat.specs.Flat.{tables, machine};
 ghost use Rattle.ir_runs.specs.Run.{State, rounds, HasNone};
-ghost use Rattle.ir_record.specs.Ahead.{lead, IsAhead, CanSkip, AreAsks, HasPlaces, WentIf};
-ghost use Rattle.ir_record.specs.RoundResults.{has_moved, IsTurn};
-ghost use Rattle.ir_record.specs.Progress.{Took};
+ghost use Rattle.ir_record.specs.Ahead.{lead_of_thread, IsThreadAhead, CanSkip, AreAsks, HasPlaces, WentIf};
+ghost use Rattle.ir_record.specs.RoundResults.{has_moved, IsRoundTurn};
+ghost use Rattle.ir_record.specs.Progress.{TookSteps};
 ghost use Rattle.ir_record.specs.Recorders.{progress_of, CanContinue, StopsIn, StaysReady};
 
 use crate::in_order::recorder::Recorder;
@@ -19,7 +19,7 @@ use ir_thread::Ask;
 // Every thread is `by` fewer steps ahead, or no longer ahead if it wasn't ahead by more.
 fn lower(ahead: &mut Vec<u64>, by: u64)
     ensures size { length ahead.new.items ≡ length ahead.old.items }
-    ensures each { (t : ℕ) → t < length ahead.old.items → lead ahead.new.items t ≡ lead ahead.old.items t - by }
+    ensures each { (t : ℕ) → t < length ahead.old.items → lead_of_thread ahead.new.items t ≡ lead_of_thread ahead.old.items t - by }
 {
     if by == 0 {
         return;
@@ -52,10 +52,17 @@ impl<W: World> Recorder<'_, W> {
         requires ready { CanContinue W.answers W.broken self.old }
         requires places { HasPlaces ahead.old.items asks.old.items self.old.guest.flat }
         requires thread { t < length self.old.guest.flat.threads }
-        ensures went { IfOk result (λ outcome. (s : State thread.ThreadState) → IsAhead (machine self.old.guest.flat) ahead.old.items s (tables self.old.guest.flat) → WentIf (has_moved outcome) (t ∷ []) s (progress_of W.answers self.old) ahead.old.items (progress_of W.answers self.new) ahead.new.items) }
-        ensures turn { IfOk result (λ outcome. IsTurn outcome t ahead.old.items ahead.new.items self.old.guest.flat self.new.guest.flat) }
+        ensures went { IfOk result
+            (λ outcome. (s : State thread.ThreadState)
+            → IsThreadAhead (machine self.old.guest.flat) ahead.old.items s (tables self.old.guest.flat)
+            → WentIf (has_moved outcome) (t ∷ []) s (progress_of W.answers self.old) ahead.old.items (progress_of W.answers self.new)
+            ahead.new.items) }
+        ensures turn { IfOk result (λ outcome. IsRoundTurn outcome t ahead.old.items ahead.new.items self.old.guest.flat self.new.guest.flat) }
         ensures places { OnOk result (HasPlaces ahead.new.items asks.new.items self.new.guest.flat) }
-        ensures stopped { IfErr result (λ f. (s : State thread.ThreadState) → IsAhead (machine self.old.guest.flat) ahead.old.items s (tables self.old.guest.flat) → StopsIn W.answers (t ∷ []) s self.old self.new.worlds.items f) }
+        ensures stopped { IfErr result
+            (λ f. (s : State thread.ThreadState)
+            → IsThreadAhead (machine self.old.guest.flat) ahead.old.items s (tables self.old.guest.flat)
+            → StopsIn W.answers (t ∷ []) s self.old self.new.worlds.items f) }
         ensures stays { StaysReady W.answers W.broken W.origin self.old self.new result }
     {
         let lead = ahead[t];
@@ -76,10 +83,17 @@ impl<W: World> Recorder<'_, W> {
     fn round(&mut self, ahead: &mut Vec<u64>, asks: &mut Vec<Ask>) -> Result<RoundResult, Failed>
         requires ready { CanContinue W.answers W.broken self.old }
         requires places { HasPlaces ahead.old.items asks.old.items self.old.guest.flat }
-        ensures went { IfOk result (λ round. (s : State thread.ThreadState) → IsAhead (machine self.old.guest.flat) ahead.old.items s (tables self.old.guest.flat) → WentIf round.moved (range_with_len 0 (length self.old.guest.flat.threads)) s (progress_of W.answers self.old) ahead.old.items (progress_of W.answers self.new) ahead.new.items) }
+        ensures went { IfOk result
+            (λ round. (s : State thread.ThreadState)
+            → IsThreadAhead (machine self.old.guest.flat) ahead.old.items s (tables self.old.guest.flat)
+            → WentIf round.moved (range_with_len 0 (length self.old.guest.flat.threads)) s (progress_of W.answers self.old)
+            ahead.old.items (progress_of W.answers self.new) ahead.new.items) }
         ensures free { IfOk result (λ round. CanSkip (machine self.new.guest.flat) (length self.new.guest.flat.threads) round.free ahead.new.items (tables self.new.guest.flat)) }
         ensures places { OnOk result (HasPlaces ahead.new.items asks.new.items self.new.guest.flat) }
-        ensures stopped { IfErr result (λ f. (s : State thread.ThreadState) → IsAhead (machine self.old.guest.flat) ahead.old.items s (tables self.old.guest.flat) → StopsIn W.answers (range_with_len 0 (length self.old.guest.flat.threads)) s self.old self.new.worlds.items f) }
+        ensures stopped { IfErr result
+            (λ f. (s : State thread.ThreadState)
+            → IsThreadAhead (machine self.old.guest.flat) ahead.old.items s (tables self.old.guest.flat)
+            → StopsIn W.answers (range_with_len 0 (length self.old.guest.flat.threads)) s self.old self.new.worlds.items f) }
         ensures stays { StaysReady W.answers W.broken W.origin self.old self.new result }
     {
         let mut round = RoundResult::new();
@@ -96,7 +110,7 @@ impl<W: World> Recorder<'_, W> {
         requires ready { CanContinue W.answers W.broken self.old }
         requires level { ahead.old.items ≡ replicate (length self.old.guest.flat.threads) 0 }
         requires asks { length asks.old.items ≡ length self.old.guest.flat.threads }
-        ensures took { OnOk result ((count : ℕ) × Took (rounds (length self.old.guest.flat.threads) count) (progress_of W.answers self.old) (progress_of W.answers self.new)) }
+        ensures took { OnOk result ((count : ℕ) × TookSteps (rounds (length self.old.guest.flat.threads) count) (progress_of W.answers self.old) (progress_of W.answers self.new)) }
         ensures over { OnOk result ((t : ℕ) → t < length self.new.guest.flat.threads → HasNone (machine self.new.guest.flat) (tables self.new.guest.flat) t) }
         ensures stopped { IfErr result (λ f. (count : ℕ) × StopsIn W.answers (rounds (length self.old.guest.flat.threads) count) (tables self.old.guest.flat) self.old self.new.worlds.items f) }
         ensures stays { StaysReady W.answers W.broken W.origin self.old self.new result }

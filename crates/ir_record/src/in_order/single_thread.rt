@@ -4,7 +4,7 @@ ghost use Rattle.std.specs.Prelude.{◌≡◌, ◌<◌, ℕ, [], ◌∷◌, fals
 ghost use Rattle.ir_thread.specs.State.{ask_of};
 ghost use Rattle.ir_flat.specs.Flat.{IsFlat, thread_of, tables, machine};
 ghost use Rattle.ir_runs.specs.Run.{HasNone};
-ghost use Rattle.ir_record.specs.Progress.{Took, TookIf};
+ghost use Rattle.ir_record.specs.Progress.{TookSteps, TookIf};
 ghost use Rattle.ir_record.specs.Recorders.{progress_of, CanContinue, StopsAtOnce, StopsIn, StaysReady};
 
 use crate::in_order::recorder::Recorder;
@@ -38,7 +38,7 @@ impl<W: World> Recorder<'_, W> {
     pub fn turns_alone(&mut self) -> Result<(), Failed>
         requires ready { CanContinue W.answers W.broken self.old }
         requires one { length self.old.guest.flat.threads ≡ 1 }
-        ensures took { OnOk result ((count : ℕ) × Took (replicate count 0) (progress_of W.answers self.old) (progress_of W.answers self.new)) }
+        ensures took { OnOk result ((count : ℕ) × TookSteps (replicate count 0) (progress_of W.answers self.old) (progress_of W.answers self.new)) }
         ensures over { OnOk result (HasNone (machine self.new.guest.flat) (tables self.new.guest.flat) 0) }
         ensures stopped { IfErr result (λ f. (count : ℕ) × StopsIn W.answers (replicate count 0) (tables self.old.guest.flat) self.old self.new.worlds.items f) }
         ensures stays { StaysReady W.answers W.broken W.origin self.old self.new result }

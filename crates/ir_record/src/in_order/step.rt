@@ -11,7 +11,7 @@ ghost use Rattle.ir_log.specs.Logging.{label_of};
 ghost use Rattle.ir_runs.specs.Machine.{emitted};
 ghost use Rattle.ir_runs.specs.Machine as act;
 ghost use Rattle.ir_trace.specs.Bounds.{IsEvent};
-ghost use Rattle.ir_record.specs.Progress.{progress, Took, TookIf, TookTurns, HasLogs, IsQuiet};
+ghost use Rattle.ir_record.specs.Progress.{progress, TookSteps, TookIf, TookTurns, HasLogs, IsQuiet};
 ghost use Rattle.ir_record.specs.Worlds.{answers_at, AnsweredCall};
 
 use crate::in_order::logged_guest::LoggedGuest;
@@ -144,7 +144,7 @@ impl LoggedGuest<'_> {
         ensures still_flat { IsFlat self.new.flat }
         ensures alone { WentAlone self.old.flat self.new.flat t result.0 }
         ensures logs { self.new.logs ≡ self.old.logs }
-        ensures took { (answers : List (List AnsweredCall)) → Took (replicate result.0 t) (progress self.old answers) (progress self.new answers) }
+        ensures took { (answers : List (List AnsweredCall)) → TookSteps (replicate result.0 t) (progress self.old answers) (progress self.new answers) }
         ensures has_logs { HasLogs self.new.flat self.new.logs.items }
     {
         self.flat.run_to_ask(t, limit)

@@ -3,7 +3,7 @@
 ghost use Rattle.std.specs.Prelude.{◌≡◌, ◌<◌, [], length, map, true, false, IfOk};
 ghost use Rattle.ir_mach.specs.Core.{memory_size};
 ghost use Rattle.ir_mach.specs.Pages.{ArePages, memory_pages, page_of, page_size, pages_of};
-ghost use Rattle.ir_thread.specs.Frames.{frame_of, thread_of};
+ghost use Rattle.ir_thread.specs.Frames.{frame_of, framed_thread};
 
 use crate::frame::Frame;
 use crate::holding::roomy;
@@ -93,7 +93,7 @@ impl Thread {
 
     // The thread of this frame on this machine, with room for all that it may print.
     fn on_machine(alloc: Global, frame: &Frame, mach: Mach) -> Result<Thread, AllocError>
-        ensures { IfOk result (λ thread. thread ≡ record (thread_of frame.now []) { core = mach }) }
+        ensures { IfOk result (λ thread. thread ≡ record (framed_thread frame.now []) { core = mach }) }
     {
         let mut output = Vec::with_capacity(alloc, MOST_OUTPUT)?;
         output.extend_from_slice(frame.output.as_slice())?;
@@ -117,7 +117,7 @@ impl Thread {
     /// Out of memory.
     pub fn with_memory(alloc: Global, frame: &Frame, memory: Vec<u8>) -> Result<Thread, AllocError>
         requires { length memory.items ≡ memory_size }
-        ensures { IfOk result (λ thread. thread ≡ thread_of frame.now (pages_of memory.items)) }
+        ensures { IfOk result (λ thread. thread ≡ framed_thread frame.now (pages_of memory.items)) }
     {
         Thread::on_machine(alloc, frame, Mach::with_memory(&frame.regs, memory))
     }
@@ -128,7 +128,7 @@ impl Thread {
     /// Out of memory.
     pub fn build(alloc: Global, frame: &Frame, pages: &[&[u8]]) -> Result<Thread, AllocError>
         requires { ArePages (map (λ page. page.now) pages.now) }
-        ensures { IfOk result (λ thread. thread ≡ thread_of frame.now (map (λ page. page.now) pages.now)) }
+        ensures { IfOk result (λ thread. thread ≡ framed_thread frame.now (map (λ page. page.now) pages.now)) }
     {
         Thread::with_memory(alloc, frame, joined(alloc, pages)?)
     }

@@ -119,7 +119,7 @@ impl Thread {
     }
 
     // An end: it is a step, and changes nothing else.
-    #[tactic(auto, using(crate::proofs::Highest::held_count_at_most_length))]
+    #[tactic(auto, using(crate::proofs::Highest::held_count_le_length))]
     fn finish(&mut self, end: End)
         requires { self.old.ended ≡ None }
         ensures { self.new ≡ record self.old { steps = self.old.steps + 1; ended = Some end } }

@@ -1,5 +1,5 @@
-use Rattle.ir_asm.proofs.PlacingLaws.{assembled_lines_fault_is_first_fault}
+use Rattle.ir_asm.proofs.PlacingLaws.{assembled_fault_first}
 use Rattle.ir_asm.proofs.laws.second_fault.Goals as goal
 
 pub returns-clause-exact : goal.returns-clause-exact
-returns-clause-exact c = assembled_lines_fault_is_first_fault
+returns-clause-exact c = assembled_fault_first

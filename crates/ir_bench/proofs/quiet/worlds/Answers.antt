@@ -1,11 +1,11 @@
 use Rattle.std.proofs.Common.{refl}
-use Rattle.ir_record.proofs.CallerLemmas.{none_failed_after_unbroken_world_is_appended, length_of_append_one_is_one_more}
+use Rattle.ir_record.proofs.CallerLemmas.{none_failed_push, length_of_push}
 use Rattle.ir_bench.proofs.quiet.worlds.Goals as goal
 
 pub loop-number-preserved : goal.loop-number-preserved
 loop-number-preserved c = record {
-  count = length_of_append_one_is_one_more c.loop-number.worlds.items c.push.new.self.items _ c.loop-number.number c.loop-number.invariant.count
+  count = length_of_push c.loop-number.worlds.items c.push.new.self.items _ c.loop-number.number c.loop-number.invariant.count
       c.in_ok-push.ensures.items;
-  works = none_failed_after_unbroken_world_is_appended (λ w. w.failed) c.loop-number.worlds.items c.push.new.self.items _ c.loop-number.invariant.works
+  works = none_failed_push (λ w. w.failed) c.loop-number.worlds.items c.push.new.self.items _ c.loop-number.invariant.works
       c.in_ok-push.ensures.items refl;
 }

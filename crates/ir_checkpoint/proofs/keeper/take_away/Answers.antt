@@ -1,9 +1,9 @@
-use Rattle.ir_checkpoint.proofs.Calls.{page_counts_of_neighbours_equal, taken_away_by_take_over}
+use Rattle.ir_checkpoint.proofs.Calls.{neighbour_page_counts, taken_away_by_take_over}
 use Rattle.ir_checkpoint.proofs.keeper.take_away.Goals as goal
 
 pub take_over-requires : goal.take_over-requires
 take_over-requires c =
-    page_counts_of_neighbours_equal c.requires.each.0 c.args.place c.args.entries.now.items c.remove-gone.new.self.items c.index_mut-newer.result.now c.remove-gone.result c.requires.each.1
+    neighbour_page_counts c.requires.each.0 c.args.place c.args.entries.now.items c.remove-gone.new.self.items c.index_mut-newer.result.now c.remove-gone.result c.requires.each.1
     c.if-place-gt0.true c.requires.below c.remove-gone.ensures.items c.index_mut-newer.ensures.value c.remove-gone.ensures.value
 
 pub returns-then-place-gt0 : goal.returns-then-place-gt0

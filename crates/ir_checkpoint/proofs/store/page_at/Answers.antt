@@ -1,6 +1,6 @@
 use Rattle.std.proofs.Common.{get_or, None, ap, sym, ◌∙◌}
 use Rattle.ir_checkpoint.specs.Store.{Entry, Page}
-use Rattle.ir_checkpoint.proofs.Laid.{page_in_force_is_own_page_if_there_is_one, page_in_force_is_older_page_if_there_is_no_own}
+use Rattle.ir_checkpoint.proofs.Laid.{in_force_own_page, in_force_older_page}
 use Rattle.ir_checkpoint.proofs.store.page_at.Goals as goal
 
 pub returns-in-Some : goal.returns-in-Some
@@ -9,7 +9,8 @@ returns-in-Some c =
     let i = c.loop-entry.entry-index in
     let d = c.entry-item.result in
     c.bytes.ensures ∙ ap (λ (p : Page). p.bytes)
-    (sym (page_in_force_is_own_page_if_there_is_one entries i c.args.place d _ c.loop-entry-test.true (c.requires i d c.loop-entry-test.true) (ap (λ (e : Entry). get_or e.pages c.args.place None) (sym c.entry-item.is) ∙ c.in-Some.ensures))
+    (sym (in_force_own_page entries i c.args.place d _ c.loop-entry-test.true (c.requires i d c.loop-entry-test.true)
+    (ap (λ (e : Entry). get_or e.pages c.args.place None) (sym c.entry-item.is) ∙ c.in-Some.ensures))
     ∙ c.loop-entry.invariant)
 
 pub loop-entry-preserved : goal.loop-entry-preserved
@@ -17,5 +18,6 @@ loop-entry-preserved c =
     let entries = c.args.entries.now in
     let i = c.loop-entry.entry-index in
     let d = c.entry-item.result in
-    sym (page_in_force_is_older_page_if_there_is_no_own entries i c.args.place d c.loop-entry-test.true (c.requires i d c.loop-entry-test.true) (ap (λ (e : Entry). get_or e.pages c.args.place None) (sym c.entry-item.is) ∙ c.in_default.ensures))
+    sym (in_force_older_page entries i c.args.place d c.loop-entry-test.true (c.requires i d c.loop-entry-test.true)
+    (ap (λ (e : Entry). get_or e.pages c.args.place None) (sym c.entry-item.is) ∙ c.in_default.ensures))
     ∙ c.loop-entry.invariant

@@ -1,6 +1,6 @@
 use Rattle.std.proofs.Common.{◌+◌, ◌*◌, List, ℕ, ◌∙◌, arith, length-set, Bor}
 use Rattle.ir_checkpoint.specs.Store.{in_force}
-use Rattle.ir_checkpoint.proofs.Rebuilt.{length_of_in_force_at_least, filled_pages_of_thread_step, filled_pages_are_all_of_thread_at_end, filled_pages_are_pages}
+use Rattle.ir_checkpoint.proofs.Rebuilt.{length-in_force_le, filled_pages_step, filled_pages_all, filled_pages_are_pages}
 use Rattle.ir_checkpoint.proofs.store.thread_at.Goals as goal
 
 pub loop-i-preserved : goal.loop-i-preserved
@@ -11,13 +11,13 @@ loop-i-preserved c =
     record {
       many = length-set pages c.loop-i.i c.page_at.result ∙ c.loop-i.invariant.many;
       made =
-          filled_pages_of_thread_step (λ (page : Bor (List ℕ)). page.now) pages c.page_at.result force c.loop-i.i t (omega (arith, c.loop-i.invariant.many, c.loop-i-test.true))
-          (length_of_in_force_at_least (16 * t + 16) c.args.entries.now c.requires.some c.requires.fits) c.loop-i-test.true c.page_at.ensures c.loop-i.invariant.made;
+          filled_pages_step (λ (page : Bor (List ℕ)). page.now) pages c.page_at.result force c.loop-i.i t (omega (arith, c.loop-i.invariant.many, c.loop-i-test.true))
+          (length-in_force_le (16 * t + 16) c.args.entries.now c.requires.some c.requires.fits) c.loop-i-test.true c.page_at.ensures c.loop-i.invariant.made;
     }
 
 pub build-requires : goal.build-requires
 build-requires c =
     let force = in_force c.args.entries.now in
     let t = c.args.t in
-    filled_pages_are_pages (λ (page : Bor (List ℕ)). page.now) c.loop-i.pages force t c.requires.full (length_of_in_force_at_least (16 * t + 16) c.args.entries.now c.requires.some c.requires.fits)
-    (filled_pages_are_all_of_thread_at_end (λ (page : Bor (List ℕ)). page.now) c.loop-i.pages force c.loop-i.i t c.loop-i-test.false c.loop-i.auto.i-end c.loop-i.invariant.many c.loop-i.invariant.made)
+    filled_pages_are_pages (λ (page : Bor (List ℕ)). page.now) c.loop-i.pages force t c.requires.full (length-in_force_le (16 * t + 16) c.args.entries.now c.requires.some c.requires.fits)
+    (filled_pages_all (λ (page : Bor (List ℕ)). page.now) c.loop-i.pages force c.loop-i.i t c.loop-i-test.false c.loop-i.auto.i-end c.loop-i.invariant.many c.loop-i.invariant.made)

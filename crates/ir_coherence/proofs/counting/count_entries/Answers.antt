@@ -4,7 +4,7 @@ use Rattle.ir_trace.specs.Recorded.{RecordedThread, recorded_thread}
 use Rattle.ir_trace.specs.Absent.{absent}
 use Rattle.std.specs.List.{AllByRecursion}
 use Rattle.ir_coherence.specs.Counting.{MayStand, HasRoom}
-use Rattle.ir_coherence.proofs.Breaks.{counts_have_room_for_thread, thread_events_may_stand_in_counts}
+use Rattle.ir_coherence.proofs.Breaks.{counts_have_room, thread_may_stand}
 use Rattle.ir_coherence.proofs.counting.count_entries.Goals as goal
 
 pub add_log-requires-clause-objects : goal.add_log-requires-clause-objects
@@ -19,7 +19,7 @@ add_log-requires-clause-objects c =
     let events : c.events.result.now ≡ (recorded_thread r i).events = c.events.ensures.value ∙ c.log.ensures
     ∙ ap (λ (x : RecordedThread). x.events) thread in
     subst (AllByRecursion (MayStand (vec_len c.loop-thread.counts.objects))) (sym events)
-    (thread_events_may_stand_in_counts r c.threads-thread-items.ensures.within i c.loop-thread.counts (omega (arith, within, ap length threads))
+    (thread_may_stand r c.threads-thread-items.ensures.within i c.loop-thread.counts (omega (arith, within, ap length threads))
     c.loop-thread.invariant)
 
 pub add_log-requires-clause-room : goal.add_log-requires-clause-room
@@ -34,5 +34,5 @@ add_log-requires-clause-room c =
     let events : c.events.result.now ≡ (recorded_thread r i).events = c.events.ensures.value ∙ c.log.ensures
     ∙ ap (λ (x : RecordedThread). x.events) thread in
     subst (λ es. HasRoom c.loop-thread.counts (length es)) (sym events)
-    (counts_have_room_for_thread r c.threads-thread-items.ensures.within i c.loop-thread.counts (omega (arith, within, ap length threads))
+    (counts_have_room r c.threads-thread-items.ensures.within i c.loop-thread.counts (omega (arith, within, ap length threads))
     c.loop-thread.invariant)

@@ -3,7 +3,7 @@ use Rattle.std.proofs.lemmas.List.{nil_from_length}
 use Rattle.std.proofs.lemmas.Bool.{eqb-true}
 use Rattle.ir_command.specs.Commands.{words_of, is_empty}
 use Rattle.ir_command.specs.Cuts.{skip_blanks, word_end}
-use Rattle.ir_command.proofs.FirstWord.{words_are_first_word_and_words_of_rest, words_of_blank_line}
+use Rattle.ir_command.proofs.FirstWord.{words_of_first_word, words_of_blank_line}
 use Rattle.ir_command.proofs.words.next_word.Goals as goal
 
 some_byte : (line : List ℕ) → eqb (length line) 0 ≡ false → is_empty line ≡ false
@@ -16,7 +16,7 @@ returns-then-is_empty c = words_of_blank_line c.args.line.now (sym c.skip-line.e
 cut : (line l word rest : List ℕ) (n : ℕ) → l ≡ skip_blanks line → is_empty l ≡ false → n ≡ word_end l → word ≡ take n l → rest ≡ drop n l
     → words_of line ≡ word ∷ words_of rest
 cut line l word rest n skipped some end prefix back =
-    let first = words_are_first_word_and_words_of_rest line (ap is_empty (sym skipped) ∙ some) in
+    let first = words_of_first_word line (ap is_empty (sym skipped) ∙ some) in
     let word_is : take (word_end (skip_blanks line)) (skip_blanks line) ≡ word = rw (← skipped, ← end) (sym prefix) in
     let rest_is : drop (word_end (skip_blanks line)) (skip_blanks line) ≡ rest = rw (← skipped, ← end) (sym back) in
     first ∙ rw (word_is, rest_is) refl

@@ -1,12 +1,12 @@
 use Rattle.std.proofs.Common.{◌∙◌, ◌<◌, ℕ, List, length, sym, subst}
 use Rattle.ir_cut.specs.Positions.{cut_of}
 use Rattle.ir_cut.specs.Searching.{AreRest, IsGreatestCut}
-use Rattle.ir_cut.proofs.Found.{cut_is_greatest_if_falling_ends_with_none_above, greatest_cut_has_thread_at_position_if_start_not_below}
+use Rattle.ir_cut.proofs.Found.{falling_cut_is_greatest, greatest_cut_at_position}
 use Rattle.ir_cut.proofs.falling.greatest.Goals as goal
 
 found : (c : goal.After-drop-next-2) → IsGreatestCut c.args.fitted.now c.args.cut.now c.args.t c.args.k c.new.result
 found c = subst (IsGreatestCut c.args.fitted.now c.args.cut.now c.args.t c.args.k) (sym c.new.ensures)
-    (cut_is_greatest_if_falling_ends_with_none_above c.args.fitted.now c.known.ensures c.args.cut.now c.in_ok-positions.positions.items c.in_ok-next.next.items
+    (falling_cut_is_greatest c.args.fitted.now c.known.ensures c.args.cut.now c.in_ok-positions.positions.items c.in_ok-next.next.items
     c.fall.new.positions.items c.fall.new.next.items c.args.t c.args.k c.index.result.now c.min.result
     c.requires.size c.requires.consistent c.requires.thread (c.in_ok-positions.ensures.items ∙ c.positions-2.ensures) c.index.ensures
     c.min.ensures
@@ -18,7 +18,7 @@ pub returns-clause-greatest : goal.returns-clause-greatest
 returns-clause-greatest c = found c
 
 pub returns-clause-exact : goal.returns-clause-exact
-returns-clause-exact c = greatest_cut_has_thread_at_position_if_start_not_below c.args.fitted.now c.known.ensures c.args.cut.now c.new.result c.args.t c.args.k c.requires.consistent
+returns-clause-exact c = greatest_cut_at_position c.args.fitted.now c.known.ensures c.args.cut.now c.new.result c.args.t c.args.k c.requires.consistent
     (found c)
 
 pub returns-clause-below : goal.returns-clause-below

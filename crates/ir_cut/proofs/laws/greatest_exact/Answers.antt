@@ -1,10 +1,10 @@
 use Rattle.ir_thread.specs.State.{thread_machine}
-use Rattle.ir_thread.proofs.CallerLemmas.{thread_machine_is_lawful}
+use Rattle.ir_thread.proofs.CallerLemmas.{thread_machine_lawful}
 use Rattle.ir_flat.specs.Flat.{tables, start_flat}
-use Rattle.ir_runs.proofs.CallerLemmas.{state_invariant_at_start, greatest_cut_exact_at_thread}
+use Rattle.ir_runs.proofs.CallerLemmas.{state_invariant_start, greatest_exact_at_thread}
 use Rattle.ir_fit.proofs.CallerLemmas.{guest_start_is_start}
 use Rattle.ir_cut.proofs.laws.greatest_exact.Goals as goal
 
 pub returns : goal.returns
-returns c = λ g budget profile run ok p q t k cut cp lo l. greatest_cut_exact_at_thread (thread_machine g.code) (thread_machine_is_lawful g.code) (tables (start_flat g budget profile))
-    (state_invariant_at_start (thread_machine g.code) (tables (start_flat g budget profile)) (guest_start_is_start g budget profile)) run ok p q t k cut cp lo l
+returns c = λ g budget profile run ok p q t k cut cp lo l. greatest_exact_at_thread (thread_machine g.code) (thread_machine_lawful g.code) (tables (start_flat g budget profile))
+    (state_invariant_start (thread_machine g.code) (tables (start_flat g budget profile)) (guest_start_is_start g budget profile)) run ok p q t k cut cp lo l

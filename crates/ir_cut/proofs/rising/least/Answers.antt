@@ -1,12 +1,12 @@
 use Rattle.std.proofs.Common.{◌∙◌, ◌<◌, ℕ, List, length, sym, subst}
 use Rattle.ir_cut.specs.Positions.{cut_of}
 use Rattle.ir_cut.specs.Searching.{AreFirst, IsLeastCut}
-use Rattle.ir_cut.proofs.Found.{cut_is_least_if_rising_ends_with_none_below, least_cut_has_thread_at_position_if_start_not_above}
+use Rattle.ir_cut.proofs.Found.{rising_cut_is_least, least_cut_at_position}
 use Rattle.ir_cut.proofs.rising.least.Goals as goal
 
 found : (c : goal.After-drop-next-2) → IsLeastCut c.args.fitted.now c.args.cut.now c.args.t c.args.k c.new.result
 found c = subst (IsLeastCut c.args.fitted.now c.args.cut.now c.args.t c.args.k) (sym c.new.ensures)
-    (cut_is_least_if_rising_ends_with_none_below c.args.fitted.now c.known.ensures c.args.cut.now c.in_ok-positions.positions.items c.in_ok-next.next.items
+    (rising_cut_is_least c.args.fitted.now c.known.ensures c.args.cut.now c.in_ok-positions.positions.items c.in_ok-next.next.items
     c.rise.new.positions.items c.rise.new.next.items c.args.t c.args.k c.index.result.now c.max.result
     c.requires.size c.requires.consistent c.requires.thread c.requires.steps (c.in_ok-positions.ensures.items ∙ c.positions-2.ensures)
     c.index.ensures c.max.ensures c.in_ok-next.ensures.size
@@ -18,7 +18,7 @@ pub returns-clause-least : goal.returns-clause-least
 returns-clause-least c = found c
 
 pub returns-clause-exact : goal.returns-clause-exact
-returns-clause-exact c = least_cut_has_thread_at_position_if_start_not_above c.args.fitted.now c.known.ensures c.args.cut.now c.new.result c.args.t c.args.k c.requires.consistent
+returns-clause-exact c = least_cut_at_position c.args.fitted.now c.known.ensures c.args.cut.now c.new.result c.args.t c.args.k c.requires.consistent
     c.requires.thread c.requires.steps (found c)
 
 pub returns-clause-above : goal.returns-clause-above

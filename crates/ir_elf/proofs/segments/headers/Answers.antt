@@ -1,21 +1,21 @@
 use Rattle.std.proofs.lemmas.Result.{err_from_is_err_and}
 use Rattle.ir_bytes.specs.Reading.{fields_at}
-use Rattle.ir_bytes.proofs.CallerLemmas.{prefixed_fields_at_step, fields_at_fails_if_field_fails, total_is_prefix_after_all_fields}
-use Rattle.ir_elf.specs.Header.{header_at}
+use Rattle.ir_bytes.proofs.CallerLemmas.{prefixed_fields_at_step, fields_at_fails, fields_total_is_prefix}
+use Rattle.ir_elf.specs.Header.{elf_header_at}
 use Rattle.ir_elf.proofs.segments.headers.Goals as goal
 
 pub returns-in_err-header : goal.returns-in_err-header
 returns-in_err-header c =
     let p = err_from_is_err_and c.from_residual.result c.from_residual.ensures.1 in
-    rw (p.1, p.2) (fields_at_fails_if_field_fails c.in_err-header.field-0.0 header_at c.loop.headers.items c.args.count c.loop.counter c.loop.rest.now
-    (fields_at header_at c.args.count c.args.bytes.now) c.loop-test.true c.in_err-header.ensures c.loop.invariant)
+    rw (p.1, p.2) (fields_at_fails c.in_err-header.field-0.0 elf_header_at c.loop.headers.items c.args.count c.loop.counter c.loop.rest.now
+    (fields_at elf_header_at c.args.count c.args.bytes.now) c.loop-test.true c.in_err-header.ensures c.loop.invariant)
 
 pub loop-preserved : goal.loop-preserved
 loop-preserved c =
-    rw c.in_ok-push.ensures.items (prefixed_fields_at_step header_at c.loop.headers.items c.args.count c.loop.counter c.loop.rest.now
-    c.in_ok-header.header c.in_ok-header.after.now (fields_at header_at c.args.count c.args.bytes.now) c.loop-test.true
+    rw c.in_ok-push.ensures.items (prefixed_fields_at_step elf_header_at c.loop.headers.items c.args.count c.loop.counter c.loop.rest.now
+    c.in_ok-header.header c.in_ok-header.after.now (fields_at elf_header_at c.args.count c.args.bytes.now) c.loop-test.true
     c.in_ok-header.ensures c.loop.invariant)
 
 pub returns : goal.returns
-returns c = total_is_prefix_after_all_fields header_at c.loop.headers.items c.args.count c.loop.counter c.loop.rest.now
-    (fields_at header_at c.args.count c.args.bytes.now) c.loop-test.false c.loop.invariant
+returns c = fields_total_is_prefix elf_header_at c.loop.headers.items c.args.count c.loop.counter c.loop.rest.now
+    (fields_at elf_header_at c.args.count c.args.bytes.now) c.loop-test.false c.loop.invariant

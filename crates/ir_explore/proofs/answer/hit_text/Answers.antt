@@ -4,15 +4,15 @@ use Rattle.std.specs.List.{slice_index_or}
 use Rattle.std.specs.String.{string_bytes}
 use Rattle.std.proofs.lemmas.Option.{same_Some, slice_get-get_or}
 use Rattle.ir_order.specs.Spelling.{IsListOf, SpellsTurns}
-use Rattle.ir_order.proofs.CallerLemmas.{list_spells_if_order_not_empty}
+use Rattle.ir_order.proofs.CallerLemmas.{nonempty_list_spells}
 use Rattle.ir_outcomes.specs.declared.shown.Shown.{Shown}
 use Rattle.ir_record.specs.Recording.{turns_of_items}
 use Rattle.ir_record.specs.declared.item.Item.{Item}
 use Rattle.ir_explore.specs.Lines.{outcome_found_line}
 use Rattle.ir_explore.specs.Plan.{setup_of}
 use Rattle.ir_explore.specs.Texts.{Objects, objects_of, AreTexts, known_of}
-use Rattle.ir_explore.proofs.Hits.{shown_order_is_not_empty, is_hit_if_shown_outcome_is_first_to_fulfil}
-use Rattle.ir_explore.proofs.Joined.{texts_of_no_outcome_are_empty}
+use Rattle.ir_explore.proofs.Hits.{shown_order_nonempty, is_hit_if_shown_outcome_is_first_to_fulfil}
+use Rattle.ir_explore.proofs.Joined.{no_outcome_no_texts}
 use Rattle.ir_explore.proofs.answer.hit_text.Goals as goal
 
 pub outcomes_text-requires-clause-objects : goal.outcomes_text-requires-clause-objects
@@ -42,9 +42,9 @@ returns c = λ cs none (x, s, at, does).
     let same : y ≡ x = same_Some y x (sym here ∙ at.0) in
     let next : place + 1 ≡ suc place = omega arith in
     let turns = c.as_slice.ensures.value ∙ ap (λ (z : Shown). z.turns.items) same in
-    let some = shown_order_is_not_empty (setup_of guest c.args.plan.now) s x.level (turns_of_items x.turns.items) c.entries.ensures.within.some_thread (c.requires.explored.shown place x s at) in
+    let some = shown_order_nonempty (setup_of guest c.args.plan.now) s x.level (turns_of_items x.turns.items) c.entries.ensures.within.some_thread (c.requires.explored.shown place x s at) in
     let listed : IsListOf list (turns_of_items x.turns.items) = subst (λ (ts : List Item). IsListOf list (turns_of_items ts)) turns c.in_ok-list.ensures in
-    let spells : SpellsTurns list (turns_of_items x.turns.items) = list_spells_if_order_not_empty list (turns_of_items x.turns.items) listed some in
+    let spells : SpellsTurns list (turns_of_items x.turns.items) = nonempty_list_spells list (turns_of_items x.turns.items) listed some in
     record {
       known = known_of c.args.explored.now;
       explored = c.requires.explored;
@@ -61,7 +61,7 @@ returns c = λ cs none (x, s, at, does).
       texts = subst (λ z. AreTexts z flats outcomes (suc place) lines) first
           (subst (λ z. AreTexts own flats z (suc place) lines) value
           (subst (λ z. AreTexts own flats c.as_slice-outcomes.result.now z lines) next
-          (c.in_ok-text.ensures [] (texts_of_no_outcome_are_empty own flats c.as_slice-outcomes.result.now))));
+          (c.in_ok-text.ensures [] (no_outcome_no_texts own flats c.as_slice-outcomes.result.now))));
       whole = c.in_ok-extend_from_slice.ensures.items
           ∙ ap (λ z. lines ++ z) (c.as_bytes.ensures.value ∙ c.in_ok-line.ensures ∙ (λ i. outcome_found_line (next i) (same i).level (c.as_str.ensures.value i)));
     }

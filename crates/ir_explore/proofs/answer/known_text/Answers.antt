@@ -1,6 +1,6 @@
 use Rattle.std.proofs.Common.{◌≡◌, ◌++◌, [], length, sym, ap, ◌∙◌, subst}
 use Rattle.ir_explore.specs.Texts.{Objects, objects_of, AreTexts}
-use Rattle.ir_explore.proofs.Joined.{texts_of_no_outcome_are_empty}
+use Rattle.ir_explore.proofs.Joined.{no_outcome_no_texts}
 use Rattle.ir_explore.proofs.answer.known_text.Goals as goal
 
 pub outcomes_text-requires-clause-objects : goal.outcomes_text-requires-clause-objects
@@ -27,7 +27,7 @@ returns c =
       texts = subst (λ z. AreTexts z flats outcomes (length outcomes) lines) first
           (subst (λ z. AreTexts own flats z (length outcomes) lines) value
           (subst (λ z. AreTexts own flats c.as_slice-outcomes.result.now z lines) many
-          (c.in_ok-text.ensures [] (texts_of_no_outcome_are_empty own flats c.as_slice-outcomes.result.now))));
+          (c.in_ok-text.ensures [] (no_outcome_no_texts own flats c.as_slice-outcomes.result.now))));
       last_lines = c.in_ok-ending.ending.items;
       ending = c.in_ok-ending.ensures;
       whole = c.in_ok-extend_from_slice.ensures.items ∙ ap (λ z. lines ++ z) c.as_slice.ensures.value;

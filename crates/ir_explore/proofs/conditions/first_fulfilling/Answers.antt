@@ -3,9 +3,9 @@ use Rattle.std.specs.Prelude.{slice_get}
 use Rattle.std.proofs.lemmas.Option.{slice_get-get_or}
 use Rattle.std.specs.List.{list_all}
 use Rattle.ir_schedule.specs.Conditions.{as_condition, fulfils, end_state}
-use Rattle.ir_store.specs.Nodes.{SourcedFlat}
+use Rattle.ir_state_store.specs.Nodes.{SourcedFlat}
 use Rattle.ir_explore.specs.Conditions.{NoneBefore}
-use Rattle.ir_explore.proofs.Fulfilled.{none_before_step_for_unfulfilling_outcome, reached_state_fulfils_declared_conditions_as_outcome_does}
+use Rattle.ir_explore.proofs.Fulfilled.{none_before_step, declared_as_outcome}
 use Rattle.ir_explore.proofs.conditions.first_fulfilling.Goals as goal
 
 pub state_of-requires : goal.state_of-requires
@@ -26,7 +26,7 @@ returns-then-fulfils c = λ setup reached.
         x,
         s,
         (at, c.in_ok-state.ensures.value),
-        sym (reached_state_fulfils_declared_conditions_as_outcome_does setup c.args.conditions.now s (reached x.node s c.in_ok-state.ensures.value) c.in_ok-state.ensures.flat)
+        sym (declared_as_outcome setup c.args.conditions.now s (reached x.node s c.in_ok-state.ensures.value) c.in_ok-state.ensures.flat)
             ∙ ap (λ (z : SourcedFlat). list_all (λ d. fulfils (as_condition d) (end_state z.flat)) c.args.conditions.now) (sym c.state.view_is)
             ∙ sym c.fulfils.ensures ∙ c.if-fulfils.true,
       ),
@@ -42,8 +42,8 @@ loop-i-preserved c = λ setup reached.
     slice_get-get_or c.args.outcomes.now c.loop-i.i x less ∙ ap Some (sym c.index-outcomes-i.is) in
     let next : suc c.loop-i.i ≡ c.loop-i.i + 1 = omega arith in
     subst (NoneBefore setup.guest cs c.args.flats.now.items c.args.outcomes.now) next
-    (none_before_step_for_unfulfilling_outcome setup.guest cs c.args.flats.now.items c.args.outcomes.now c.loop-i.i x s (c.loop-i.invariant setup reached) (at, c.in_ok-state.ensures.value)
-    (sym (reached_state_fulfils_declared_conditions_as_outcome_does setup c.args.conditions.now s (reached x.node s c.in_ok-state.ensures.value) c.in_ok-state.ensures.flat)
+    (none_before_step setup.guest cs c.args.flats.now.items c.args.outcomes.now c.loop-i.i x s (c.loop-i.invariant setup reached) (at, c.in_ok-state.ensures.value)
+    (sym (declared_as_outcome setup c.args.conditions.now s (reached x.node s c.in_ok-state.ensures.value) c.in_ok-state.ensures.flat)
     ∙ ap (λ (z : SourcedFlat). list_all (λ d. fulfils (as_condition d) (end_state z.flat)) c.args.conditions.now) (sym c.state.view_is)
     ∙ sym c.fulfils.ensures ∙ c.if-fulfils.false))
 

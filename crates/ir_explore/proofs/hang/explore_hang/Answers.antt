@@ -1,7 +1,7 @@
 use Rattle.std.proofs.Common.{inr}
 use Rattle.std.proofs.KnownBytes.{Appends-trans}
 use Rattle.std.proofs.lemmas.Result.{err_from_is_err_and}
-use Rattle.ir_files.proofs.CallerLemmas.{if_err_holds_if_holds_of_handed_on_error}
+use Rattle.ir_files.proofs.CallerLemmas.{if_err_handed_on}
 use Rattle.ir_explore.proofs.hang.explore_hang.Goals as goal
 
 pub returns-in_err-recorded-clause-stopped : goal.returns-in_err-recorded-clause-stopped
@@ -9,7 +9,7 @@ returns-in_err-recorded-clause-stopped g c =
     let p = err_from_is_err_and c.from_residual.result c.from_residual.ensures.1 in
     let told = c.in-Ok-Ok.ensures.told in
     let stopped = rw c.recording-how.ensures at c.in_err-recorded.ensures.stopped in
-    if_err_holds_if_holds_of_handed_on_error _ c.from_residual.result c.in_err-recorded.field-0.0 p.0 p.1 p.2 (inr (inr (
+    if_err_handed_on _ c.from_residual.result c.in_err-recorded.field-0.0 p.0 p.1 p.2 (inr (inr (
       stopped.0,
       stopped.1,
       c.in-Ok-Ok.order,

@@ -2,19 +2,19 @@ use Rattle.std.proofs.Common.{◌++◌, ◌<◌, ◌-◌, suc, [], None, length,
 use Rattle.std.specs.Io.KnownBytes.{Appends}
 use Rattle.std.proofs.KnownBytes.{Appends-nil, Appends-trans}
 use Rattle.std.proofs.lemmas.Result.{err_from_is_err_and}
-use Rattle.ir_files.proofs.CallerLemmas.{if_err_holds_if_holds_of_handed_on_error}
+use Rattle.ir_files.proofs.CallerLemmas.{if_err_handed_on}
 use Rattle.ir_files.specs.Writers.{writer_of}
 use Rattle.ir_flat.specs.Flat.{start_cells}
 use Rattle.ir_graph.specs.Setup.{Setup}
 use Rattle.ir_image.specs.Guest.{object_count}
 use Rattle.ir_outcomes.specs.Explored.{AreExplored}
 use Rattle.ir_outcomes.specs.Exploring.{levels_left}
-use Rattle.ir_outcomes.proofs.CallerLemmas.{fewer_levels_left_after_one_is_gone_over}
+use Rattle.ir_outcomes.proofs.CallerLemmas.{fewer_levels_left}
 use Rattle.ir_thread.specs.State.{IsAllowed}
 use Rattle.ir_explore.specs.Printed.{HasPrinted, EndsEarly}
 use Rattle.ir_explore.specs.Texts.{Objects, objects_in}
-use Rattle.ir_explore.proofs.Joined.{texts_of_no_outcome_are_empty}
-use Rattle.ir_explore.proofs.Printed.{printed_outcomes_are_part, length_is_at_most_that_of_list_where_it_stays, printed_kept_among_more_outcomes, failed_after_taken_text}
+use Rattle.ir_explore.proofs.Joined.{no_outcome_no_texts}
+use Rattle.ir_explore.proofs.Printed.{printed_are_part, kept_length_le, printed_among_more, failed_after_taken_text}
 use Rattle.ir_explore.proofs.levels.print_levels.Goals as goal
 
 pub levels-init : goal.levels-init
@@ -29,7 +29,7 @@ levels-init g c =
       works = c.requires.works;
       printed = (
         [],
-        subst (λ n. HasPrinted o e n []) (sym c.requires.none) (texts_of_no_outcome_are_empty o e.states.graph.flats.items e.list.outcomes.items),
+        subst (λ n. HasPrinted o e n []) (sym c.requires.none) (no_outcome_no_texts o e.states.graph.flats.items e.list.outcomes.items),
         Appends-nil (g.O.Sink.written c.args.out.now),
       );
     }
@@ -48,7 +48,7 @@ print_from-requires-clause-from g c =
     let before = c.levels.exploring.list.outcomes in
     let same = c.len-printed.ensures in
     let size = before.ok.0 in
-    let more = length_is_at_most_that_of_list_where_it_stays before.items c.go_over.new.self.list.outcomes.items c.go_over.ensures.outcomes in
+    let more = kept_length_le before.items c.go_over.new.self.list.outcomes.items c.go_over.ensures.outcomes in
     omega (arith, same, size, more)
 
 pub levels-preserved : goal.levels-preserved
@@ -59,7 +59,7 @@ levels-preserved g c =
     let before = c.levels.invariant.printed in
     let size = old.list.outcomes.ok.0 in
     let same = c.len-printed.ensures in
-    let kept = printed_kept_among_more_outcomes o old new c.len-printed.result before.0 (omega (arith, same, size)) c.levels.invariant.is.explored.nodes
+    let kept = printed_among_more o old new c.len-printed.result before.0 (omega (arith, same, size)) c.levels.invariant.is.explored.nodes
     c.go_over.ensures.stay c.go_over.ensures.outcomes before.1 in
     let more = c.in_ok-print_from.ensures.printed before.0 kept in
     record {
@@ -83,7 +83,7 @@ levels-smaller g c =
     let none = c.goes_on.ensures.stop c.levels-test.true in
     subst (λ z. levels_left new.stop (suc new.most - new.states.search.level.number) < levels_left z (suc old.most - old.states.search.level.number)) (sym none)
     (subst (λ m. levels_left new.stop (suc m - new.states.search.level.number) < levels_left None (suc old.most - old.states.search.level.number)) (sym c.go_over.ensures.most)
-    (fewer_levels_left_after_one_is_gone_over new.stop old.states.search.level.number new.states.search.level.number old.most (c.goes_on.ensures.wanted c.levels-test.true)
+    (fewer_levels_left new.stop old.states.search.level.number new.states.search.level.number old.most (c.goes_on.ensures.wanted c.levels-test.true)
     c.go_over.ensures.next))
 
 pub returns-in_err-print_from-clause-failed : goal.returns-in_err-print_from-clause-failed
@@ -97,24 +97,24 @@ returns-in_err-print_from-clause-failed g c =
     let before = c.levels.invariant.printed in
     let size = old.list.outcomes.ok.0 in
     let same = c.len-printed.ensures in
-    let kept = printed_kept_among_more_outcomes o old new c.len-printed.result before.0 (omega (arith, same, size)) c.levels.invariant.is.explored.nodes
+    let kept = printed_among_more o old new c.len-printed.result before.0 (omega (arith, same, size)) c.levels.invariant.is.explored.nodes
     c.go_over.ensures.stay c.go_over.ensures.outcomes before.1 in
     let explored = subst (λ z. AreExplored z old.states.graph.flats.items old.list.levels old.list.outcomes.items) c.levels.invariant.setup
     c.levels.invariant.is.explored in
     let later = subst (λ z. AreExplored z new.states.graph.flats.items new.list.levels new.list.outcomes.items)
     (c.go_over.ensures.setup ∙ c.levels.invariant.setup) c.go_over.ensures.is.explored in
-    if_err_holds_if_holds_of_handed_on_error (λ e. EndsEarly e setup w) c.from_residual.result c.in_err-print_from.field-0.0 p.0 p.1 p.2
+    if_err_handed_on (λ e. EndsEarly e setup w) c.from_residual.result c.in_err-print_from.field-0.0 p.0 p.1 p.2
     (elim c.in_err-print_from.ensures.failed [
       | inl (memory, stays) ↦ subst (λ z. EndsEarly z setup w) (sym memory) (
         before.0,
-        printed_outcomes_are_part setup o old before.0 c.requires.started explored before.1,
+        printed_are_part setup o old before.0 c.requires.started explored before.1,
         subst (λ z. Appends (g.O.Sink.written c.args.out.now) (g.O.Sink.written z) before.0) (sym stays) before.2,
       )
       | inr (write, broken, prints) ↦
           let more = prints before.0 kept in
           subst (λ z. EndsEarly z setup w) (sym write) (
             before.0 ++ more.0,
-            printed_outcomes_are_part setup o new (before.0 ++ more.0) c.requires.started later more.1,
+            printed_are_part setup o new (before.0 ++ more.0) c.requires.started later more.1,
             failed_after_taken_text w (g.O.Sink.written c.levels.out) before.0 more.0 before.2 more.2 broken,
           )
     ])

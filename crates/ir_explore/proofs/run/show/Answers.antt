@@ -3,7 +3,7 @@ use Rattle.std.specs.Io.KnownBytes.{Appends}
 use Rattle.std.proofs.KnownBytes.{Appends-trans}
 use Rattle.std.proofs.lemmas.Result.{err_from_is_err_and, IfOk-weaker, IfErr-weaker}
 use Rattle.ir_search.specs.declared.stop.Stop.TheVariants.{Memory}
-use Rattle.ir_files.proofs.CallerLemmas.{if_err_holds_if_holds_of_handed_on_error}
+use Rattle.ir_files.proofs.CallerLemmas.{if_err_handed_on}
 use Rattle.ir_files.specs.Writers.{writer_of}
 use Rattle.ir_files.specs.declared.exit_status.ExitStatus.{ExitStatus}
 use Rattle.ir_graph.specs.Stops.{IsStop}
@@ -15,7 +15,7 @@ use Rattle.ir_explore.specs.Printed.{EndsEarly}
 use Rattle.ir_explore.specs.Texts.{Objects, objects_of, IsStopReason, IsStopped, IsEnding, IsAnswerAbout, known_of}
 use Rattle.ir_explore.specs.declared.fault.ExploreFault.TheVariants.{NoMem, Write}
 use Rattle.ir_explore.specs.Plan.{ExplorePlan, setup_of}
-use Rattle.ir_explore.proofs.Printed.{out_of_memory_before_first_line_stops_printing, printed_outcomes_are_part, failed_after_taken_text, printed_lines_and_ending_are_answer}
+use Rattle.ir_explore.proofs.Printed.{no_memory_stops_first, printed_are_part, failed_after_taken_text, lines_and_end_answer}
 use Rattle.ir_explore.proofs.run.show.Goals as goal
 
 pub returns-in_err-start-clause-fails : goal.returns-in_err-start-clause-fails
@@ -23,8 +23,8 @@ returns-in_err-start-clause-fails g c =
     let p = err_from_is_err_and c.from_residual.result c.from_residual.ensures.1 in
     let out = g.O.Sink.written c.args.out.now in
     let w = writer_of out out (g.O.Sink.broken c.args.out.now) in
-    if_err_holds_if_holds_of_handed_on_error (λ e. StopsPrinting e c.args.image.now c.args.plan.now w) c.from_residual.result NoMem p.0 p.1 p.2
-    (out_of_memory_before_first_line_stops_printing c.args.image.now c.args.plan.now w refl)
+    if_err_handed_on (λ e. StopsPrinting e c.args.image.now c.args.plan.now w) c.from_residual.result NoMem p.0 p.1 p.2
+    (no_memory_stops_first c.args.image.now c.args.plan.now w refl)
 
 pub returns-in-Err-clause-ok : goal.returns-in-Err-clause-ok
 returns-in-Err-clause-ok g c =
@@ -68,7 +68,7 @@ returns-clause-ok g c =
     (λ answered. (text : List ℕ) × IsAnswerAbout guest plan answered text × Appends old new text)
     (λ answered p. (
       before.0 ++ p.0,
-      printed_lines_and_ending_are_answer guest plan own s e before.0 p.0 answered same c.end-explored.ensures.flats c.end-explored.ensures.outcomes is before.1 p.1,
+      lines_and_end_answer guest plan own s e before.0 p.0 answered same c.end-explored.ensures.flats c.end-explored.ensures.outcomes is before.1 p.1,
       Appends-trans old mid new before.0 p.0 before.2 p.2,
     ))
     c.print_ending.ensures.ok
@@ -104,14 +104,14 @@ returns-clause-fails g c =
     (λ f p. elim p [
       | inl (memory, stays) ↦ inl (subst (λ z. EndsEarly z (setup_of guest plan) w) (sym memory) (
         before.0,
-        printed_outcomes_are_part (setup_of guest plan) own s before.0 same explored before.1,
+        printed_are_part (setup_of guest plan) own s before.0 same explored before.1,
         subst (λ z. Appends old (g.O.Sink.written z) before.0) (sym stays) before.2,
       ))
       | inr (write, broken, answered, text, ending, prefix) ↦ inr (
         write,
         answered,
         before.0 ++ text,
-        printed_lines_and_ending_are_answer guest plan own s e before.0 text answered same c.end-explored.ensures.flats c.end-explored.ensures.outcomes is before.1 ending,
+        lines_and_end_answer guest plan own s e before.0 text answered same c.end-explored.ensures.flats c.end-explored.ensures.outcomes is before.1 ending,
         failed_after_taken_text w mid before.0 text before.2 prefix broken,
       )
     ])

@@ -1,9 +1,9 @@
 use Rattle.std.proofs.Common.{◌≡◌, ◌+◌, ◌<◌, ◌++◌, suc, Some, length, sym, ap, ◌∙◌, subst, append_assoc, arith}
 use Rattle.std.specs.Prelude.{slice_get}
 use Rattle.std.proofs.lemmas.Option.{slice_get-get_or}
-use Rattle.ir_store.specs.Nodes.{SourcedFlat}
+use Rattle.ir_state_store.specs.Nodes.{SourcedFlat}
 use Rattle.ir_explore.specs.Texts.{IsOutcomeText, AreTexts, objects_in}
-use Rattle.ir_explore.proofs.Joined.{texts_step_with_text_of_next_outcome}
+use Rattle.ir_explore.proofs.Joined.{texts_next_outcome}
 use Rattle.ir_explore.proofs.texts.outcomes_text.Goals as goal
 
 pub state_of-requires : goal.state_of-requires
@@ -31,7 +31,7 @@ loop-i-preserved c =
     subst (AreTexts o c.args.flats.now.items c.args.outcomes.now (c.loop-i.i + 1))
     (append_assoc before c.loop-i.text.items c.in_ok-own.own.items
     ∙ ap (λ z. before ++ z) (sym (c.in_ok-extend_from_slice.ensures.items ∙ ap (λ z. c.loop-i.text.items ++ z) c.as_slice.ensures.value)))
-    (texts_step_with_text_of_next_outcome o c.args.flats.now.items c.args.outcomes.now c.loop-i.i (before ++ c.loop-i.text.items) c.in_ok-own.own.items x s
+    (texts_next_outcome o c.args.flats.now.items c.args.outcomes.now c.loop-i.i (before ++ c.loop-i.text.items) c.in_ok-own.own.items x s
     (c.loop-i.invariant before first) (at, c.in_ok-state.ensures.value)
     (subst (λ z. IsOutcomeText o s.flat z x c.in_ok-own.own.items) next
     (subst (λ (z : SourcedFlat). IsOutcomeText o z.flat (c.loop-i.i + 1) x c.in_ok-own.own.items) c.state.view_is c.in_ok-own.ensures)))

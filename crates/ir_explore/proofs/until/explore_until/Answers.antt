@@ -2,10 +2,10 @@ use Rattle.std.proofs.Common.{map, subst, inr}
 use Rattle.std.specs.String.{string_bytes}
 use Rattle.std.proofs.KnownBytes.{Appends-trans}
 use Rattle.std.proofs.lemmas.Result.{err_from_is_err_and}
-use Rattle.ir_files.proofs.CallerLemmas.{if_err_holds_if_holds_of_handed_on_error}
+use Rattle.ir_files.proofs.CallerLemmas.{if_err_handed_on}
 use Rattle.ir_schedule.specs.Conditions.{as_condition}
 use Rattle.ir_explore.specs.Until.{IsUntil, found_bytes}
-use Rattle.ir_explore.proofs.Hits.{recording_of_hit_is_finding}
+use Rattle.ir_explore.proofs.Hits.{hit_recording_finding}
 use Rattle.ir_explore.proofs.until.explore_until.Goals as goal
 
 pub returns-in_err-recorded-clause-stopped : goal.returns-in_err-recorded-clause-stopped
@@ -15,7 +15,7 @@ returns-in_err-recorded-clause-stopped g c =
     let says = subst (λ z. IsUntil c.args.plan.now.image.now c.args.plan.now.explore (map as_condition c.args.plan.now.conditions.now) (found_bytes z) told.0)
     c.in-Ok-Ok.field-0-is told.1 in
     let stopped = rw c.as_str-list.ensures.value at (rw c.recording-how.ensures at c.in_err-recorded.ensures.stopped) in
-    if_err_holds_if_holds_of_handed_on_error _ c.from_residual.result c.in_err-recorded.field-0.0 p.0 p.1 p.2 (inr (inr (
+    if_err_handed_on _ c.from_residual.result c.in_err-recorded.field-0.0 p.0 p.1 p.2 (inr (inr (
       stopped.0,
       stopped.1,
       told.0,
@@ -37,7 +37,7 @@ returns-clause-found g c =
       told.0,
       list,
       done.0,
-      recording_of_hit_is_finding c.args.plan.now.image.now c.args.plan.now.explore (map as_condition c.args.plan.now.conditions.now) list told.0 c.in_ok-recorded.recorded done.0 says.guest says.is
+      hit_recording_finding c.args.plan.now.image.now c.args.plan.now.explore (map as_condition c.args.plan.now.conditions.now) list told.0 c.in_ok-recorded.recorded done.0 says.guest says.is
           says.says done.1,
       done.2,
       done.3,

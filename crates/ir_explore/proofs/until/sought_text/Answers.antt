@@ -1,6 +1,6 @@
 use Rattle.std.proofs.Common.{map, inl, sym, subst}
 use Rattle.ir_schedule.specs.Conditions.{as_condition}
-use Rattle.ir_search.proofs.CallerLemmas.{index_of_element_is_below_length}
+use Rattle.ir_search.proofs.CallerLemmas.{slice_get_some_below}
 use Rattle.ir_explore.specs.Conditions.{IsFirst}
 use Rattle.ir_explore.specs.Texts.{known_of}
 use Rattle.ir_explore.specs.Until.{IsSought, IsVain}
@@ -12,7 +12,7 @@ hit_text-requires-clause-place g c =
     let outcomes = c.args.sought.now.explored.outcomes.items in
     let first = subst (IsFirst c.args.image.now (map as_condition c.args.plan.now.conditions.now) c.args.sought.now.explored.states.graph.flats.items outcomes)
     c.in-Some.is c.requires.sought.first in
-    index_of_element_is_below_length outcomes c.in-Some.place first.1.0 first.1.2.0
+    slice_get_some_below outcomes c.in-Some.place first.1.0 first.1.2.0
 
 pub returns-in_ok-text-in-Some : goal.returns-in_ok-text-in-Some
 returns-in_ok-text-in-Some g c =

@@ -2,7 +2,7 @@ use Rattle.std.proofs.Common.{◌<◌, ◌≤◌, List, length, leb, get_or, rul
 use Rattle.std.proofs.lemmas.Bool.Decides.{nat_tests}
 use Rattle.std.proofs.lemmas.List.Sorted.{IsPartitionPoint-from_clause, IsPartitionedBy-leb}
 use Rattle.ir_fit.specs.declared.place.Place.{Place}
-use Rattle.ir_fit.proofs.ByVersion.{is_version_end_by_neighbours, is_version_end_if_partition_by_tests}
+use Rattle.ir_fit.proofs.ByVersion.{version_end_by_neighbours, version_end_by_partition}
 use Rattle.ir_fit.proofs.object_places.count_up_to.Goals.{then-places-eq1-via-then-places-eq1, then-places-eq1-via-else-places-eq1+then-places-version-2}
 use Rattle.ir_fit.proofs.object_places.count_up_to.Goals as goal
 
@@ -16,12 +16,12 @@ returns-then-places-eq1-clause-point c =
       | then-places-eq1-via-then-places-eq1 w ↦ λ l. absurd (omega (arith, l, w.if-places-eq1.true))
       | then-places-eq1-via-else-places-eq1+then-places-version-2 w ↦ λ l. w.if-places-version-2.true
     ] in
-    is_version_end_by_neighbours xs v 1 d c.requires (λ l. some) (λ l. c.if-places-version.false) high
+    version_end_by_neighbours xs v 1 d c.requires (λ l. some) (λ l. c.if-places-version.false) high
 
 pub returns-clause-point : goal.returns-clause-point
 returns-clause-point c =
     let xs : List Place = c.args.places.now in
     let v = c.args.version in
-    is_version_end_if_partition_by_tests xs v c.partition_point.result
+    version_end_by_partition xs v c.partition_point.result
     (IsPartitionPoint-from_clause (λ (y : Place). leb y.version v) xs _ c.partition_point.ensures.partitioned
     (IsPartitionedBy-leb (λ (p : Place). p.version) xs v c.requires) (λ a r q k. search rules))

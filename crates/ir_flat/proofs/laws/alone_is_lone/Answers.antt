@@ -1,5 +1,5 @@
-use Rattle.ir_flat.proofs.Lone.{lone_run_of_replies_is_alone_after}
+use Rattle.ir_flat.proofs.Lone.{lone_run_is_alone}
 use Rattle.ir_flat.proofs.laws.alone_is_lone.Goals as goal
 
 pub returns : goal.returns
-returns c = lone_run_of_replies_is_alone_after
+returns c = lone_run_is_alone

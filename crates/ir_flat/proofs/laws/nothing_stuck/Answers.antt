@@ -1,5 +1,5 @@
-use Rattle.ir_flat.proofs.Runs.{guest_run_can_step_unless_done}
+use Rattle.ir_flat.proofs.Runs.{guest_run_not_stuck}
 use Rattle.ir_flat.proofs.laws.nothing_stuck.Goals as goal
 
 pub returns : goal.returns
-returns c = guest_run_can_step_unless_done
+returns c = guest_run_not_stuck

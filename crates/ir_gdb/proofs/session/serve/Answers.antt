@@ -2,8 +2,9 @@ use Rattle.std.proofs.Common.{◌≡◌, ◌∙◌, true, false, sym, subst}
 use Rattle.ir_stream.specs.Answers.{ReadsUpTo}
 use Rattle.ir_packet.specs.Stream.{items}
 use Rattle.ir_debug.specs.Session.{most_input}
-use Rattle.ir_gdb.specs.Connection.{Link, Wrote, WroteInPart}
-use Rattle.ir_gdb.proofs.Sessions.{link_is_first_link, serves_by_read_input, serves_by_known_input, if_served_from_if_ended, served_result_is_not_refused, ended_by_is_not_no_memory, read_fault_if_ended_by_read, write_fault_if_ended_by_write}
+use Rattle.ir_gdb.specs.Connection.{Link, WroteReplies, WroteRepliesInPart}
+use Rattle.ir_gdb.proofs.Sessions.{link_is_first_link, serves_by_read_input, serves_by_known_input, if_served_from_if_ended}
+use Rattle.ir_gdb.proofs.Sessions.{served_is_not_refused, end_is_not_no_memory, read_end_is_read_fault, write_end_is_fault}
 use Rattle.ir_gdb.proofs.session.serve.Goals as goal
 
 pub returns-clause-ended : goal.returns-clause-ended
@@ -22,23 +23,23 @@ returns-clause-known g c =
     (link_is_first_link c.in-Ok-new.connection.link c.in-Ok.remote.stub c.args.debugger.desk c.in-Ok-new.ensures.link c.in-Ok.ensures) c.serve.ensures.known
 
 pub returns-clause-opened : goal.returns-clause-opened
-returns-clause-opened g c = served_result_is_not_refused c.ended.result c.serve.result c.ended.ensures
+returns-clause-opened g c = served_is_not_refused c.ended.result c.serve.result c.ended.ensures
 
 pub returns-clause-no_memory : goal.returns-clause-no_memory
-returns-clause-no_memory g c = λ e. absurd (ended_by_is_not_no_memory c.serve.result (sym c.ended.ensures ∙ e))
+returns-clause-no_memory g c = λ e. absurd (end_is_not_no_memory c.serve.result (sym c.ended.ensures ∙ e))
 
 pub returns-clause-read : goal.returns-clause-read
 returns-clause-read g c = λ e.
     subst (λ (x : Link). (g.R.Source.broken c.serve.new.reader ≡ true) × (g.W.Sink.broken c.serve.new.writer ≡ false)
     × ReadsUpTo most_input (g.R.Source.left c.args.reader.now) (g.R.Source.left c.serve.new.reader) (λ consumed.
-    Wrote x (items consumed) false (g.W.Sink.written c.args.writer.now) (g.W.Sink.written c.serve.new.writer)))
+    WroteReplies x (items consumed) false (g.W.Sink.written c.args.writer.now) (g.W.Sink.written c.serve.new.writer)))
     (link_is_first_link c.in-Ok-new.connection.link c.in-Ok.remote.stub c.args.debugger.desk c.in-Ok-new.ensures.link c.in-Ok.ensures)
-    (c.serve.ensures.read (read_fault_if_ended_by_read c.serve.result (sym c.ended.ensures ∙ e)))
+    (c.serve.ensures.read (read_end_is_read_fault c.serve.result (sym c.ended.ensures ∙ e)))
 
 pub returns-clause-write : goal.returns-clause-write
 returns-clause-write g c = λ e.
     subst (λ (x : Link). (g.R.Source.broken c.serve.new.reader ≡ false) × (g.W.Sink.broken c.serve.new.writer ≡ true)
     × ReadsUpTo most_input (g.R.Source.left c.args.reader.now) (g.R.Source.left c.serve.new.reader) (λ consumed.
-    WroteInPart x (items consumed) (g.W.Sink.written c.args.writer.now) (g.W.Sink.written c.serve.new.writer)))
+    WroteRepliesInPart x (items consumed) (g.W.Sink.written c.args.writer.now) (g.W.Sink.written c.serve.new.writer)))
     (link_is_first_link c.in-Ok-new.connection.link c.in-Ok.remote.stub c.args.debugger.desk c.in-Ok-new.ensures.link c.in-Ok.ensures)
-    (c.serve.ensures.write (write_fault_if_ended_by_write c.serve.result (sym c.ended.ensures ∙ e)))
+    (c.serve.ensures.write (write_end_is_fault c.serve.result (sym c.ended.ensures ∙ e)))

@@ -1,5 +1,5 @@
 use Rattle.std.proofs.Common.{◌≡◌, take}
-use Rattle.ir_store.specs.Nodes.{cells_at}
+use Rattle.ir_state_store.specs.Nodes.{cells_at}
 use Rattle.ir_graph.proofs.hands.objects_at.Given as goal
 
 abbrev pub invariant-loop-spot : goal.invariant-loop-spot

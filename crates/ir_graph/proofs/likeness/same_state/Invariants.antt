@@ -1,7 +1,7 @@
 use Rattle.std.proofs.Common.{ℕ, ◌<◌}
 use Rattle.ir_flat.specs.Flat.{thread_of}
-use Rattle.ir_seen.specs.Seen.{Same, view}
-use Rattle.ir_store.specs.Nodes.{source_of}
+use Rattle.ir_likeness.specs.Seen.{Same, view}
+use Rattle.ir_state_store.specs.Nodes.{source_of}
 use Rattle.ir_graph.proofs.likeness.same_state.Given as goal
 
 abbrev pub invariant-loop-t : goal.invariant-loop-t

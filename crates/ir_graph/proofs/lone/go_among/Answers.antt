@@ -6,7 +6,7 @@ use Rattle.ir_world.specs.Sources.{Source}
 use Rattle.ir_thread.specs.State.{ThreadState, after_ask}
 use Rattle.ir_graph.specs.Lone.{GoesAmong, MayTake, answer_from, cell_after}
 use Rattle.ir_graph.specs.Plain.{Rests}
-use Rattle.ir_graph.proofs.LoneSteps.{goes_among_by_private_steps, goes_among_by_next_ask, goes_among_append, are_among_after_run, beside_at_place, cells_as_many, may_take_fair_ask}
+use Rattle.ir_graph.proofs.LoneSteps.{goes_among_by_private, goes_among_by_next_ask, goes_among_append, are_among_after_run, beside_cell_at_place, among_cell_count, may_take_fair_ask}
 use Rattle.ir_graph.proofs.lone.go_among.Goals as goal
 
 pub among-init : goal.among-init
@@ -20,13 +20,13 @@ take_beside-requires-clause-may c =
     let x : ThreadState × Source = (c.among.thread, c.among.source) in
     let y : ThreadState × Source = (c.run_to_ask-steps.new.self, c.among.source) in
     let q = c.run_to_ask-steps.result.1 in
-    let many = cells_as_many code numbers x.0 c.among.objects c.among.invariant.among in
+    let many = among_cell_count code numbers x.0 c.among.objects c.among.invariant.among in
     let few : p < length c.among.objects = (let a = c.in-Some.ensures.within in omega (arith, a, many)) in
     subst (λ (d : Cell). MayTake false d q) (get_or_default c.among.objects p empty c.index-objects-p.result few)
     (may_take_fair_ask code (get_or numbers p 0) y.0 (get_or c.among.objects p empty) q
-    (beside_at_place code numbers y.0 c.among.objects p
+    (beside_cell_at_place code numbers y.0 c.among.objects p
     (are_among_after_run code numbers c.run_to_ask-steps.result.0 x y c.among.objects c.among.objects c.among.invariant.among
-    (goes_among_by_private_steps code numbers c.run_to_ask-steps.result.0 x.0 y.0 x.1 c.among.objects c.requires.some c.run_to_ask-steps.ensures.steps))
+    (goes_among_by_private code numbers c.run_to_ask-steps.result.0 x.0 y.0 x.1 c.among.objects c.requires.some c.run_to_ask-steps.ensures.steps))
     c.in-Some.ensures.within)
     (sym c.run_to_ask-steps.ensures.asked) c.in-Some.ensures.fair c.in-Some.ensures.about)
 
@@ -44,7 +44,7 @@ among-preserved c =
     let q = c.run_to_ask-steps.result.1 in
     let took = c.if-not-take_beside.false in
     let was = c.among.invariant.goes in
-    let many = cells_as_many code numbers x.0 cells c.among.invariant.among in
+    let many = among_cell_count code numbers x.0 cells c.among.invariant.among in
     let few : p < length cells = (let a = c.in-Some.ensures.within in omega (arith, a, many)) in
     let same = get_or_default cells p c.index-objects-p.result empty few in
     let more : GoesAmong code numbers (n + 1) x cells z (set cells p e) =
@@ -71,7 +71,7 @@ returns-then-is_rest-clause-goes c = λ _.
     let was = c.among.invariant.goes in (
       was.0 + n,
       goes_among_append code numbers was.0 n (c.args.thread.now, c.args.source.now) x y c.args.objects.now c.among.objects c.among.objects was.1
-          (goes_among_by_private_steps code numbers n x.0 y.0 x.1 c.among.objects c.requires.some c.run_to_ask-steps.ensures.steps),
+          (goes_among_by_private code numbers n x.0 y.0 x.1 c.among.objects c.requires.some c.run_to_ask-steps.ensures.steps),
     )
 
 pub returns-then-is_rest-clause-rests : goal.returns-then-is_rest-clause-rests

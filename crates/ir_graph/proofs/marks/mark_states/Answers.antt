@@ -1,6 +1,6 @@
 use Rattle.std.proofs.Common.{◌≡◌, ◌↔◌, ℕ, length, sym, ap, ◌∙◌, subst}
 use Rattle.std.proofs.lemmas.List.{with_items_is}
-use Rattle.ir_search.specs.Following.{IsOpen}
+use Rattle.ir_search.specs.Following.{IsNodeOpen}
 use Rattle.ir_search.specs.Ways.{HasMarked}
 use Rattle.ir_graph.specs.Hangs.{AreWays}
 use Rattle.ir_graph.specs.Notes.{noted_by}
@@ -17,7 +17,7 @@ returns c =
     let same = with_items_is v c.mark_ways.new.marks (many ∙ sym v.ok.0) in
     let nodes : length v.items ≡ length flats = c.in_ok-marks.ensures.nodes in
     let threads : c.len.result ≡ length rows = c.len.ensures ∙ c.args.graph.now.rows.ok.0 in
-    let exact = subst (λ z. (x : ℕ) → IsOpen c.mark_ways.new.marks x ↔ HasMarked noted c.len.result z x) value
+    let exact = subst (λ z. (x : ℕ) → IsNodeOpen c.mark_ways.new.marks x ↔ HasMarked noted c.len.result z x) value
     c.mark_ways.ensures.exact in
     subst (AreWays noted (length rows) flats) (sym same) (record {
       done = v.items;
@@ -25,5 +25,5 @@ returns c =
       done_marked = c.in_ok-marks.ensures.done;
       marked_done = c.in_ok-marks.ensures.marked;
       all = many ∙ nodes;
-      exact = subst (λ z. (x : ℕ) → IsOpen c.mark_ways.new.marks x ↔ HasMarked noted z v.items x) threads exact;
+      exact = subst (λ z. (x : ℕ) → IsNodeOpen c.mark_ways.new.marks x ↔ HasMarked noted z v.items x) threads exact;
     })

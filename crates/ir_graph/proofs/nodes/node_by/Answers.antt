@@ -3,25 +3,25 @@ use Rattle.std.specs.Prelude.{slice_get}
 use Rattle.std.specs.List.{AllByRecursion}
 use Rattle.std.specs.Vec as vec
 use Rattle.std.proofs.lemmas.List.{get_or_read, with_items_is}
-use Rattle.ir_lemmas.proofs.CallerLemmas.{element_below_length_exists, if_ok_of_implied}
-use Rattle.ir_store.specs.declared.spot.Spot.{Spot}
-use Rattle.ir_store.specs.Nodes.{IsWithin, Node, SourcedFlat, sourced_in}
-use Rattle.ir_store.specs.Table.{HaveNoTicks}
+use Rattle.ir_lemmas.proofs.CallerLemmas.{element_below_length, if_ok_of_implied}
+use Rattle.ir_state_store.specs.declared.spot.Spot.{Spot}
+use Rattle.ir_state_store.specs.Nodes.{IsWithin, Node, SourcedFlat, sourced_in}
+use Rattle.ir_state_store.specs.Table.{HaveNoTicks}
 use Rattle.ir_graph.specs.Hand.{with_items}
 use Rattle.ir_graph.specs.Nodes.{LookAlike, AllRest, LeadsFrom}
-use Rattle.ir_graph.specs.Plain.{IsLike}
+use Rattle.ir_graph.specs.Plain.{LooksAlike}
 use Rattle.ir_graph.specs.Reached.{IsReached}
 use Rattle.ir_graph.specs.Times.{LeadsTickless}
 use Rattle.ir_graph.proofs.Both.{both_as_many, both_first, both_spot, both_made, both_within, both_state, both_node, both_like, both_rests, both_reached, both_leads, both_lead_tickless}
-use Rattle.ir_graph.proofs.Hand.{with_items_as_many}
-use Rattle.ir_graph.proofs.Times.{has_timed_run_if_reached_state_has_ticks}
+use Rattle.ir_graph.proofs.Hand.{length-with_items}
+use Rattle.ir_graph.proofs.Times.{ticks_have_timed_run}
 use Rattle.ir_graph.proofs.nodes.node_by.Goals as goal
 
 pub index-requires : goal.index-requires
 index-requires c =
     let flats = c.args.flats.now in
     let turn = c.args.turn.now in
-    let f = element_below_length_exists flats.items c.args.way.node c.requires.node in
+    let f = element_below_length flats.items c.args.way.node c.requires.node in
     let is = c.requires.turn f.0 f.1 in
     omega (arith, is.is.some, turn.numbers.ok.0)
 
@@ -29,7 +29,7 @@ pub index-requires-2 : goal.index-requires-2
 index-requires-2 c =
     let flats = c.args.flats.now in
     let turn = c.args.turn.now in
-    let f = element_below_length_exists flats.items c.args.way.node c.requires.node in
+    let f = element_below_length flats.items c.args.way.node c.requires.node in
     let is = c.requires.turn f.0 f.1 in
     omega (
       arith,
@@ -54,7 +54,7 @@ pub with_both-requires-clause-thread : goal.with_both-requires-clause-thread
 with_both-requires-clause-thread c =
     let flats = c.args.flats.now in
     let turn = c.args.turn.now in
-    let f = element_below_length_exists flats.items c.args.way.node c.requires.node in
+    let f = element_below_length flats.items c.args.way.node c.requires.node in
     let is = c.requires.turn f.0 f.1 in
     is.is.to
 
@@ -62,7 +62,7 @@ pub with_both-requires-clause-spot : goal.with_both-requires-clause-spot
 with_both-requires-clause-spot c =
     let flats = c.args.flats.now in
     let turn = c.args.turn.now in
-    let f = element_below_length_exists flats.items c.args.way.node c.requires.node in
+    let f = element_below_length flats.items c.args.way.node c.requires.node in
     let is = c.requires.turn f.0 f.1 in
     subst (λ (x : Spot). x.words < length flats.shared.words) (sym c.index-2.ensures)
     (both_spot flats.items flats.shared f.0 c.args.way.thread c.args.way.refused c.args.way.node turn c.requires.nodes f.1 (c.requires.thread f.0 f.1)
@@ -72,7 +72,7 @@ pub put_spots-requires-clause-each : goal.put_spots-requires-clause-each
 put_spots-requires-clause-each c =
     let flats = c.args.flats.now in
     let turn = c.args.turn.now in
-    let f = element_below_length_exists flats.items c.args.way.node c.requires.node in
+    let f = element_below_length flats.items c.args.way.node c.requires.node in
     let is = c.requires.turn f.0 f.1 in
     ap length c.as_slice-2.ensures.value ∙ both_as_many flats.items flats.shared f.0 c.args.way.thread c.args.way.refused c.args.way.node turn c.requires.nodes f.1 (c.requires.thread f.0 f.1)
     (c.thread_number.ensures.sourced f.0 f.1) is c.requires.leads
@@ -82,7 +82,7 @@ pub put_spots-requires-clause-within : goal.put_spots-requires-clause-within
 put_spots-requires-clause-within c =
     let flats = c.args.flats.now in
     let turn = c.args.turn.now in
-    let f = element_below_length_exists flats.items c.args.way.node c.requires.node in
+    let f = element_below_length flats.items c.args.way.node c.requires.node in
     let is = c.requires.turn f.0 f.1 in
     let node : Node = record { code = c.new.inside.code.now; threads = c.new.inside.threads.items; objects = c.new.inside.objects.items } in
     let number = get_or_read turn.numbers.items 0 c.index.result.now is.is.some c.index.ensures 0 in
@@ -98,7 +98,7 @@ pub node_of-requires-clause-is : goal.node_of-requires-clause-is
 node_of-requires-clause-is c =
     let flats = c.args.flats.now in
     let turn = c.args.turn.now in
-    let f = element_below_length_exists flats.items c.args.way.node c.requires.node in
+    let f = element_below_length flats.items c.args.way.node c.requires.node in
     let is = c.requires.turn f.0 f.1 in
     let node : Node = record { code = c.new.inside.code.now; threads = c.new.inside.threads.items; objects = c.new.inside.objects.items } in
     let number = get_or_read turn.numbers.items 0 c.index.result.now is.is.some c.index.ensures 0 in
@@ -111,7 +111,7 @@ node_of-requires-clause-is c =
     c.put_spots.ensures ∙ (λ i. with_items (c.as_mut_slice.ensures.value i) (c.as_slice.ensures.value i) (c.as_slice-2.ensures.value i)) in
     let all : objects ≡ with_items node.objects turn.numbers.items turn.afters.items =
     with_items_is c.new.inside.objects spots
-    (ap length put ∙ with_items_as_many node.objects turn.numbers.items turn.afters.items ∙ sym c.new.inside.objects.ok.0) ∙ put in
+    (ap length put ∙ length-with_items node.objects turn.numbers.items turn.afters.items ∙ sym c.new.inside.objects.ok.0) ∙ put in
     both_node flats.items flats.shared f.0 c.args.way.thread c.args.way.refused c.args.way.node turn c.requires.nodes f.1 (c.requires.thread f.0 f.1)
     (c.thread_number.ensures.sourced f.0 f.1) is c.requires.leads node objects c.index-2.result.now
     (subst (IsWithin flats.shared) (sym c.new.view_is) c.in_ok-new.ensures.within) made all
@@ -120,7 +120,7 @@ pub node_of-requires-clause-code : goal.node_of-requires-clause-code
 node_of-requires-clause-code c =
     let flats = c.args.flats.now in
     let turn = c.args.turn.now in
-    let f = element_below_length_exists flats.items c.args.way.node c.requires.node in
+    let f = element_below_length flats.items c.args.way.node c.requires.node in
     let is = c.requires.turn f.0 f.1 in
     let node : Node = record { code = c.new.inside.code.now; threads = c.new.inside.threads.items; objects = c.new.inside.objects.items } in
     let number = get_or_read turn.numbers.items 0 c.index.result.now is.is.some c.index.ensures 0 in
@@ -133,7 +133,7 @@ pub node_of-requires-clause-like : goal.node_of-requires-clause-like
 node_of-requires-clause-like c = λ u k there.
     let flats = c.args.flats.now in
     let turn = c.args.turn.now in
-    let f = element_below_length_exists flats.items c.args.way.node c.requires.node in
+    let f = element_below_length flats.items c.args.way.node c.requires.node in
     let is = c.requires.turn f.0 f.1 in
     let node : Node = record { code = c.new.inside.code.now; threads = c.new.inside.threads.items; objects = c.new.inside.objects.items } in
     let number = get_or_read turn.numbers.items 0 c.index.result.now is.is.some c.index.ensures 0 in
@@ -146,10 +146,10 @@ node_of-requires-clause-like c = λ u k there.
     c.put_spots.ensures ∙ (λ i. with_items (c.as_mut_slice.ensures.value i) (c.as_slice.ensures.value i) (c.as_slice-2.ensures.value i)) in
     let all : objects ≡ with_items node.objects turn.numbers.items turn.afters.items =
     with_items_is c.new.inside.objects spots
-    (ap length put ∙ with_items_as_many node.objects turn.numbers.items turn.afters.items ∙ sym c.new.inside.objects.ok.0) ∙ put in
+    (ap length put ∙ length-with_items node.objects turn.numbers.items turn.afters.items ∙ sym c.new.inside.objects.ok.0) ∙ put in
     let state = both_state flats.items flats.shared f.0 c.args.way.thread c.args.way.refused c.args.way.node turn c.requires.nodes f.1 (c.requires.thread f.0 f.1)
     (c.thread_number.ensures.sourced f.0 f.1) is c.requires.leads node objects c.index-2.result.now made all in
-    subst (λ (z : SourcedFlat). IsLike z.flat k.flat) (sym state)
+    subst (λ (z : SourcedFlat). LooksAlike z.flat k.flat) (sym state)
     (both_like flats.items flats.shared f.0 c.args.way.thread c.args.way.refused c.args.way.node turn c.requires.nodes f.1 (c.requires.thread f.0 f.1)
     (c.thread_number.ensures.sourced f.0 f.1) is c.requires.leads u k there)
 
@@ -157,7 +157,7 @@ pub node_of-requires-clause-rest : goal.node_of-requires-clause-rest
 node_of-requires-clause-rest c =
     let flats = c.args.flats.now in
     let turn = c.args.turn.now in
-    let f = element_below_length_exists flats.items c.args.way.node c.requires.node in
+    let f = element_below_length flats.items c.args.way.node c.requires.node in
     let is = c.requires.turn f.0 f.1 in
     let node : Node = record { code = c.new.inside.code.now; threads = c.new.inside.threads.items; objects = c.new.inside.objects.items } in
     let number = get_or_read turn.numbers.items 0 c.index.result.now is.is.some c.index.ensures 0 in
@@ -170,7 +170,7 @@ node_of-requires-clause-rest c =
     c.put_spots.ensures ∙ (λ i. with_items (c.as_mut_slice.ensures.value i) (c.as_slice.ensures.value i) (c.as_slice-2.ensures.value i)) in
     let all : objects ≡ with_items node.objects turn.numbers.items turn.afters.items =
     with_items_is c.new.inside.objects spots
-    (ap length put ∙ with_items_as_many node.objects turn.numbers.items turn.afters.items ∙ sym c.new.inside.objects.ok.0) ∙ put in
+    (ap length put ∙ length-with_items node.objects turn.numbers.items turn.afters.items ∙ sym c.new.inside.objects.ok.0) ∙ put in
     let state = both_state flats.items flats.shared f.0 c.args.way.thread c.args.way.refused c.args.way.node turn c.requires.nodes f.1 (c.requires.thread f.0 f.1)
     (c.thread_number.ensures.sourced f.0 f.1) is c.requires.leads node objects c.index-2.result.now made all in
     subst (λ (z : SourcedFlat). AllRest z.flat) (sym state)
@@ -181,7 +181,7 @@ pub returns-clause-reached : goal.returns-clause-reached
 returns-clause-reached c = λ x before.
     let flats = c.args.flats.now in
     let turn = c.args.turn.now in
-    let f = element_below_length_exists flats.items c.args.way.node c.requires.node in
+    let f = element_below_length flats.items c.args.way.node c.requires.node in
     let is = c.requires.turn f.0 f.1 in
     let node : Node = record { code = c.new.inside.code.now; threads = c.new.inside.threads.items; objects = c.new.inside.objects.items } in
     let number = get_or_read turn.numbers.items 0 c.index.result.now is.is.some c.index.ensures 0 in
@@ -194,7 +194,7 @@ returns-clause-reached c = λ x before.
     c.put_spots.ensures ∙ (λ i. with_items (c.as_mut_slice.ensures.value i) (c.as_slice.ensures.value i) (c.as_slice-2.ensures.value i)) in
     let all : objects ≡ with_items node.objects turn.numbers.items turn.afters.items =
     with_items_is c.new.inside.objects spots
-    (ap length put ∙ with_items_as_many node.objects turn.numbers.items turn.afters.items ∙ sym c.new.inside.objects.ok.0) ∙ put in
+    (ap length put ∙ length-with_items node.objects turn.numbers.items turn.afters.items ∙ sym c.new.inside.objects.ok.0) ∙ put in
     let state = both_state flats.items flats.shared f.0 c.args.way.thread c.args.way.refused c.args.way.node turn c.requires.nodes f.1 (c.requires.thread f.0 f.1)
     (c.thread_number.ensures.sourced f.0 f.1) is c.requires.leads node objects c.index-2.result.now made all in
     c.node_of.ensures.reached x before (subst (IsReached x) (sym state)
@@ -205,7 +205,7 @@ pub returns-clause-leads : goal.returns-clause-leads
 returns-clause-leads c =
     let flats = c.args.flats.now in
     let turn = c.args.turn.now in
-    let f = element_below_length_exists flats.items c.args.way.node c.requires.node in
+    let f = element_below_length flats.items c.args.way.node c.requires.node in
     let is = c.requires.turn f.0 f.1 in
     let node : Node = record { code = c.new.inside.code.now; threads = c.new.inside.threads.items; objects = c.new.inside.objects.items } in
     let number = get_or_read turn.numbers.items 0 c.index.result.now is.is.some c.index.ensures 0 in
@@ -218,7 +218,7 @@ returns-clause-leads c =
     c.put_spots.ensures ∙ (λ i. with_items (c.as_mut_slice.ensures.value i) (c.as_slice.ensures.value i) (c.as_slice-2.ensures.value i)) in
     let all : objects ≡ with_items node.objects turn.numbers.items turn.afters.items =
     with_items_is c.new.inside.objects spots
-    (ap length put ∙ with_items_as_many node.objects turn.numbers.items turn.afters.items ∙ sym c.new.inside.objects.ok.0) ∙ put in
+    (ap length put ∙ length-with_items node.objects turn.numbers.items turn.afters.items ∙ sym c.new.inside.objects.ok.0) ∙ put in
     let state = both_state flats.items flats.shared f.0 c.args.way.thread c.args.way.refused c.args.way.node turn c.requires.nodes f.1 (c.requires.thread f.0 f.1)
     (c.thread_number.ensures.sourced f.0 f.1) is c.requires.leads node objects c.index-2.result.now made all in
     let h = sourced_in flats.shared (record node { objects = objects }) in
@@ -233,7 +233,7 @@ pub returns-clause-has : goal.returns-clause-has
 returns-clause-has c = λ x before was new.
     let flats = c.args.flats.now in
     let turn = c.args.turn.now in
-    let f = element_below_length_exists flats.items c.args.way.node c.requires.node in
+    let f = element_below_length flats.items c.args.way.node c.requires.node in
     let is = c.requires.turn f.0 f.1 in
     let node : Node = record { code = c.new.inside.code.now; threads = c.new.inside.threads.items; objects = c.new.inside.objects.items } in
     let number = get_or_read turn.numbers.items 0 c.index.result.now is.is.some c.index.ensures 0 in
@@ -246,12 +246,12 @@ returns-clause-has c = λ x before was new.
     c.put_spots.ensures ∙ (λ i. with_items (c.as_mut_slice.ensures.value i) (c.as_slice.ensures.value i) (c.as_slice-2.ensures.value i)) in
     let all : objects ≡ with_items node.objects turn.numbers.items turn.afters.items =
     with_items_is c.new.inside.objects spots
-    (ap length put ∙ with_items_as_many node.objects turn.numbers.items turn.afters.items ∙ sym c.new.inside.objects.ok.0) ∙ put in
+    (ap length put ∙ length-with_items node.objects turn.numbers.items turn.afters.items ∙ sym c.new.inside.objects.ok.0) ∙ put in
     let state = both_state flats.items flats.shared f.0 c.args.way.thread c.args.way.refused c.args.way.node turn c.requires.nodes f.1 (c.requires.thread f.0 f.1)
     (c.thread_number.ensures.sourced f.0 f.1) is c.requires.leads node objects c.index-2.result.now made all in
     let h = sourced_in flats.shared (record node { objects = objects }) in elim (c.node_of.ensures.ticks new) [
       | inl old ↦ was old
-      | inr ticks ↦ has_timed_run_if_reached_state_has_ticks x h
+      | inr ticks ↦ ticks_have_timed_run x h
           (subst (IsReached x) (sym state)
           (both_reached flats.items flats.shared f.0 c.args.way.thread c.args.way.refused c.args.way.node turn c.requires.nodes f.1 (c.requires.thread f.0 f.1)
           (c.thread_number.ensures.sourced f.0 f.1) is c.requires.leads x (before c.args.way.node f.0 f.1))) ticks
@@ -261,7 +261,7 @@ pub returns-clause-tickless : goal.returns-clause-tickless
 returns-clause-tickless c =
     let flats = c.args.flats.now in
     let turn = c.args.turn.now in
-    let f = element_below_length_exists flats.items c.args.way.node c.requires.node in
+    let f = element_below_length flats.items c.args.way.node c.requires.node in
     let is = c.requires.turn f.0 f.1 in
     let node : Node = record { code = c.new.inside.code.now; threads = c.new.inside.threads.items; objects = c.new.inside.objects.items } in
     let number = get_or_read turn.numbers.items 0 c.index.result.now is.is.some c.index.ensures 0 in
@@ -274,7 +274,7 @@ returns-clause-tickless c =
     c.put_spots.ensures ∙ (λ i. with_items (c.as_mut_slice.ensures.value i) (c.as_slice.ensures.value i) (c.as_slice-2.ensures.value i)) in
     let all : objects ≡ with_items node.objects turn.numbers.items turn.afters.items =
     with_items_is c.new.inside.objects spots
-    (ap length put ∙ with_items_as_many node.objects turn.numbers.items turn.afters.items ∙ sym c.new.inside.objects.ok.0) ∙ put in
+    (ap length put ∙ length-with_items node.objects turn.numbers.items turn.afters.items ∙ sym c.new.inside.objects.ok.0) ∙ put in
     let state = both_state flats.items flats.shared f.0 c.args.way.thread c.args.way.refused c.args.way.node turn c.requires.nodes f.1 (c.requires.thread f.0 f.1)
     (c.thread_number.ensures.sourced f.0 f.1) is c.requires.leads node objects c.index-2.result.now made all in
     let h = sourced_in flats.shared (record node { objects = objects }) in

@@ -2,20 +2,20 @@ use Rattle.std.proofs.Common.{◌≡◌, ◌<◌, Some, inl, inr, sym, ap, ◌�
 use Rattle.std.specs.Prelude.{slice_get}
 use Rattle.ir_runs.specs.Run.{Can}
 use Rattle.ir_flat.specs.Flat.{machine, tables}
-use Rattle.ir_store.specs.Nodes.{SourcedFlat}
-use Rattle.ir_store.specs.Others.{HasOthersOf}
+use Rattle.ir_state_store.specs.Nodes.{SourcedFlat}
+use Rattle.ir_state_store.specs.Others.{HasOthersOf}
 use Rattle.std.proofs.lemmas.Option.{same_Some}
-use Rattle.ir_store.specs.Table.{HaveForm, HaveTicks, HaveNoTicks}
+use Rattle.ir_state_store.specs.Table.{HaveForm, HaveTicks, HaveNoTicks}
 use Rattle.ir_graph.specs.Times.{LeadsTickless}
-use Rattle.ir_graph.proofs.Times.{has_timed_run_if_reached_state_has_ticks}
+use Rattle.ir_graph.proofs.Times.{ticks_have_timed_run}
 use Rattle.ir_graph.specs.Nodes.{LookAlike, AllRest, NodesStay}
-use Rattle.ir_graph.specs.Plain.{sourced_flat, IsLike, MayGo}
+use Rattle.ir_graph.specs.Plain.{sourced_flat, LooksAlike, MayGo}
 use Rattle.ir_graph.specs.Reached.{IsReached, AllReached}
-use Rattle.ir_graph.proofs.Reached.{step_of_reached_is_reached}
-use Rattle.ir_graph.proofs.Stops.{is_stop_if_stops_after_entry_from_reached_state, may_stop_by_thread_stop}
-use Rattle.ir_graph.proofs.Found.{leads_nowhere_if_no_step, reached_like, reached_each, reached_others, reached_thread, reached_rests, leads_to_node_if_reached_state_looks_alike, leads_tickless_if_reached_state_is}
-use Rattle.ir_graph.proofs.Forms.{have_form_of_like_moment}
-use Rattle.ir_graph.proofs.Plain.{TakesStep, takes_step_at_rest_if_tables_step, like_transitive, flat_after_step_is_like_flat_before, flat_after_plain_steps_is_like_flat_before}
+use Rattle.ir_graph.proofs.Reached.{reached_after_step}
+use Rattle.ir_graph.proofs.Stops.{stop_after_entry, may_stop_by_thread_stop}
+use Rattle.ir_graph.proofs.Found.{no_step_leads_nowhere, reached_like, reached_each, reached_others, reached_thread, reached_rests, leads_to_alike_node, leads_tickless}
+use Rattle.ir_graph.proofs.Forms.{like_moment_form}
+use Rattle.ir_graph.proofs.Plain.{TakesStep, rest_takes_step, like_transitive, step_flat_is_like, plain_flat_is_like}
 use Rattle.ir_graph.proofs.nodes.node_by_steps.Goals as goal
 
 pub run_to_rest-requires-clause-source : goal.run_to_rest-requires-clause-source
@@ -38,7 +38,7 @@ by_number_of-requires-clause-sourced c =
     let one = c.in_default-take.ensures in
     let step : TakesStep (sourced_flat c.state.inside.flat c.state.inside.sources.items) (sourced_flat c.take.new.self c.state.inside.sources.items)
     c.args.way.thread c.in-Some.answer =
-    takes_step_at_rest_if_tables_step f g sources t c.in-Some.answer rests one.admitted one.taken one.code one.threads one.objects in
+    rest_takes_step f g sources t c.in-Some.answer rests one.admitted one.taken one.code one.threads one.objects in
     let w = c.run_to_rest.new.state in
     let goes = c.run_to_rest.ensures.goes in
     record {
@@ -60,12 +60,12 @@ by_number_of-requires-clause-form c =
     let one = c.in_default-take.ensures in
     let step : TakesStep (sourced_flat c.state.inside.flat c.state.inside.sources.items) (sourced_flat c.take.new.self c.state.inside.sources.items)
     c.args.way.thread c.in-Some.answer =
-    takes_step_at_rest_if_tables_step f g sources t c.in-Some.answer rests one.admitted one.taken one.code one.threads one.objects in
+    rest_takes_step f g sources t c.in-Some.answer rests one.admitted one.taken one.code one.threads one.objects in
     let w = c.run_to_rest.new.state in
     let goes = c.run_to_rest.ensures.goes in
     let form = subst (λ (z : SourcedFlat). HaveForm c.args.flats.now.form z.flat.threads) (sym c.state.view_is) c.in_ok-state.ensures.form in
-    have_form_of_like_moment c.args.flats.now.form f w.flat
-    (like_transitive f g w.flat (flat_after_step_is_like_flat_before s u t c.in-Some.answer step) (flat_after_plain_steps_is_like_flat_before u w goes)) form
+    like_moment_form c.args.flats.now.form f w.flat
+    (like_transitive f g w.flat (step_flat_is_like s u t c.in-Some.answer step) (plain_flat_is_like u w goes)) form
 
 pub by_number_of-requires-clause-thread : goal.by_number_of-requires-clause-thread
 by_number_of-requires-clause-thread c =
@@ -81,7 +81,7 @@ by_number_of-requires-clause-thread c =
     let one = c.in_default-take.ensures in
     let step : TakesStep (sourced_flat c.state.inside.flat c.state.inside.sources.items) (sourced_flat c.take.new.self c.state.inside.sources.items)
     c.args.way.thread c.in-Some.answer =
-    takes_step_at_rest_if_tables_step f g sources t c.in-Some.answer rests one.admitted one.taken one.code one.threads one.objects in
+    rest_takes_step f g sources t c.in-Some.answer rests one.admitted one.taken one.code one.threads one.objects in
     let w = c.run_to_rest.new.state in
     let goes = c.run_to_rest.ensures.goes in
     reached_thread c.args.flats.now.items s u w t c.in-Some.answer c.args.way.node c.requires.nodes at less step goes
@@ -100,7 +100,7 @@ by_number_of-requires-clause-others c = λ k is.
     let one = c.in_default-take.ensures in
     let step : TakesStep (sourced_flat c.state.inside.flat c.state.inside.sources.items) (sourced_flat c.take.new.self c.state.inside.sources.items)
     c.args.way.thread c.in-Some.answer =
-    takes_step_at_rest_if_tables_step f g sources t c.in-Some.answer rests one.admitted one.taken one.code one.threads one.objects in
+    rest_takes_step f g sources t c.in-Some.answer rests one.admitted one.taken one.code one.threads one.objects in
     let w = c.run_to_rest.new.state in
     let goes = c.run_to_rest.ensures.goes in
     subst (λ z. HasOthersOf z w t) (same_Some s k (sym at ∙ is))
@@ -113,7 +113,7 @@ returns-in-Err-clause-leads c =
     let t = c.args.way.thread in
     let at = subst (λ z. slice_get c.args.flats.now.items c.args.way.node ≡ Some z) (sym c.state.view_is) c.in_ok-state.ensures.found in
     let less = c.requires.thread s at in
-    leads_nowhere_if_no_step c.args.flats.now.items s t c.args.way.refused c.args.way.node c.requires.nodes at less
+    no_step_leads_nowhere c.args.flats.now.items s t c.args.way.refused c.args.way.node c.requires.nodes at less
     (subst (λ r. Can (machine f) (tables f) (t, r) → ⊥) c.in-Some.ensures.result c.in-Err.ensures.refused)
 
 pub node_of-requires-clause-code : goal.node_of-requires-clause-code
@@ -139,10 +139,10 @@ node_of-requires-clause-like c = λ v k is.
     let one = c.in_default-take.ensures in
     let step : TakesStep (sourced_flat c.state.inside.flat c.state.inside.sources.items) (sourced_flat c.take.new.self c.state.inside.sources.items)
     c.args.way.thread c.in-Some.answer =
-    takes_step_at_rest_if_tables_step f g sources t c.in-Some.answer rests one.admitted one.taken one.code one.threads one.objects in
+    rest_takes_step f g sources t c.in-Some.answer rests one.admitted one.taken one.code one.threads one.objects in
     let w = c.run_to_rest.new.state in
     let goes = c.run_to_rest.ensures.goes in
-    subst (λ (z : SourcedFlat). IsLike z.flat k.flat) (sym c.in_ok-new.ensures.state)
+    subst (λ (z : SourcedFlat). LooksAlike z.flat k.flat) (sym c.in_ok-new.ensures.state)
     (reached_like c.args.flats.now.items s u w t c.in-Some.answer c.args.way.node c.requires.nodes at less step goes v k
     (subst (λ z. slice_get z v ≡ Some k) c.by_number_of.ensures.items is))
 
@@ -160,7 +160,7 @@ node_of-requires-clause-rest c =
     let one = c.in_default-take.ensures in
     let step : TakesStep (sourced_flat c.state.inside.flat c.state.inside.sources.items) (sourced_flat c.take.new.self c.state.inside.sources.items)
     c.args.way.thread c.in-Some.answer =
-    takes_step_at_rest_if_tables_step f g sources t c.in-Some.answer rests one.admitted one.taken one.code one.threads one.objects in
+    rest_takes_step f g sources t c.in-Some.answer rests one.admitted one.taken one.code one.threads one.objects in
     let w = c.run_to_rest.new.state in
     let goes = c.run_to_rest.ensures.goes in
     subst (λ (z : SourcedFlat). AllRest z.flat) (sym c.in_ok-new.ensures.state)
@@ -181,12 +181,12 @@ returns-in-Ok-clause-leads c =
     let one = c.in_default-take.ensures in
     let step : TakesStep (sourced_flat c.state.inside.flat c.state.inside.sources.items) (sourced_flat c.take.new.self c.state.inside.sources.items)
     c.args.way.thread c.in-Some.answer =
-    takes_step_at_rest_if_tables_step f g sources t c.in-Some.answer rests one.admitted one.taken one.code one.threads one.objects in
+    rest_takes_step f g sources t c.in-Some.answer rests one.admitted one.taken one.code one.threads one.objects in
     let w = c.run_to_rest.new.state in
     let goes = c.run_to_rest.ensures.goes in
     let r = c.in-Some.ensures.result in
     let may = subst (MayGo c.args.way.refused) c.ask-asked.ensures.value c.in-Some.ensures.has in
-    leads_to_node_if_reached_state_looks_alike c.args.flats.now.items s u w t c.args.way.refused c.args.way.node c.requires.nodes at less may
+    leads_to_alike_node c.args.flats.now.items s u w t c.args.way.refused c.args.way.node c.requires.nodes at less may
     (subst (TakesStep (sourced_flat c.state.inside.flat c.state.inside.sources.items) (sourced_flat c.take.new.self c.state.inside.sources.items)
     c.args.way.thread) r step) goes c.node_of.new.flats.items c.in-Ok.next
     (subst (λ z. NodesStay z c.node_of.new.flats.items) c.by_number_of.ensures.items c.node_of.ensures.stay)
@@ -206,12 +206,12 @@ returns-in-Ok-clause-reached c = λ x all.
     let one = c.in_default-take.ensures in
     let step : TakesStep (sourced_flat c.state.inside.flat c.state.inside.sources.items) (sourced_flat c.take.new.self c.state.inside.sources.items)
     c.args.way.thread c.in-Some.answer =
-    takes_step_at_rest_if_tables_step f g sources t c.in-Some.answer rests one.admitted one.taken one.code one.threads one.objects in
+    rest_takes_step f g sources t c.in-Some.answer rests one.admitted one.taken one.code one.threads one.objects in
     let w = c.run_to_rest.new.state in
     let goes = c.run_to_rest.ensures.goes in
     c.node_of.ensures.reached x (subst (AllReached x) (sym c.by_number_of.ensures.items) all)
     (subst (IsReached x) (sym c.in_ok-new.ensures.state)
-    (step_of_reached_is_reached x s u w t c.in-Some.answer (all c.args.way.node s at) rests step goes))
+    (reached_after_step x s u w t c.in-Some.answer (all c.args.way.node s at) rests step goes))
 
 pub returns-clause-reached : goal.returns-clause-reached
 returns-clause-reached c = λ x all.
@@ -227,12 +227,12 @@ returns-clause-reached c = λ x all.
     let one = c.in_default-take.ensures in
     let step : TakesStep (sourced_flat c.state.inside.flat c.state.inside.sources.items) (sourced_flat c.take.new.self c.state.inside.sources.items)
     c.args.way.thread c.in-Some.answer =
-    takes_step_at_rest_if_tables_step f g sources t c.in-Some.answer rests one.admitted one.taken one.code one.threads one.objects in
+    rest_takes_step f g sources t c.in-Some.answer rests one.admitted one.taken one.code one.threads one.objects in
     let w = c.run_to_rest.new.state in
     let goes = c.run_to_rest.ensures.goes in
     c.node_of.ensures.reached x (subst (AllReached x) (sym c.by_number_of.ensures.items) all)
     (subst (IsReached x) (sym c.in_ok-new.ensures.state)
-    (step_of_reached_is_reached x s u w t c.in-Some.answer (all c.args.way.node s at) rests step goes))
+    (reached_after_step x s u w t c.in-Some.answer (all c.args.way.node s at) rests step goes))
 
 pub returns-in-Err-run_to_rest-clause-stopped : goal.returns-in-Err-run_to_rest-clause-stopped
 returns-in-Err-run_to_rest-clause-stopped c = λ x all.
@@ -248,11 +248,11 @@ returns-in-Err-run_to_rest-clause-stopped c = λ x all.
     let one = c.in_default-take.ensures in
     let step : TakesStep (sourced_flat c.state.inside.flat c.state.inside.sources.items) (sourced_flat c.take.new.self c.state.inside.sources.items)
     c.args.way.thread c.in-Some.answer =
-    takes_step_at_rest_if_tables_step f g sources t c.in-Some.answer rests one.admitted one.taken one.code one.threads one.objects in
+    rest_takes_step f g sources t c.in-Some.answer rests one.admitted one.taken one.code one.threads one.objects in
     let w = c.run_to_rest.new.state in
     let goes = c.run_to_rest.ensures.goes in
     may_stop_by_thread_stop x c.args.flats.now.items c.args.bounds.nodes c.args.bounds.private c.in-Err-run_to_rest.stop
-    (is_stop_if_stops_after_entry_from_reached_state x c.args.bounds.private c.in-Err-run_to_rest.stop s u w t c.in-Some.answer (all c.args.way.node s at) rests step goes
+    (stop_after_entry x c.args.bounds.private c.in-Err-run_to_rest.stop s u w t c.in-Some.answer (all c.args.way.node s at) rests step goes
     c.in-Err-run_to_rest.ensures.stopped)
 
 pub returns-in_err-new-clause-reached : goal.returns-in_err-new-clause-reached
@@ -278,11 +278,11 @@ returns-in-Ok-clause-has c = λ x all was new.
     let one = c.in_default-take.ensures in
     let step : TakesStep (sourced_flat c.state.inside.flat c.state.inside.sources.items) (sourced_flat c.take.new.self c.state.inside.sources.items)
     c.args.way.thread c.in-Some.answer =
-    takes_step_at_rest_if_tables_step f g sources t c.in-Some.answer rests one.admitted one.taken one.code one.threads one.objects in
+    rest_takes_step f g sources t c.in-Some.answer rests one.admitted one.taken one.code one.threads one.objects in
     let w = c.run_to_rest.new.state in
     let goes = c.run_to_rest.ensures.goes in elim (c.node_of.ensures.ticks new) [
       | inl old ↦ was old
-      | inr ticks ↦ has_timed_run_if_reached_state_has_ticks x w (step_of_reached_is_reached x s u w t c.in-Some.answer (all c.args.way.node s at) rests step goes)
+      | inr ticks ↦ ticks_have_timed_run x w (reached_after_step x s u w t c.in-Some.answer (all c.args.way.node s at) rests step goes)
           (subst (λ (z : SourcedFlat). HaveTicks z.sources) c.in_ok-new.ensures.state ticks)
     ]
 
@@ -300,11 +300,11 @@ returns-clause-has c = λ x all was new.
     let one = c.in_default-take.ensures in
     let step : TakesStep (sourced_flat c.state.inside.flat c.state.inside.sources.items) (sourced_flat c.take.new.self c.state.inside.sources.items)
     c.args.way.thread c.in-Some.answer =
-    takes_step_at_rest_if_tables_step f g sources t c.in-Some.answer rests one.admitted one.taken one.code one.threads one.objects in
+    rest_takes_step f g sources t c.in-Some.answer rests one.admitted one.taken one.code one.threads one.objects in
     let w = c.run_to_rest.new.state in
     let goes = c.run_to_rest.ensures.goes in elim (c.node_of.ensures.ticks new) [
       | inl old ↦ was old
-      | inr ticks ↦ has_timed_run_if_reached_state_has_ticks x w (step_of_reached_is_reached x s u w t c.in-Some.answer (all c.args.way.node s at) rests step goes)
+      | inr ticks ↦ ticks_have_timed_run x w (reached_after_step x s u w t c.in-Some.answer (all c.args.way.node s at) rests step goes)
           (subst (λ (z : SourcedFlat). HaveTicks z.sources) c.in_ok-new.ensures.state ticks)
     ]
 
@@ -322,13 +322,13 @@ returns-in-Ok-clause-tickless c = λ p is none.
     let one = c.in_default-take.ensures in
     let step : TakesStep (sourced_flat c.state.inside.flat c.state.inside.sources.items) (sourced_flat c.take.new.self c.state.inside.sources.items)
     c.args.way.thread c.in-Some.answer =
-    takes_step_at_rest_if_tables_step f g sources t c.in-Some.answer rests one.admitted one.taken one.code one.threads one.objects in
+    rest_takes_step f g sources t c.in-Some.answer rests one.admitted one.taken one.code one.threads one.objects in
     let w = c.run_to_rest.new.state in
     let goes = c.run_to_rest.ensures.goes in
     let r = c.in-Some.ensures.result in
     let may = subst (MayGo c.args.way.refused) c.ask-asked.ensures.value c.in-Some.ensures.has in
     subst (LeadsTickless c.node_of.new.flats.items t c.args.way.refused c.args.way.node) (same_Some c.in-Ok.next p is)
-    (leads_tickless_if_reached_state_is c.args.flats.now.items s u w t c.args.way.refused c.args.way.node c.requires.nodes at less may
+    (leads_tickless c.args.flats.now.items s u w t c.args.way.refused c.args.way.node c.requires.nodes at less may
     (subst (TakesStep (sourced_flat c.state.inside.flat c.state.inside.sources.items) (sourced_flat c.take.new.self c.state.inside.sources.items)
     c.args.way.thread) r step) goes c.node_of.new.flats.items c.in-Ok.next
     (subst (λ z. NodesStay z c.node_of.new.flats.items) c.by_number_of.ensures.items c.node_of.ensures.stay)

@@ -1,14 +1,14 @@
 use Rattle.std.proofs.Common.{◌≡◌, Some, sym, ◌∙◌, subst}
 use Rattle.std.specs.Prelude.{slice_get}
-use Rattle.ir_lemmas.proofs.CallerLemmas.{element_below_length_exists}
+use Rattle.ir_lemmas.proofs.CallerLemmas.{element_below_length}
 use Rattle.ir_search.specs.declared.stop.Stop.{Stop}
 use Rattle.ir_graph.specs.Setup.{Setup}
 use Rattle.ir_graph.specs.Ahead.{IsTurnOf}
 use Rattle.ir_graph.specs.Reached.{AllReached}
 use Rattle.ir_graph.specs.Stops.{MayStop}
 use Rattle.ir_graph.specs.Nodes.{AreNodes}
-use Rattle.ir_graph.proofs.Both.{waiting_turn_leads_nowhere}
-use Rattle.ir_graph.proofs.KnownTurns.{known_is_turn, known_within, turns_grown, if_err_weaker}
+use Rattle.ir_graph.proofs.Both.{waiting_leads_nowhere}
+use Rattle.ir_graph.proofs.KnownTurns.{known_turn_of_node, known_turn_in_table, turns_grown, if_err_weaker}
 use Rattle.ir_graph.proofs.nodes.successor.Goals as goal
 
 pub returns-in_err-i-clause-reached : goal.returns-in_err-i-clause-reached
@@ -17,7 +17,7 @@ returns-in_err-i-clause-reached c = λ x all. subst (AllReached x) (sym c.turn_o
 pub turn-turn-requires : goal.turn-turn-requires
 turn-turn-requires c =
     let new = c.turn_of.new.flats in
-    known_within c.args.code.now new.shared new.items c.turn_of.new.ahead c.args.way.node c.args.way.thread c.args.way.refused _ c.in-Some.i c.in-Some.is
+    known_turn_in_table c.args.code.now new.shared new.items c.turn_of.new.ahead c.args.way.node c.args.way.thread c.args.way.refused _ c.in-Some.i c.in-Some.is
     c.in_ok-i.ensures.turn
 
 pub returns-then-turn-clause-reached : goal.returns-then-turn-clause-reached
@@ -27,12 +27,12 @@ pub returns-then-turn-clause-leads : goal.returns-then-turn-clause-leads
 returns-then-turn-clause-leads c =
     let new = c.turn_of.new.flats in
     let turn = c.turn-turn.result.now in
-    let f = element_below_length_exists c.args.flats.now.items c.args.way.node c.requires.node in
+    let f = element_below_length c.args.flats.now.items c.args.way.node c.requires.node in
     let at = subst (λ z. slice_get z c.args.way.node ≡ Some f.0) (sym c.turn_of.ensures.items) f.1 in
-    waiting_turn_leads_nowhere new.items new.shared f.0 c.args.way.thread c.args.way.refused c.args.way.node turn
+    waiting_leads_nowhere new.items new.shared f.0 c.args.way.thread c.args.way.refused c.args.way.node turn
     (subst AreNodes (sym c.turn_of.ensures.items) c.requires.nodes) at (c.requires.thread f.0 f.1) (c.thread_number-number.ensures.sourced f.0 f.1)
     (subst (λ z. IsTurnOf z new.shared f.0 c.args.way.thread c.args.way.refused turn) (sym (c.requires.code f.0 f.1))
-    (known_is_turn c.args.code.now new.shared new.items c.turn_of.new.ahead c.args.way.node c.args.way.thread c.args.way.refused _ c.in-Some.i turn f.0
+    (known_turn_of_node c.args.code.now new.shared new.items c.turn_of.new.ahead c.args.way.node c.args.way.thread c.args.way.refused _ c.in-Some.i turn f.0
     c.in-Some.is c.in_ok-i.ensures.turn c.turn-turn.ensures at)) c.if-turn.true
 
 pub node_by-requires-clause-turn : goal.node_by-requires-clause-turn
@@ -41,7 +41,7 @@ node_by-requires-clause-turn c = λ f at.
     let turn = c.turn-turn.result.now in
     let here = subst (λ z. slice_get z c.args.way.node ≡ Some f) c.turn_of.ensures.items at in
     subst (λ z. IsTurnOf z new.shared f c.args.way.thread c.args.way.refused turn) (sym (c.requires.code f here))
-    (known_is_turn c.args.code.now new.shared new.items c.turn_of.new.ahead c.args.way.node c.args.way.thread c.args.way.refused _ c.in-Some.i turn f
+    (known_turn_of_node c.args.code.now new.shared new.items c.turn_of.new.ahead c.args.way.node c.args.way.thread c.args.way.refused _ c.in-Some.i turn f
     c.in-Some.is c.in_ok-i.ensures.turn c.turn-turn.ensures at)
 
 pub node_by-requires-clause-code : goal.node_by-requires-clause-code

@@ -2,10 +2,10 @@ use Rattle.std.proofs.Common.{refl, inl, inr, sym, ◌∙◌, subst, arith}
 use Rattle.std.proofs.lemmas.Bool.{cases_eq}
 use Rattle.ir_thread.specs.State.{ask_of}
 use Rattle.ir_flat.specs.Flat.{IsFlat, thread_of}
-use Rattle.ir_store.specs.Nodes.{SourcedFlat}
+use Rattle.ir_state_store.specs.Nodes.{SourcedFlat}
 use Rattle.ir_graph.specs.Plain.{Rests}
 use Rattle.ir_graph.proofs.Plain.{goes_plain_reflexive, goes_plain_transitive}
-use Rattle.ir_graph.proofs.Stops.{is_stop_if_stops_after_plain_steps_from_start}
+use Rattle.ir_graph.proofs.Stops.{stop_after_plain_steps}
 use Rattle.ir_graph.proofs.start.rest_all.Goals as goal
 
 pub returns-in-Err-clause-goes : goal.returns-in-Err-clause-goes
@@ -40,5 +40,5 @@ loop-thread-preserved c =
 
 pub returns-in-Err-clause-stopped : goal.returns-in-Err-clause-stopped
 returns-in-Err-clause-stopped c = λ x is.
-    is_stop_if_stops_after_plain_steps_from_start x c.args.limit c.loop-thread.thread c.in-Err.stop c.args.state.now c.loop-thread.state c.run_to_rest.new.state is
+    stop_after_plain_steps x c.args.limit c.loop-thread.thread c.in-Err.stop c.args.state.now c.loop-thread.state c.run_to_rest.new.state is
     c.loop-thread.invariant.goes c.run_to_rest.ensures.goes c.in-Err.ensures.stopped

@@ -1,7 +1,7 @@
 use Rattle.std.proofs.Common.{ap, ◌∙◌, subst, get_or}
-use Rattle.ir_store.specs.Table.{idle_beside}
+use Rattle.ir_state_store.specs.Table.{idle_beside}
 use Rattle.ir_graph.specs.Hand.{AllPairs, IsAtSpot}
-use Rattle.ir_graph.proofs.KnownTurns.{same_bool}
+use Rattle.ir_graph.proofs.KnownTurns.{bools_equal}
 use Rattle.ir_graph.proofs.turns.known_turn.Goals as goal
 
 pub returns : goal.returns
@@ -11,7 +11,7 @@ returns c =
       turn,
       c.turn-turn.ensures,
       λ s at. record {
-        way = same_bool turn.refused c.args.way.refused c.if-turn-way.false;
+        way = bools_equal turn.refused c.args.way.refused c.if-turn-way.false;
         here = ap (λ n. get_or c.args.flats.now.shared.threads n idle_beside) c.if-turn-from.false ∙ c.thread_number-from.ensures.thread s at;
         there = subst (λ n. AllPairs (IsAtSpot words s.flat.objects) n turn.spots.items) c.as_slice-2.ensures.value
             (subst (AllPairs (IsAtSpot words s.flat.objects) c.as_slice-2.result.now) c.as_slice-3.ensures.value

@@ -1,23 +1,23 @@
 use Rattle.std.proofs.Common.{◌≡◌, Some, true, false, length, get_or, refl, sym, ap, ◌∙◌, subst, arith}
 use Rattle.std.specs.Prelude.{slice_get}
 use Rattle.std.proofs.lemmas.List.{get_or_read, with_items_is}
-use Rattle.ir_lemmas.proofs.CallerLemmas.{element_below_length_exists}
+use Rattle.ir_lemmas.proofs.CallerLemmas.{element_below_length}
 use Rattle.ir_object.specs.Cell.{Cell}
 use Rattle.ir_object.specs.Empty.{empty}
 use Rattle.ir_world.specs.Sources.{Source}
 use Rattle.ir_thread.specs.State.{ThreadState, ask_of}
-use Rattle.ir_store.specs.Nodes.{HaveWords, cells_at}
-use Rattle.ir_store.specs.Table.{idle_beside}
-use Rattle.ir_store.proofs.CallerLemmas.{kept_element_is_equal}
+use Rattle.ir_state_store.specs.Nodes.{HaveWords, cells_at}
+use Rattle.ir_state_store.specs.Table.{idle_beside}
+use Rattle.ir_state_store.proofs.CallerLemmas.{kept_element_is_equal}
 use Rattle.ir_graph.specs.declared.known.Turn.{Turn}
 use Rattle.ir_graph.specs.Ahead.{IsTurnOf}
 use Rattle.ir_graph.specs.Hand.{IsHandOf}
 use Rattle.ir_graph.specs.Lone.{AreAmong, MustWait, TakesTurn}
 use Rattle.ir_graph.specs.Plain.{MayGo}
-use Rattle.ir_graph.proofs.Gathered.{cells_at_spots_as_many, first_of_hand, some_in_hand, spots_there}
+use Rattle.ir_graph.proofs.Gathered.{cells_at_spots_length, hand_begins_with_number, hand_is_nonempty, spots_exist_for_numbers}
 use Rattle.ir_graph.proofs.Hand.{hand_at_spots, known_at_spots}
 use Rattle.ir_graph.proofs.KnownTurns.{found_turn_is_turn, grows_transitive, pairs_grown, waiting_turn_is_turn}
-use Rattle.ir_graph.proofs.LoneSteps.{as_many_after_turn, form_kept_by_turn}
+use Rattle.ir_graph.proofs.LoneSteps.{turn_keeps_cell_count, form_kept_by_turn}
 use Rattle.ir_graph.proofs.turns.new_turn.Goals as goal
 
 pub objects_at-requires : goal.objects_at-requires
@@ -25,10 +25,10 @@ objects_at-requires c =
     let items = c.args.flats.now.items in
     let words = c.args.flats.now.shared.words in
     let numbers = c.in_ok-numbers.numbers.items in
-    let f = element_below_length_exists items c.args.way.node c.requires.node in
+    let f = element_below_length items c.args.way.node c.requires.node in
     subst (HaveWords words) (sym c.as_slice-2.ensures.value)
     (known_at_spots words f.0.flat.objects numbers c.in-Some-2.spots.items
-    (spots_there items c.args.way.node words c.as_slice.result.now numbers _ c.in-Some-2.spots f.0 c.in-Some-2.is c.as_slice.ensures.value
+    (spots_exist_for_numbers items c.args.way.node words c.as_slice.result.now numbers _ c.in-Some-2.spots f.0 c.in-Some-2.is c.as_slice.ensures.value
     c.in_ok-spots.ensures f.1))
 
 pub index-requires : goal.index-requires
@@ -37,12 +37,12 @@ index-requires c =
     let words = c.args.flats.now.shared.words in
     let numbers = c.in_ok-numbers.numbers.items in
     let spots = c.in-Some-2.spots.items in
-    let f = element_below_length_exists items c.args.way.node c.requires.node in
-    let there = spots_there items c.args.way.node words c.as_slice.result.now numbers _ c.in-Some-2.spots f.0 c.in-Some-2.is c.as_slice.ensures.value
+    let f = element_below_length items c.args.way.node c.requires.node in
+    let there = spots_exist_for_numbers items c.args.way.node words c.as_slice.result.now numbers _ c.in-Some-2.spots f.0 c.in-Some-2.is c.as_slice.ensures.value
     c.in_ok-spots.ensures f.1 in
     let cells = c.in_ok-objects.ensures ∙ ap (cells_at words) c.as_slice-2.ensures.value in
-    let many = cells_at_spots_as_many words f.0.flat.objects numbers spots c.in_ok-objects.objects.items c.in_ok-numbers.ensures.once there cells in
-    omega (arith, many, some_in_hand c.in-Some.number numbers c.in_ok-numbers.ensures, c.in_ok-objects.objects.ok.0)
+    let many = cells_at_spots_length words f.0.flat.objects numbers spots c.in_ok-objects.objects.items c.in_ok-numbers.ensures.once there cells in
+    omega (arith, many, hand_is_nonempty c.in-Some.number numbers c.in_ok-numbers.ensures, c.in_ok-objects.objects.ok.0)
 
 pub turn_among-requires-clause-among : goal.turn_among-requires-clause-among
 turn_among-requires-clause-among c =
@@ -51,8 +51,8 @@ turn_among-requires-clause-among c =
     let numbers = c.in_ok-numbers.numbers.items in
     let spots = c.in-Some-2.spots.items in
     let own = c.in_ok-own.own in
-    let f = element_below_length_exists items c.args.way.node c.requires.node in
-    let there = spots_there items c.args.way.node words c.as_slice.result.now numbers _ c.in-Some-2.spots f.0 c.in-Some-2.is c.as_slice.ensures.value
+    let f = element_below_length items c.args.way.node c.requires.node in
+    let there = spots_exist_for_numbers items c.args.way.node words c.as_slice.result.now numbers _ c.in-Some-2.spots f.0 c.in-Some-2.is c.as_slice.ensures.value
     c.in_ok-spots.ensures f.1 in
     let cells = c.in_ok-objects.ensures ∙ ap (cells_at words) c.as_slice-2.ensures.value in
     subst (λ n. AreAmong c.args.code.now n own.0 c.deref_mut.result.now) (sym c.as_slice-3.ensures.value)
@@ -88,11 +88,11 @@ returns-then-waits-clause-turn c = λ f at.
     let numbers = c.in_ok-numbers.numbers.items in
     let spots = c.in-Some-2.spots.items in
     let objects = c.in_ok-objects.objects.items in
-    let there = spots_there c.args.flats.now.items c.args.way.node words c.as_slice.result.now numbers _ c.in-Some-2.spots f c.in-Some-2.is
+    let there = spots_exist_for_numbers c.args.flats.now.items c.args.way.node words c.as_slice.result.now numbers _ c.in-Some-2.spots f c.in-Some-2.is
     c.as_slice.ensures.value c.in_ok-spots.ensures at in
     let cells = c.in_ok-objects.ensures ∙ ap (cells_at words) c.as_slice-2.ensures.value in
-    let some = some_in_hand number numbers c.in_ok-numbers.ensures in
-    let many = cells_at_spots_as_many words f.flat.objects numbers spots objects c.in_ok-numbers.ensures.once there cells in
+    let some = hand_is_nonempty number numbers c.in_ok-numbers.ensures in
+    let many = cells_at_spots_length words f.flat.objects numbers spots objects c.in_ok-numbers.ensures.once there cells in
     let first = get_or_read objects 0 c.index.result.now (omega (arith, some, many)) c.index.ensures empty in
     let asked = subst (λ (z : ThreadState × Source). c.ask-asked.result ≡ ask_of c.args.code.now z.0) c.own.view_is c.ask-asked.ensures.value in
     let must : MustWait refused number (get_or objects 0 empty).fields (ask_of c.args.code.now c.in_ok-own.own.0) =
@@ -110,11 +110,12 @@ returns-then-waits-clause-turn c = λ f at.
     } in
     subst (λ (z : Turn). IsTurnOf c.args.code.now c.args.flats.now.shared f c.args.way.thread refused z) (sym c.waiting_turn-turn.ensures.turn)
     (record {
-      is = waiting_turn_is_turn c.args.code.now c.args.flats.now.shared turn refl refl c.waiting_turn-turn.ensures.none c.in_ok-own.own objects c.thread_number-from.ensures.within c.in_ok-own.ensures.found some
+      is = waiting_turn_is_turn c.args.code.now c.args.flats.now.shared turn refl refl c.waiting_turn-turn.ensures.none c.in_ok-own.own
+          objects c.thread_number-from.ensures.within c.in_ok-own.ensures.found some
           c.in_ok-numbers.ensures.once (known_at_spots words f.flat.objects numbers spots there) cells
           (λ no. subst (λ q. MayGo true q → ⊥) asked (c.in-Some.ensures no))
           (subst (λ o. MustWait refused o (get_or objects 0 empty).fields (ask_of c.args.code.now c.in_ok-own.own.0))
-          (sym (first_of_hand number numbers c.in_ok-numbers.ensures)) must);
+          (sym (hand_begins_with_number number numbers c.in_ok-numbers.ensures)) must);
       from = record { way = refl; here = c.thread_number-from.ensures.thread f at; there = there };
     })
 
@@ -131,7 +132,7 @@ returns-clause-turn c = λ f at.
     let own = c.in_ok-own.own in
     let later = c.turn_among.new.objects in
     let here = subst (λ z. slice_get z c.args.way.node ≡ Some f) (c.add_objects.ensures.items ∙ c.add_thread.ensures.items) at in
-    let there = spots_there c.args.flats.now.items c.args.way.node old.words c.as_slice.result.now numbers _ c.in-Some-2.spots f c.in-Some-2.is
+    let there = spots_exist_for_numbers c.args.flats.now.items c.args.way.node old.words c.as_slice.result.now numbers _ c.in-Some-2.spots f c.in-Some-2.is
     c.as_slice.ensures.value c.in_ok-spots.ensures here in
     let cells = c.in_ok-objects.ensures ∙ ap (cells_at old.words) c.as_slice-2.ensures.value in
     let asked = subst (λ (z : ThreadState × Source). c.ask-asked.result ≡ ask_of code z.0) c.own.view_is c.ask-asked.ensures.value in
@@ -140,7 +141,7 @@ returns-clause-turn c = λ f at.
     subst (λ n. TakesTurn code n refused own objects.items c.turn_among.new.own later) c.as_slice-3.ensures.value
     (subst (λ z. TakesTurn code c.as_slice-3.result.now refused own z c.turn_among.new.own later) c.deref_mut.ensures.value
     (c.turn_among.ensures c.if-not-turn_among.false)) in
-    let many : length later ≡ length objects.items = as_many_after_turn code numbers refused own c.turn_among.new.own objects.items later takes in
+    let many : length later ≡ length objects.items = turn_keeps_cell_count code numbers refused own c.turn_among.new.own objects.items later takes in
     let afters = c.in_ok-afters.ensures.found ∙ c.as_slice-4.ensures.value ∙ with_items_is objects later (many ∙ sym objects.ok.0) in
     record {
       is = found_turn_is_turn code old c.add_thread.new.self.shared new c.add_thread.ensures.grows c.add_objects.ensures.grows
@@ -154,7 +155,7 @@ returns-clause-turn c = λ f at.
             spots = c.in-Some-2.spots;
             afters = c.in_ok-afters.afters;
           }) refl own c.turn_among.new.own objects.items later c.thread_number-from.ensures.within c.in_ok-own.ensures.found
-          (some_in_hand number numbers c.in_ok-numbers.ensures) c.in_ok-numbers.ensures.once (known_at_spots old.words f.flat.objects numbers spots there)
+          (hand_is_nonempty number numbers c.in_ok-numbers.ensures) c.in_ok-numbers.ensures.once (known_at_spots old.words f.flat.objects numbers spots there)
           cells c.in_ok-to.ensures.within c.in_ok-to.ensures.found c.in_ok-afters.ensures.within afters
           (λ no. subst (λ q. MayGo true q → ⊥) asked (c.in-Some.ensures no)) takes;
       from = record {

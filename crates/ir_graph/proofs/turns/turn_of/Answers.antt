@@ -1,7 +1,7 @@
 use Rattle.std.proofs.Common.{◌≡◌, Some, sym, subst}
 use Rattle.std.specs.Prelude.{slice_get}
-use Rattle.ir_lemmas.proofs.CallerLemmas.{element_below_length_exists}
-use Rattle.ir_graph.proofs.KnownTurns.{are_turns_if_unchanged_or_turn_pushed, found_is_turn, listed_turn_is_turn, turns_grown}
+use Rattle.ir_lemmas.proofs.CallerLemmas.{element_below_length}
+use Rattle.ir_graph.proofs.KnownTurns.{turns_same_or_pushed, turn_of_found_node, listed_turn_is_turn, turns_grown}
 use Rattle.ir_graph.proofs.turns.turn_of.Goals as goal
 
 pub returns-in-Some-clause-turn : goal.returns-in-Some-clause-turn
@@ -26,21 +26,21 @@ returns-in_default-2-clause-turns c =
 pub returns-in_err-i-clause-turns : goal.returns-in_err-i-clause-turns
 returns-in_err-i-clause-turns c =
     let new = c.new_turn.new.flats in
-    let f = element_below_length_exists c.args.flats.now.items c.args.way.node c.requires.node in
+    let f = element_below_length c.args.flats.now.items c.args.way.node c.requires.node in
     let at = subst (λ z. slice_get z c.args.way.node ≡ Some f.0) (sym c.new_turn.ensures.items) f.1 in
-    are_turns_if_unchanged_or_turn_pushed c.args.code.now new.shared c.args.ahead.now c.note.new.self c.in-Some-2.turn
+    turns_same_or_pushed c.args.code.now new.shared c.args.ahead.now c.note.new.self c.in-Some-2.turn
     (turns_grown c.args.code.now c.args.flats.now.shared new.shared c.new_turn.ensures.grows c.args.ahead.now c.requires.turns)
-    (found_is_turn c.args.code.now new.shared new.items c.args.way.node c.args.way.thread c.args.way.refused _ c.in-Some-2.turn f.0 c.in-Some-2.is
+    (turn_of_found_node c.args.code.now new.shared new.items c.args.way.node c.args.way.thread c.args.way.refused _ c.in-Some-2.turn f.0 c.in-Some-2.is
     c.in_ok-turn.ensures.turn at).is c.note.ensures.either
 
 pub returns-clause-turns : goal.returns-clause-turns
 returns-clause-turns c =
     let new = c.new_turn.new.flats in
-    let f = element_below_length_exists c.args.flats.now.items c.args.way.node c.requires.node in
+    let f = element_below_length c.args.flats.now.items c.args.way.node c.requires.node in
     let at = subst (λ z. slice_get z c.args.way.node ≡ Some f.0) (sym c.new_turn.ensures.items) f.1 in
-    are_turns_if_unchanged_or_turn_pushed c.args.code.now new.shared c.args.ahead.now c.note.new.self c.in-Some-2.turn
+    turns_same_or_pushed c.args.code.now new.shared c.args.ahead.now c.note.new.self c.in-Some-2.turn
     (turns_grown c.args.code.now c.args.flats.now.shared new.shared c.new_turn.ensures.grows c.args.ahead.now c.requires.turns)
-    (found_is_turn c.args.code.now new.shared new.items c.args.way.node c.args.way.thread c.args.way.refused _ c.in-Some-2.turn f.0 c.in-Some-2.is
+    (turn_of_found_node c.args.code.now new.shared new.items c.args.way.node c.args.way.thread c.args.way.refused _ c.in-Some-2.turn f.0 c.in-Some-2.is
     c.in_ok-turn.ensures.turn at).is c.note.ensures.either
 
 pub returns-clause-turn : goal.returns-clause-turn
@@ -48,6 +48,6 @@ returns-clause-turn c =
     let new = c.new_turn.new.flats in (
       c.in-Some-2.turn,
       c.in_ok-i.ensures.found,
-      λ f at. found_is_turn c.args.code.now new.shared new.items c.args.way.node c.args.way.thread c.args.way.refused _ c.in-Some-2.turn f c.in-Some-2.is
+      λ f at. turn_of_found_node c.args.code.now new.shared new.items c.args.way.node c.args.way.thread c.args.way.refused _ c.in-Some-2.turn f c.in-Some-2.is
           c.in_ok-turn.ensures.turn at,
     )

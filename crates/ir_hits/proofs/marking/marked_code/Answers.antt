@@ -2,7 +2,7 @@ use Rattle.std.proofs.Common.{◌≡◌, ◌++◌, ◌∙◌, Bool, List, length
 use Rattle.std.proofs.lemmas.Result.{IfOk-weaker}
 use Rattle.ir_mach.specs.Marks.{Marked, AreStoresMarked}
 use Rattle.ir_hits.specs.Passing.{AreCovered}
-use Rattle.ir_hits.proofs.Marks.{points_covered_by_marks, take_of_append_by_length}
+use Rattle.ir_hits.proofs.Marks.{points_covered_by_marks, take_length_append}
 use Rattle.ir_hits.proofs.marking.marked_code.Goals as goal
 
 pub returns-clause-covered : goal.returns-clause-covered
@@ -12,7 +12,7 @@ returns-clause-covered c =
     let made : List Bool → Marked = λ z. record { words = code; marks = z } in
     let rest : List Bool = drop (length marks) c.in_ok-marks.marks.items in
     let all : take c.in_ok-marks.marks.len (marks ++ rest) ≡ marks =
-    take_of_append_by_length c.in_ok-marks.marks.len marks rest (c.mark_breaks.ensures.size ∙ c.as_mut_slice.ensures.len) in
+    take_length_append c.in_ok-marks.marks.len marks rest (c.mark_breaks.ensures.size ∙ c.as_mut_slice.ensures.len) in
     IfOk-weaker c.new.result (λ m. m ≡ made (take c.in_ok-marks.marks.len (marks ++ rest)))
     (λ m. AreCovered m c.args.t c.args.points.now)
     (λ m is. subst (λ z. AreCovered z c.args.t c.args.points.now)

@@ -1,5 +1,5 @@
-use Rattle.ir_hits.proofs.Hitting.{no_hit_unless_point_concerns_thread}
+use Rattle.ir_hits.proofs.Hitting.{unconcerned_has_no_hit}
 use Rattle.ir_hits.proofs.search.may_hit.Goals as goal
 
 pub returns : goal.returns
-returns c never f run k n h = no_hit_unless_point_concerns_thread f run c.args.points.now c.args.t k n (c.some_concerns.ensures never) h
+returns c never f run k n h = unconcerned_has_no_hit f run c.args.points.now c.args.t k n (c.some_concerns.ensures never) h

@@ -3,12 +3,12 @@ use Rattle.std.proofs.lemmas.Result.{on_ok_weaker}
 use Rattle.ir_weave.specs.Standing.{flat_in, positions}
 use Rattle.ir_hits.specs.Passing.{HasPassed}
 use Rattle.ir_hits.proofs.Passing.{has_passed_by_stretch, has_passed_by_step}
-use Rattle.ir_hits.proofs.Standing.{last_positions_are_consistent, steps_of_thread_are_position}
+use Rattle.ir_hits.proofs.Standing.{last_are_consistent, steps_are_position}
 use Rattle.ir_hits.proofs.stepping.take_steps.Goals as goal
 
 pub advance_unmarked-there-requires-clause-target : goal.advance_unmarked-there-requires-clause-target
 advance_unmarked-there-requires-clause-target g c =
-    (c.requires.search.ends.size, last_positions_are_consistent c.args.search.fitted.now c.args.search.last.now c.requires.search.ends)
+    (c.requires.search.ends.size, last_are_consistent c.args.search.fitted.now c.args.search.last.now c.requires.search.ends)
 
 pub returns-then-taken-gt0-clause-passed : goal.returns-then-taken-gt0-clause-passed
 returns-then-taken-gt0-clause-passed g c =
@@ -16,7 +16,7 @@ returns-then-taken-gt0-clause-passed g c =
     let t = c.args.search.t in
     let new = flat_in f c.advance_unmarked-there.result.0 in
     let at : c.steps.result ≡ positions (flat_in f c.args.state.now) t =
-    steps_of_thread_are_position f c.args.state.now t c.steps.result c.thread_of.result.now c.thread_of.ensures c.steps.ensures.value in
+    steps_are_position f c.args.state.now t c.steps.result c.thread_of.result.now c.thread_of.ensures c.steps.ensures.value in
     let here : c.steps.result ≡ positions (flat_in f c.replace-here.result) t =
     at ∙ ap (λ z. positions (flat_in f z) t) (sym c.replace-here.ensures.value) in
     subst (λ z. HasPassed c.args.search.code.now t c.args.search.to (flat_in f z) new) c.replace-here.ensures.value

@@ -3,7 +3,7 @@ use Rattle.std.proofs.lemmas.Option.{same_Some, slice_get_within, slice_get-get_
 use Rattle.ir_picture.specs.declared.placed_box.PlacedBox.{PlacedBox}
 use Rattle.ir_holds.specs.Held.{IsHeld}
 use Rattle.ir_holds.proofs.Defaults.{no_box}
-use Rattle.ir_holds.proofs.Checked.{held_to_next_box, same_box}
+use Rattle.ir_holds.proofs.Checked.{held_with_next_box, held_boxes_equal}
 use Rattle.ir_holds.proofs.checking.are_held.Goals as goal
 
 pub loop-number-preserved : goal.loop-number-preserved
@@ -14,9 +14,9 @@ loop-number-preserved c =
     let there = slice_get-get_or boxes n no_box c.loop-number-test.true in
     let right = c.right_box-right.result in
     let yes = c.if-not-is_at.false in
-    let same = same_box right own (c.right_box-right.ensures.events own there) (sym (c.is_at.ensures.start yes)) (sym (c.is_at.ensures.end yes))
+    let same = held_boxes_equal right own (c.right_box-right.ensures.events own there) (sym (c.is_at.ensures.start yes)) (sym (c.is_at.ensures.end yes))
     (sym (c.is_at.ensures.came yes)) (c.right_box-right.ensures.row own there) in
-    held_to_next_box c.args.trace.now boxes c.args.spans.now n c.loop-number.invariant
+    held_with_next_box c.args.trace.now boxes c.args.spans.now n c.loop-number.invariant
     (λ b s at goes. subst (λ (x : PlacedBox). IsHeld c.args.trace.now boxes c.args.spans.now x s) (same ∙ same_Some own b (sym there ∙ at))
     (c.right_box-right.ensures.held s goes))
 

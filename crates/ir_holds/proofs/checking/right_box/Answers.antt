@@ -6,8 +6,9 @@ use Rattle.ir_holds.specs.Held.{IsHeld}
 use Rattle.ir_holds.specs.Checks.{IsSpot}
 use Rattle.ir_holds.specs.Needing.{OneNeedsLike, IsAfterThese}
 use Rattle.ir_holds.proofs.Defaults.{no_box, no_span}
-use Rattle.ir_holds.proofs.Noted.{noted_boxes_are_near, some_marks}
-use Rattle.ir_holds.proofs.Checked.{length_is_small, needed_is_near, held_if_at_spot}
+use Rattle.ir_holds.proofs.Noted.{noted_boxes_are_near, held_marks_are_some}
+use Rattle.ir_holds.proofs.Checked.{needed_place_is_small, held_if_places_equal}
+use Rattle.ir_picture.proofs.CallerLemmas.{event_length_le_one}
 use Rattle.ir_holds.proofs.checking.right_box.Goals as goal
 
 pub event_of-first-requires-clause-thread : goal.event_of-first-requires-clause-thread
@@ -24,7 +25,7 @@ pub events_in-requires : goal.events_in-requires
 events_in-requires c = c.requires.boxes c.args.number _ (slice_get-get_or c.args.boxes.now c.args.number no_box c.requires.number)
 
 pub spot_of-spot-requires-clause-marks : goal.spot_of-spot-requires-clause-marks
-spot_of-spot-requires-clause-marks c = some_marks c.args.boxes.now c.args.spans.now c.args.marks.now c.requires.marks
+spot_of-spot-requires-clause-marks c = held_marks_are_some c.args.boxes.now c.args.spans.now c.args.marks.now c.requires.marks
 
 pub spot_of-spot-requires-clause-first : goal.spot_of-spot-requires-clause-first
 spot_of-spot-requires-clause-first c =
@@ -47,11 +48,11 @@ spot_of-spot-requires-clause-needed c =
     let r = c.args.trace.now in
     let boxes = c.args.boxes.now in
     let after = c.after_needs_of-needed.ensures r boxes c.requires.ends in
-    let low = needed_is_near r boxes c.args.spans.now c.args.marks.now (OneNeedsLike c.events_in.result.now) c.after_needs_of-needed.result c.requires.size c.requires.marks after in
+    let low = needed_place_is_small r boxes c.args.spans.now c.args.marks.now (OneNeedsLike c.events_in.result.now) c.after_needs_of-needed.result c.requires.size c.requires.marks after in
     omega (arith, low)
 
 pub spot_of-spot-requires-clause-long : goal.spot_of-spot-requires-clause-long
-spot_of-spot-requires-clause-long c = let is = c.length_of.ensures in let low = length_is_small c.event_of-first.result in omega (arith, is, low)
+spot_of-spot-requires-clause-long c = let is = c.length_of.ensures in let low = event_length_le_one c.event_of-first.result in omega (arith, is, low)
 
 pub returns : goal.returns
 returns c =
@@ -75,7 +76,7 @@ returns c =
       events = λ b is. ap (λ (x : PlacedBox). x.events) (same_Some own b (sym there ∙ is));
       row = λ b is. ap (λ (x : PlacedBox). x.row) (same_Some own b (sym there ∙ is));
       held = λ s is. subst (IsHeld r boxes spans right) (same_Some span s (sym goes ∙ is))
-          (held_if_at_spot r boxes spans right span c.after_needs_of-needed.result c.event_of-first.result c.spot_of-spot.result c.event_of-first.ensures
+          (held_if_places_equal r boxes spans right span c.after_needs_of-needed.result c.event_of-first.result c.spot_of-spot.result c.event_of-first.ensures
           (subst (λ (es : List Event). IsAfterThese r boxes (OneNeedsLike es) c.after_needs_of-needed.result) c.events_in.ensures
           (c.after_needs_of-needed.ensures r boxes c.requires.ends))
           (subst (λ n. IsSpot boxes spans span c.after_needs_of-needed.result n c.spot_of-spot.result) c.length_of.ensures

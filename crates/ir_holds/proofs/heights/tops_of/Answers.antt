@@ -2,7 +2,7 @@ use Rattle.std.proofs.Common.{◌∙◌, ◌+◌, [], ◌∷◌, ◌++◌, lengt
 use Rattle.std.proofs.lemmas.List.{length_push}
 use Rattle.std.proofs.lemmas.Option.{slice_get-get_or}
 use Rattle.ir_holds.specs.declared.heights.Height.{Height}
-use Rattle.ir_holds.proofs.Tops.{top_of_none, top_of_next, tops_of_none, tops_after_next}
+use Rattle.ir_holds.proofs.Tops.{top_of_none_is_zero, top_with_next, tops_of_none, tops_after_next}
 use Rattle.ir_holds.proofs.heights.tops_of.Goals as goal
 
 pub loop-height-init : goal.loop-height-init
@@ -12,7 +12,7 @@ loop-height-init c =
     let all = is ∙ ap (λ xs. xs ++ 0 ∷ []) none in
     record {
       size = ap length all;
-      top = top_of_none c.args.each.now;
+      top = top_of_none_is_zero c.args.each.now;
       tops = tops_of_none c.args.each.now c.push.new.self.items all;
     }
 
@@ -22,7 +22,7 @@ loop-height-preserved c =
     let n = c.loop-height.height-index in
     let no : Height = record { at = 0; top = 0 } in
     let size = c.loop-height.invariant.size in
-    let top = top_of_next each n c.loop-height.top c.max-top.result _ (slice_get-get_or each n no c.loop-height-test.true) c.loop-height.invariant.top c.max-top.ensures in
+    let top = top_with_next each n c.loop-height.top c.max-top.result _ (slice_get-get_or each n no c.loop-height-test.true) c.loop-height.invariant.top c.max-top.ensures in
     record {
       size = ap length c.in_ok-push-2.ensures.items ∙ length_push c.loop-height.tops.items c.max-top.result ∙ omega (arith, size);
       top = top;

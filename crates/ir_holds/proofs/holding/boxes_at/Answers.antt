@@ -3,7 +3,7 @@ use Rattle.std.specs.List.{slice_get}
 use Rattle.std.proofs.Math.Seq.{take-suc}
 use Rattle.std.proofs.lemmas.List.{length_push, map-append, take_all}
 use Rattle.std.proofs.lemmas.Option.{same_Some, slice_get-get_or}
-use Rattle.ir_lemmas.proofs.CallerLemmas.{slice_get_after_push_cases}
+use Rattle.ir_lemmas.proofs.CallerLemmas.{slice_get-push_cases}
 use Rattle.ir_picture.specs.declared.placed_box.PlacedBox.{PlacedBox}
 use Rattle.ir_holds.specs.Schedules.{IsNear}
 use Rattle.ir_holds.specs.declared.span.Span.{Span}
@@ -33,7 +33,7 @@ loop-number-preserved c =
       events = mapped_after_push (λ (x : PlacedBox). x.events) boxes c.args.events.now n new no_box.events c.loop-number.invariant.events c.box_at.ensures.events below;
       rows = mapped_after_push (λ (x : PlacedBox). x.row) boxes c.args.rows.now n new 0 c.loop-number.invariant.rows c.box_at.ensures.row (omega (arith, below, rows));
       size = length_push boxes new ∙ omega (arith, size);
-      start = λ k b own at_b at_s. elim (slice_get_after_push_cases boxes new k b at_b) [
+      start = λ k b own at_b at_s. elim (slice_get-push_cases boxes new k b at_b) [
         | inl old ↦ c.loop-number.invariant.start k b own old at_s
         | inr last ↦
             let here : k ≡ n = last.0 ∙ size in
@@ -41,7 +41,7 @@ loop-number-preserved c =
             subst (λ (x : PlacedBox). IsNear own.first x.start) last.1
             (subst (λ (x : Span). IsNear x.first new.start) same (c.box_at.ensures.start few.0))
       ];
-      end = λ k b own at_b at_s. elim (slice_get_after_push_cases boxes new k b at_b) [
+      end = λ k b own at_b at_s. elim (slice_get-push_cases boxes new k b at_b) [
         | inl old ↦ c.loop-number.invariant.end k b own old at_s
         | inr last ↦
             let here : k ≡ n = last.0 ∙ size in

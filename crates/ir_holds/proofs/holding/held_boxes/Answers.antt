@@ -7,12 +7,12 @@ use Rattle.ir_picture.proofs.CallerLemmas.{slice_get_of_map}
 use Rattle.ir_holds.specs.Spans.{AreRows}
 use Rattle.ir_holds.specs.Held.{IsHeldEnd}
 use Rattle.ir_holds.specs.Schedules.{HasPacing}
-use Rattle.ir_holds.proofs.Paced.{paced, schedule_is_paced, each_thread_took_few, box_steps_are_few}
+use Rattle.ir_holds.proofs.Paced.{paced, schedule_is_paced, thread_steps_bound, box_steps_bound}
 use Rattle.ir_holds.proofs.holding.held_boxes.Goals as goal
 
 pub boxes_at-requires-clause-steps : goal.boxes_at-requires-clause-steps
 boxes_at-requires-clause-steps c =
-    box_steps_are_few c.args.trace.now c.args.events.now c.args.spans.now c.requires.few c.requires.schedule.0 c.requires.schedule.1
+    box_steps_bound c.args.trace.now c.args.events.now c.args.spans.now c.requires.few c.requires.schedule.0 c.requires.schedule.1
 
 pub settled-requires-clause-boxes : goal.settled-requires-clause-boxes
 settled-requires-clause-boxes c = λ k b at. c.requires.boxes k b.events
@@ -24,7 +24,7 @@ settled-requires-clause-pacing c = subst (λ (es : List EventBox). HasPacing c.a
     (paced c.args.trace.now c.requires.schedule.0, schedule_is_paced c.args.trace.now c.args.events.now c.args.spans.now c.requires.schedule.0 c.requires.few c.requires.schedule.1)
 
 pub ends_at-requires-clause-few : goal.ends_at-requires-clause-few
-ends_at-requires-clause-few c = λ t within. let few = each_thread_took_few c.args.trace.now c.requires.few t within in omega (arith, few)
+ends_at-requires-clause-few c = λ t within. let few = thread_steps_bound c.args.trace.now c.requires.few t within in omega (arith, few)
 
 pub returns : goal.returns
 returns c =

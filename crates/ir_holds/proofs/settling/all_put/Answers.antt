@@ -2,7 +2,7 @@ use Rattle.std.proofs.Common.{◌≡◌, ◌∙◌, ◌+◌, ◌<◌, ◌++◌, 
 use Rattle.std.specs.List.{slice_get}
 use Rattle.std.proofs.lemmas.List.{length_push, map-append, map_more, take_all}
 use Rattle.std.proofs.lemmas.Option.{same_Some, slice_get-get_or}
-use Rattle.ir_lemmas.proofs.CallerLemmas.{slice_get_after_push_cases}
+use Rattle.ir_lemmas.proofs.CallerLemmas.{slice_get-push_cases}
 use Rattle.ir_picture.specs.declared.placed_box.PlacedBox.{PlacedBox}
 use Rattle.ir_picture.specs.Placing.{events_of_all}
 use Rattle.ir_holds.specs.Held.{rows_in}
@@ -45,7 +45,7 @@ loop-number-preserved c =
       size = length_push c.loop-number.all.items c.near_box.result ∙ omega (arith, size);
       events = mapped_after_push (λ (x : PlacedBox). x.events) c.loop-number.all.items boxes n c.near_box.result no_box c.loop-number.invariant.events put.events below;
       rows = mapped_after_push (λ (x : PlacedBox). x.row) c.loop-number.all.items boxes n c.near_box.result no_box c.loop-number.invariant.rows put.row below;
-      each = λ k b d s at_b at_d at_s. elim (slice_get_after_push_cases c.loop-number.all.items c.near_box.result k d at_d) [
+      each = λ k b d s at_b at_d at_s. elim (slice_get-push_cases c.loop-number.all.items c.near_box.result k d at_d) [
         | inl old ↦ c.loop-number.invariant.each k b d s at_b old at_s
         | inr last ↦
             let here : k ≡ n = last.0 ∙ size in

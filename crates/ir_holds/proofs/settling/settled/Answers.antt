@@ -4,7 +4,7 @@ use Rattle.ir_picture.specs.Progress.{AreBoxesOf}
 use Rattle.ir_picture.specs.declared.event_box.EventBox.{EventBox}
 use Rattle.ir_picture.specs.declared.placed_box.PlacedBox.{PlacedBox}
 use Rattle.ir_holds.specs.Schedules.{EachIsHeld, IsPacing, AreNear, ArePut}
-use Rattle.ir_holds.proofs.Settled.{none_rests_to_0, rest_to_next_round, put_boxes_are_near, boxes_with_same_events_are_of_trace, boxes_with_same_events_are_as_many, held_if_all_rest}
+use Rattle.ir_holds.proofs.Settled.{all_rest_to_depth_zero, rest_to_next_round, put_boxes_are_near, same_events_are_boxes, same_events_as_many, held_if_all_rest}
 use Rattle.ir_holds.proofs.settling.settled.Goals as goal
 
 pub loop-init : goal.loop-init
@@ -12,16 +12,16 @@ loop-init c = record {
   events = refl;
   rows = refl;
   near = c.requires.near;
-  rest = λ at order. none_rests_to_0 c.args.trace.now c.args.first.items c.args.spans.now at;
+  rest = λ at order. all_rest_to_depth_zero c.args.trace.now c.args.first.items c.args.spans.now at;
 }
 
 pub put_once-requires-clause-size : goal.put_once-requires-clause-size
 put_once-requires-clause-size c = subst (λ (bs : List PlacedBox). length c.args.spans.now ≡ length bs) (sym c.deref.ensures.value)
-    (boxes_with_same_events_are_as_many c.args.first.items c.loop.boxes.items (length c.args.spans.now) c.loop.invariant.events c.requires.size)
+    (same_events_as_many c.args.first.items c.loop.boxes.items (length c.args.spans.now) c.loop.invariant.events c.requires.size)
 
 pub put_once-requires-clause-boxes : goal.put_once-requires-clause-boxes
 put_once-requires-clause-boxes c = subst (AreBoxesOf c.args.trace.now) (sym c.deref.ensures.value)
-    (boxes_with_same_events_are_of_trace c.args.trace.now c.args.first.items c.loop.boxes.items c.loop.invariant.events c.requires.boxes)
+    (same_events_are_boxes c.args.trace.now c.args.first.items c.loop.boxes.items c.loop.invariant.events c.requires.boxes)
 
 pub put_once-requires-clause-near : goal.put_once-requires-clause-near
 put_once-requires-clause-near c = subst (λ (bs : List PlacedBox). AreNear bs c.args.spans.now) (sym c.deref.ensures.value) c.loop.invariant.near
@@ -39,8 +39,8 @@ loop-preserved c =
       rows = put.rows ∙ c.loop.invariant.rows;
       near = put_boxes_are_near r before c.in-Some.put.items spans c.loop.invariant.near put;
       rest = λ at order. rest_to_next_round r before c.in-Some.put.items spans at c.loop.counter
-          (boxes_with_same_events_are_of_trace r first before c.loop.invariant.events c.requires.boxes)
-          (boxes_with_same_events_are_as_many first before (length spans) c.loop.invariant.events c.requires.size)
+          (same_events_are_boxes r first before c.loop.invariant.events c.requires.boxes)
+          (same_events_as_many first before (length spans) c.loop.invariant.events c.requires.size)
           (subst (λ (es : List EventBox). IsPacing r es spans at) (sym c.loop.invariant.events) order) c.loop.invariant.near put
           (c.loop.invariant.rest at order);
     }

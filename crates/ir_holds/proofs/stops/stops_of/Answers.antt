@@ -1,11 +1,11 @@
 use Rattle.std.proofs.Common.{sym, subst, arith}
 use Rattle.std.proofs.lemmas.Option.{slice_get-get_or}
 use Rattle.ir_holds.proofs.Defaults.{no_box, no_span}
-use Rattle.ir_holds.proofs.Noted.{AreStopsTo, stops_to_box_0, stops_to_next_box, stops_of_all_boxes}
+use Rattle.ir_holds.proofs.Noted.{AreStopsTo, stops_of_no_boxes, stops_to_next_box, stops_of_all_boxes}
 use Rattle.ir_holds.proofs.stops.stops_of.Goals as goal
 
 pub loop-number-init : goal.loop-number-init
-loop-number-init c = subst (AreStopsTo c.args.boxes.now c.args.spans.now 0) (sym c.new-stops.ensures.items) (stops_to_box_0 c.args.boxes.now c.args.spans.now)
+loop-number-init c = subst (AreStopsTo c.args.boxes.now c.args.spans.now 0) (sym c.new-stops.ensures.items) (stops_of_no_boxes c.args.boxes.now c.args.spans.now)
 
 pub loop-number-preserved : goal.loop-number-preserved
 loop-number-preserved c =

@@ -4,11 +4,11 @@ use Rattle.std.specs.Io.KnownBytes.{Appends}
 use Rattle.std.proofs.KnownBytes.{Appends-trans}
 use Rattle.std.proofs.lemmas.Result.{err_from_is_err_and}
 use Rattle.ir_stream.specs.Answers.{AppendsPrefix}
-use Rattle.ir_files.proofs.CallerLemmas.{if_err_holds_if_holds_of_handed_on_error}
+use Rattle.ir_files.proofs.CallerLemmas.{if_err_handed_on}
 use Rattle.ir_record_command.specs.declared.record_fault.RecordFault.TheVariants.{Lines}
 use Rattle.ir_files.specs.Writers.{writer_of}
 use Rattle.ir_hunt.specs.Stopping.{TellsLeftOut}
-use Rattle.ir_hunt.proofs.Found.{recording_of_found_is_finding}
+use Rattle.ir_hunt.proofs.Found.{found_is_finding}
 use Rattle.ir_hunt.proofs.Stopping.{error_fact_if_is_err, ok_fact_unless_is_err, line_is_hunt_line}
 use Rattle.ir_hunt.proofs.hunting.hunt_run.Goals as goal
 
@@ -42,7 +42,7 @@ returns-in_err-recorded-clause-stopped g c =
     let line = c.as_bytes.ensures.value ∙ (rw c.in-Some.is at c.in-Ok.ensures.line) in
     let sought = c.in-Ok.ensures.sought in
     let stopped = rw c.as_str-list.ensures.value at (rw c.by_list.ensures at c.in_err-recorded.ensures.stopped) in
-    if_err_holds_if_holds_of_handed_on_error _ c.from_residual.result c.in_err-recorded.field-0.0 p.0 p.1 p.2 (inr (
+    if_err_handed_on _ c.from_residual.result c.in_err-recorded.field-0.0 p.0 p.1 p.2 (inr (
       stopped.0,
       stopped.1,
       inr (inr (
@@ -68,7 +68,7 @@ returns-clause-done g c =
       c.in-Some.found.seed,
       list,
       done.0,
-      recording_of_found_is_finding c.args.image.now c.args.plan.now sought.0 c.in-Some.found.seed list c.in_ok-recorded.recorded done.0
+      found_is_finding c.args.image.now c.args.plan.now sought.0 c.in-Some.found.seed list c.in_ok-recorded.recorded done.0
           (rw c.in-Some.is at sought.1) done.1,
       done.2,
       done.3,

@@ -3,9 +3,9 @@ use Rattle.std.specs.Prelude.{option_map}
 use Rattle.ir_record.specs.Recording.{order_of_turns}
 use Rattle.ir_record_command.specs.Plan.{Plan}
 use Rattle.ir_world.specs.Sources.{made_with}
-use Rattle.ir_world.proofs.CallerLemmas.{worlds_answered_by_own_origins}
+use Rattle.ir_world.proofs.CallerLemmas.{answered_by_own_origin}
 use Rattle.ir_hunt.specs.Stale.{IsTraceBy}
-use Rattle.ir_hunt.proofs.Recorded.{fresh_recording_is_trace_by_order}
+use Rattle.ir_hunt.proofs.Recorded.{fresh_trace_by_order}
 use Rattle.ir_hunt.proofs.stale.trace_of.Goals as goal
 
 pub returns-in-Ok-clause-by : goal.returns-in-Ok-clause-by
@@ -19,9 +19,9 @@ returns-in-Ok-clause-by g c =
       profile = c.plan.inside.profile;
     } in
     subst (λ (p : Plan). IsTraceBy c.args.image.now p (order_of_turns c.args.turns.now) c.in-Ok.trace) c.plan.view_is
-    (fresh_recording_is_trace_by_order c.args.image.now inside c.entries-threads.result.now (order_of_turns c.args.turns.now)
+    (fresh_trace_by_order c.args.image.now inside c.entries-threads.result.now (order_of_turns c.args.turns.now)
     (map (λ w. w.answers.items) c.in_ok-worlds.worlds.items) c.in-Ok.trace (map (λ o. o.bytes.items) each) (map (λ o. o.world.answers.items) each)
     c.entries-threads.ensures.value c.in_ok-worlds.ensures.fresh c.in-Ok.ensures.recorded
-    (worlds_answered_by_own_origins (λ o. made_with o.world.time o.world.seed o.world.file.now) (λ o. o.world.answers.items) (λ o. (o.world.sources, o.world.gave))
+    (answered_by_own_origin (λ o. made_with o.world.time o.world.seed o.world.file.now) (λ o. o.world.answers.items) (λ o. (o.world.sources, o.world.gave))
     true c.plan.inside.random c.plan.inside.input.now each (length c.entries-threads.result.now)
     (c.in-Ok.ensures.origins ∙ c.in_ok-worlds.ensures.origins)))

@@ -1,8 +1,8 @@
-use Rattle.ir_isa.proofs.WordLaws.{word_of_instruction_below_two_to_32, word_of_instruction_has_code}
+use Rattle.ir_isa.proofs.WordLaws.{word_of_bound, word_of_is_code}
 use Rattle.ir_isa.proofs.laws.word_has_code.Goals as goal
 
 pub returns-clause-fits : goal.returns-clause-fits
-returns-clause-fits c = word_of_instruction_below_two_to_32
+returns-clause-fits c = word_of_bound
 
 pub returns-clause-code : goal.returns-clause-code
-returns-clause-code c = word_of_instruction_has_code
+returns-clause-code c = word_of_is_code

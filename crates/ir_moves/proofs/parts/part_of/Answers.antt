@@ -1,16 +1,16 @@
 use Rattle.std.proofs.Common.{map, ap, ◌∙◌}
 use Rattle.std.proofs.lemmas.Result.{IfOk-weaker}
-use Rattle.ir_moves.proofs.Ways.{own_cut_is_on_way_if_below_target, is_on_way_from_own_positions_if_from_list_of_steps}
+use Rattle.ir_moves.proofs.Ways.{own_cut_on_way, on_way_from_own}
 use Rattle.ir_moves.proofs.parts.part_of.Goals as goal
 
 pub first_part-requires-clause-from : goal.first_part-requires-clause-from
 first_part-requires-clause-from c =
-    own_cut_is_on_way_if_below_target c.args.fitted.now c.args.state.now c.args.target.now c.in_ok-from.from c.requires.stands
+    own_cut_on_way c.args.fitted.now c.args.state.now c.args.target.now c.in_ok-from.from c.requires.stands
     (c.in_ok-from.ensures ∙ ap (map (λ t. t.steps)) c.threads.ensures) c.requires.below
 
 pub returns : goal.returns
 returns c =
     IfOk-weaker c.first_part.result _ _
-    (λ cut. is_on_way_from_own_positions_if_from_list_of_steps c.args.fitted.now c.args.state.now c.args.target.now c.in_ok-from.from cut
+    (λ cut. on_way_from_own c.args.fitted.now c.args.state.now c.args.target.now c.in_ok-from.from cut
     (c.in_ok-from.ensures ∙ ap (map (λ t. t.steps)) c.threads.ensures))
     c.first_part.ensures

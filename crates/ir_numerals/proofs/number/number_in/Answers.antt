@@ -1,8 +1,8 @@
-use Rattle.ir_numerals.proofs.Values.{found_value_of_ten_digits_below_two_to_40}
+use Rattle.ir_numerals.proofs.Values.{ten_digits_value_bound}
 use Rattle.ir_numerals.proofs.number.number_in.Goals as goal
 
 pub returns-in-48-clause-small : goal.returns-in-48-clause-small
-returns-in-48-clause-small c decimal hexadecimal = found_value_of_ten_digits_below_two_to_40 c.numeral.result c.args.hexadecimal hexadecimal c.numeral.ensures.small
+returns-in-48-clause-small c decimal hexadecimal = ten_digits_value_bound c.numeral.result c.args.hexadecimal hexadecimal c.numeral.ensures.small
 
 pub returns-in_default-clause-small : goal.returns-in_default-clause-small
-returns-in_default-clause-small c decimal hexadecimal = found_value_of_ten_digits_below_two_to_40 c.numeral-in_default.result c.args.decimal decimal c.numeral-in_default.ensures.small
+returns-in_default-clause-small c decimal hexadecimal = ten_digits_value_bound c.numeral-in_default.result c.args.decimal decimal c.numeral-in_default.ensures.small

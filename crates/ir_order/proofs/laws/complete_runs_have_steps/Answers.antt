@@ -1,5 +1,5 @@
-use Rattle.ir_order.proofs.Complete.{complete_runs_have_steps}
+use Rattle.ir_order.proofs.Complete.{complete_have_steps}
 use Rattle.ir_order.proofs.laws.complete_runs_have_steps.Goals as goal
 
 pub returns : goal.returns
-returns c = complete_runs_have_steps
+returns c = complete_have_steps

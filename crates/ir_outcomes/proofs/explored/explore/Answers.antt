@@ -3,7 +3,7 @@ use Rattle.ir_graph.specs.Setup.{Setup}
 use Rattle.ir_outcomes.specs.Explored.{IsExplored}
 use Rattle.ir_outcomes.specs.Exploring.{levels_left}
 use Rattle.ir_thread.specs.State.{IsAllowed}
-use Rattle.ir_outcomes.proofs.Steps.{fewer_levels_left_after_one_is_gone_over}
+use Rattle.ir_outcomes.proofs.Steps.{fewer_levels_left}
 use Rattle.ir_outcomes.proofs.explored.explore.Goals as goal
 
 pub go_over-requires-clause-allowed : goal.go_over-requires-clause-allowed
@@ -25,7 +25,7 @@ levels-smaller g c =
     let none = c.goes_on.ensures.stop c.levels-test.true in
     subst (λ z. levels_left new.stop (suc new.most - new.states.search.level.number) < levels_left z (suc old.most - old.states.search.level.number)) (sym none)
     (subst (λ m. levels_left new.stop (suc m - new.states.search.level.number) < levels_left None (suc old.most - old.states.search.level.number)) (sym c.go_over.ensures.most)
-    (fewer_levels_left_after_one_is_gone_over new.stop old.states.search.level.number new.states.search.level.number old.most (c.goes_on.ensures.wanted c.levels-test.true)
+    (fewer_levels_left new.stop old.states.search.level.number new.states.search.level.number old.most (c.goes_on.ensures.wanted c.levels-test.true)
     c.go_over.ensures.next))
 
 pub end-requires-clause-allowed : goal.end-requires-clause-allowed

@@ -1,7 +1,7 @@
 use Rattle.std.proofs.Common.{◌≡◌, ◌+◌, suc, false, take, sym, ap, ◌∙◌, subst, arith}
 use Rattle.std.proofs.lemmas.List.{take_all}
 use Rattle.ir_search.specs.Ways.{shut}
-use Rattle.ir_outcomes.proofs.Lost.{shut_of_empty, shut_of_take_one_more_is_unchanged_if_marked, shut_of_take_one_more_adds_one_if_unmarked}
+use Rattle.ir_outcomes.proofs.Lost.{shut_of_empty, shut_take_marked, shut_take_unmarked}
 use Rattle.ir_outcomes.proofs.hang.count_lost.Goals as goal
 use Rattle.ir_outcomes.proofs.hang.count_lost.Goals.{then-not-marks-v, else-not-marks-v}
 
@@ -17,13 +17,13 @@ loop-v-preserved c =
     let few = c.loop-v.invariant.few in
     elim c.if-not-marks-v.branch [
       | then-not-marks-v w ↦
-          let one = shut_of_take_one_more_adds_one_if_unmarked marks c.loop-v.v false less w.if-not-marks-v.true in
+          let one = shut_take_unmarked marks c.loop-v.v false less w.if-not-marks-v.true in
           let lost = w.lost-is in record {
             count = subst (λ z. c.if-not-marks-v.lost ≡ shut (take z c.args.marks.now)) more (omega (arith, count, one, lost));
             few = omega (arith, few, lost);
           }
       | else-not-marks-v w ↦
-          let one = shut_of_take_one_more_is_unchanged_if_marked marks c.loop-v.v false less w.if-not-marks-v.false in
+          let one = shut_take_marked marks c.loop-v.v false less w.if-not-marks-v.false in
           let lost = w.lost-is in record {
             count = subst (λ z. c.if-not-marks-v.lost ≡ shut (take z c.args.marks.now)) more (lost ∙ count ∙ sym one);
             few = omega (arith, few, lost);

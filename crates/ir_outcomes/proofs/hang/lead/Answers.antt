@@ -10,7 +10,7 @@ use Rattle.ir_graph.specs.Setup.{setup_start}
 use Rattle.ir_record.specs.Recording.{turns_of_items}
 use Rattle.ir_outcomes.specs.Path.{FallInLevel, IsPathTo}
 use Rattle.ir_outcomes.proofs.Along.{origins_fall_in_level}
-use Rattle.ir_outcomes.proofs.Lost.{shown_at_level_if_again_by_short_enough_path}
+use Rattle.ir_outcomes.proofs.Lost.{shown_at_level}
 use Rattle.ir_outcomes.proofs.hang.lead.Goals as goal
 
 pub path_to-requires-clause-within : goal.path_to-requires-clause-within
@@ -48,7 +48,7 @@ returns-clause-shown c = λ s here.
     let origins = c.as_slice-origins.result.now in
     let wide : c.args.node < length origins = subst (λ z. c.args.node < length z) (sym c.as_slice-origins.ensures.value) c.requires.origin in
     let n : Origin = slice_index_or origins c.args.node first_origin in
-    shown_at_level_if_again_by_short_enough_path setup (turns_of_items c.in-Ok.run'.1.items) c.args.states.now.search.found.refusals.items c.as_slice.result.now
+    shown_at_level setup (turns_of_items c.in-Ok.run'.1.items) c.args.states.now.search.found.refusals.items c.as_slice.result.now
     n.level s u again
     (subst (λ z. length z ≤ suc n.level) (sym c.as_slice.ensures.value)
     (c.in_ok-path.ensures.few n (slice_get-get_or origins c.args.node first_origin wide)))

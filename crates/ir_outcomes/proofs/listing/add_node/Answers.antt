@@ -1,7 +1,7 @@
 use Rattle.std.proofs.Common.{◌≡◌, ◌++◌, [], ◌∷◌, suc, Some, length, sym, subst}
 use Rattle.std.specs.Prelude.{slice_get}
 use Rattle.ir_lemmas.proofs.CallerLemmas.{added_element_is_last}
-use Rattle.ir_search.proofs.CallerLemmas.{slice_get_kept_by_append}
+use Rattle.ir_search.proofs.CallerLemmas.{slice_get_append_kept}
 use Rattle.ir_graph.specs.Listing.{AreOutcomes}
 use Rattle.ir_outcomes.specs.Exploring.{HasShown}
 use Rattle.ir_outcomes.proofs.Listed.{has_shown_step}
@@ -30,4 +30,4 @@ show-requires-clause-done c = λ s at.
 pub returns-clause-stay : goal.returns-clause-stay
 returns-clause-stay c = λ v x is.
     subst (λ z. slice_get z v ≡ Some x) (sym c.in_ok-push-2.ensures.items)
-    (slice_get_kept_by_append c.args.list.now.outcomes.items (c.in-Ok.shown ∷ []) v x is)
+    (slice_get_append_kept c.args.list.now.outcomes.items (c.in-Ok.shown ∷ []) v x is)

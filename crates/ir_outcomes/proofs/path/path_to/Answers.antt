@@ -5,7 +5,7 @@ use Rattle.std.proofs.lemmas.Option.{same_Some, slice_get-get_or}
 use Rattle.ir_search.specs.declared.origin.Origin.{Origin}
 use Rattle.ir_search.specs.Origins.{first_origin}
 use Rattle.ir_outcomes.specs.Path.{IsPathTo}
-use Rattle.ir_outcomes.proofs.Paths.{path_prefix_to_node_step_with_origin_pushed, turn_before_is_lower}
+use Rattle.ir_outcomes.proofs.Paths.{path_prefix_step, turn_before_is_lower}
 use Rattle.ir_outcomes.proofs.path.path_to.Goals as goal
 
 pub back-preserved : goal.back-preserved
@@ -18,7 +18,7 @@ back-preserved c =
       within = lower.0;
       path = λ more rest.
           subst (λ z. IsPathTo origins c.args.node (z ++ more)) (sym c.in_ok-push.ensures.items)
-          (path_prefix_to_node_step_with_origin_pushed origins c.args.node c.back.at n c.back.path.items at c.back.invariant.path more rest);
+          (path_prefix_step origins c.args.node c.back.at n c.back.path.items at c.back.invariant.path more rest);
       few = λ first before is there.
           let f = c.back.invariant.few first n is at in
           let e = ap (λ z. z.level) (same_Some (slice_index_or origins n.from first_origin) before

@@ -3,7 +3,7 @@ use Rattle.std.specs.List.{slice_index_or}
 use Rattle.ir_search.specs.declared.origin.Refusal.{Refusal}
 use Rattle.ir_search.specs.Origins.{AreWaysUnder, Whole}
 use Rattle.ir_outcomes.specs.Path.{ways_of}
-use Rattle.ir_outcomes.proofs.Paths.{refusal_at_number, ways_under_number_step_with_refusal_pushed}
+use Rattle.ir_outcomes.proofs.Paths.{refusal_at_number, ways_under_step}
 use Rattle.ir_outcomes.proofs.path.refusals_to.Goals as goal
 
 pub back-preserved : goal.back-preserved
@@ -16,7 +16,7 @@ back-preserved c =
     record {
       ways = λ ways before.
           subst (λ z. AreWaysUnder table c.args.number (ways ++ ways_of z)) (sym c.in_ok-push.ensures.items)
-          (ways_under_number_step_with_refusal_pushed table c.back.refusals.items c.args.number (c.back.left - 1) (slice_index_or table (c.back.left - 1) none)
+          (ways_under_step table c.back.refusals.items c.args.number (c.back.left - 1) (slice_index_or table (c.back.left - 1) none)
           r.1 r.2 (λ us spelled. c.back.invariant.ways us (subst (λ z. AreWaysUnder table z us) (sym left) spelled)) ways before);
       under = (r.3, r.4);
     }

@@ -3,7 +3,7 @@ use Rattle.ir_search.specs.declared.origin.Origin.{Origin}
 use Rattle.ir_search.specs.Origins.{first_origin}
 use Rattle.ir_record.specs.Recording.{turns_of_items}
 use Rattle.ir_outcomes.specs.Again.{IsAgainBy}
-use Rattle.ir_outcomes.proofs.Again.{is_again_by_path_with_turn_added}
+use Rattle.ir_outcomes.proofs.Again.{again_by_longer_path}
 use Rattle.ir_outcomes.proofs.Along.{StandsBy, may_fail_by_one_more, path_to_last_turns, stands_by_all, stands_by_one_more}
 use Rattle.ir_outcomes.proofs.Paths.{last_turns, last_turns-none, last_turns-next, last_turns-all}
 use Rattle.ir_outcomes.specs.Path.{IsPathTo}
@@ -33,7 +33,7 @@ loop-k-preserved c =
     let next : last_turns path (k + 1) ≡ n ∷ last_turns path k = last_turns-next path k first_origin c.loop-k-test.true in record {
       again = λ setup again.
           subst (λ z. IsAgainBy setup (turns_of_items c.add_turn.new.items.items) c.args.table.now z c.add_turn.new.state) (sym next)
-          (is_again_by_path_with_turn_added setup (turns_of_items c.loop-k.items.items) (turns_of_items c.add_turn.new.items.items) c.args.table.now n
+          (again_by_longer_path setup (turns_of_items c.loop-k.items.items) (turns_of_items c.add_turn.new.items.items) c.args.table.now n
           (last_turns path k) c.loop-k.state c.add_turn.new.state (c.loop-k.invariant.again setup again) (c.in_default.ensures.again setup));
       stands = λ node from.
           subst (λ z. StandsBy from z c.add_turn.new.state) (sym next)

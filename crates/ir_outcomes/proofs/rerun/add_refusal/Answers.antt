@@ -1,6 +1,6 @@
 use Rattle.std.proofs.Common.{◌++◌, ◌∷◌, [], true, false, replicate}
 use Rattle.ir_record.specs.Recording.{turns_of_items}
-use Rattle.ir_outcomes.proofs.Again.{is_again_with_refused_try_joined_to_ways}
+use Rattle.ir_outcomes.proofs.Again.{again_with_refused_try}
 use Rattle.ir_outcomes.proofs.Arriving.{arrives_append, fails_after, fails_append}
 use Rattle.ir_outcomes.proofs.rerun.add_refusal.Goals as goal
 
@@ -9,7 +9,7 @@ returns-in-Ok-clause-again c = λ setup before again.
     let t = c.args.thread in
     let n = c.args.refusal.entries in
     let last = c.add_stretch-2.new in
-    is_again_with_refused_try_joined_to_ways setup (turns_of_items last.items.items) before last.state t n
+    again_with_refused_try setup (turns_of_items last.items.items) before last.state t n
     (c.in-Ok.ensures.again setup (before ++ replicate n (t, false)) (c.in_default.ensures.again setup before again))
 
 pub returns-in-Ok-clause-arrives : goal.returns-in-Ok-clause-arrives

@@ -4,8 +4,8 @@ use Rattle.ir_record.specs.Recording.{turns_of_items}
 use Rattle.ir_outcomes.specs.Again.{IsAgain, ways_by}
 use Rattle.ir_outcomes.specs.Along.{ArrivesBy, FailsBy}
 use Rattle.ir_outcomes.specs.Path.{ways_of}
-use Rattle.ir_outcomes.proofs.Again.{is_again_with_empty_ways_appended, is_again_with_ways_joined, is_again_with_ways_of_turn_joined}
-use Rattle.ir_outcomes.proofs.Along.{last_ways_come_first, ways_of_turn_are_one}
+use Rattle.ir_outcomes.proofs.Again.{again_with_no_ways, again_with_ways, again_with_turn_ways}
+use Rattle.ir_outcomes.proofs.Along.{last_ways_come_first, ways_of_turn_unique}
 use Rattle.ir_outcomes.proofs.Arriving.{arrives_append, arrives_by_no_ways, fails_after, fails_append}
 use Rattle.ir_outcomes.proofs.Paths.{last_ways, last_ways-none, last_ways-next, last_ways-all}
 use Rattle.ir_outcomes.proofs.rerun.add_turn.Goals as goal
@@ -20,7 +20,7 @@ loop-k-init c =
       again = λ setup before again.
           let turns = turns_of_items c.args.items.now.items in
           subst (λ z. IsAgain setup turns (before ++ ways_by t z) c.args.state.now) none
-          (is_again_with_empty_ways_appended setup turns before c.args.state.now again);
+          (again_with_no_ways setup turns before c.args.state.now again);
       arrives = subst (λ z. ArrivesBy t z c.args.state.now c.args.state.now) none (arrives_by_no_ways t c.args.state.now);
     }
 
@@ -40,7 +40,7 @@ loop-k-preserved c =
     record {
       again = λ setup before again.
           subst (λ z. IsAgain setup turns (before ++ ways_by t z) c.add_refusal.new.state) (sym next)
-          (is_again_with_ways_of_turn_joined setup turns before c.add_refusal.new.state t (last_ways xs k) (replicate x.entries false ++ true ∷ [])
+          (again_with_turn_ways setup turns before c.add_refusal.new.state t (last_ways xs k) (replicate x.entries false ++ true ∷ [])
           (c.in_default-add_refusal.ensures.again setup (before ++ ways_by t (last_ways xs k)) (c.loop-k.invariant.again setup before again)));
       arrives = subst (λ z. ArrivesBy t z c.args.state.now c.add_refusal.new.state) (sym next)
           (arrives_append t (last_ways xs k) (replicate x.entries false ++ true ∷ []) c.args.state.now c.loop-k.state c.add_refusal.new.state
@@ -60,7 +60,7 @@ returns-in-Ok-add_stretch-clause-again c = λ setup before again.
       ways_of xs ++ replicate n false,
       (ways_of xs, c.in-Ok.ensures, refl),
       subst (λ z. IsAgain setup turns (before ++ ways_by t (z ++ replicate n false)) c.add_stretch.new.state) whole
-          (is_again_with_ways_joined setup turns before c.add_stretch.new.state t (last_ways xs k) false n
+          (again_with_ways setup turns before c.add_stretch.new.state t (last_ways xs k) false n
           (c.in-Ok-add_stretch.ensures.again setup (before ++ ways_by t (last_ways xs k)) (c.loop-k.invariant.again setup before again))),
     )
 
@@ -73,7 +73,7 @@ returns-in-Ok-add_stretch-clause-arrives c = λ own are.
     let all = c.len-k-end.ensures ∙ c.in-Ok.refusals.ok.0 in
     let over : k ≡ length xs = (let a = c.loop-k-test.false in let b = c.loop-k.auto.k-end in omega (arith, a, b, all)) in
     let whole : last_ways xs k ≡ ways_of xs = ap (last_ways xs) over ∙ last_ways-all xs in
-    let same = ways_of_turn_are_one c.args.table.now c.args.origin (ways_of xs ++ replicate n false) own (ways_of xs, c.in-Ok.ensures, refl) are in
+    let same = ways_of_turn_unique c.args.table.now c.args.origin (ways_of xs ++ replicate n false) own (ways_of xs, c.in-Ok.ensures, refl) are in
     subst (λ z. ArrivesBy t z c.args.state.now c.add_stretch.new.state) (ap (λ z. z ++ replicate n false) whole ∙ same)
     (arrives_append t (last_ways xs k) (replicate n false) c.args.state.now c.loop-k.state c.add_stretch.new.state c.loop-k.invariant.arrives
     c.in-Ok-add_stretch.ensures.arrives)
@@ -93,7 +93,7 @@ returns-in-Err-clause-fails c = λ own are.
     let next : last_ways xs (k + 1) ≡ last_ways xs k ++ way =
     last_ways-next xs k x less ∙ ap (λ (y : Refusal). last_ways xs k ++ (replicate y.entries false ++ true ∷ [])) at in
     let tail = last_ways_come_first xs (k + 1) in
-    let same = ways_of_turn_are_one c.args.table.now c.args.origin (ways_of xs ++ rest) own (ways_of xs, c.in-Ok.ensures, refl) are in
+    let same = ways_of_turn_unique c.args.table.now c.args.origin (ways_of xs ++ rest) own (ways_of xs, c.in-Ok.ensures, refl) are in
     let apart : last_ways xs k ++ (way ++ (tail.0 ++ rest)) ≡ own =
     sym (append_assoc (last_ways xs k) way (tail.0 ++ rest)) ∙ sym (append_assoc (last_ways xs k ++ way) tail.0 rest)
     ∙ ap (λ z. (z ++ tail.0) ++ rest) (sym next) ∙ ap (λ z. z ++ rest) (sym tail.1) ∙ same in
@@ -110,7 +110,7 @@ returns-clause-fails c = λ own are.
     let all = c.len-k-end.ensures ∙ c.in-Ok.refusals.ok.0 in
     let over : k ≡ length xs = (let a = c.loop-k-test.false in let b = c.loop-k.auto.k-end in omega (arith, a, b, all)) in
     let whole : last_ways xs k ≡ ways_of xs = ap (last_ways xs) over ∙ last_ways-all xs in
-    let same = ways_of_turn_are_one c.args.table.now c.args.origin (ways_of xs ++ replicate n false) own (ways_of xs, c.in-Ok.ensures, refl) are in
+    let same = ways_of_turn_unique c.args.table.now c.args.origin (ways_of xs ++ replicate n false) own (ways_of xs, c.in-Ok.ensures, refl) are in
     subst (λ z. FailsBy c.args.limit t z c.args.state.now c.in-Err-add_stretch.e) (ap (λ z. z ++ replicate n false) whole ∙ same)
     (fails_after c.args.limit t (last_ways xs k) (replicate n false) c.args.state.now c.loop-k.state c.in-Err-add_stretch.e c.loop-k.invariant.arrives
     c.in-Err-add_stretch.ensures.fails)

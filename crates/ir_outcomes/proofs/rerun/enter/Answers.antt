@@ -1,10 +1,10 @@
 use Rattle.std.proofs.Common.{◌≡◌, ◌+◌, true, refl, sym, subst, arith}
 use Rattle.ir_runs.specs.Run.{Can, after}
 use Rattle.ir_flat.specs.Flat.{machine, tables, thread_of}
-use Rattle.ir_store.specs.Nodes.{SourcedFlat}
+use Rattle.ir_state_store.specs.Nodes.{SourcedFlat}
 use Rattle.ir_graph.specs.Plain.{MayGo, Rests, sourced_flat}
 use Rattle.ir_graph.specs.Turn.{GoesAlone}
-use Rattle.ir_graph.proofs.CallerLemmas.{TakesStep, goes_alone_append, goes_alone_by_entry, takes_step_at_rest_if_tables_step}
+use Rattle.ir_graph.proofs.CallerLemmas.{TakesStep, goes_alone_append, goes_alone_by_entry, rest_takes_step}
 use Rattle.ir_outcomes.specs.Along.{StandsAt}
 use Rattle.ir_outcomes.proofs.Arriving.{step_is_there, stands_after_turn, stop_after_turn, way_is_there}
 use Rattle.ir_thread.specs.State.{ask_of}
@@ -44,7 +44,7 @@ returns-in-Some-checked_add-clause-arrives c = λ setup flats noted threads size
     let rests : Rests (ask_of f.code (thread_of f t)) =
     subst (λ (z : SourcedFlat). Rests (ask_of z.flat.code (thread_of z.flat t))) (sym c.state.view_is) c.requires.rests in
     let one = c.in_default-take.ensures in
-    let step = takes_step_at_rest_if_tables_step f c.take.new.self sources t c.in-Some.answer rests one.admitted one.taken one.code one.threads one.objects in
+    let step = rest_takes_step f c.take.new.self sources t c.in-Some.answer rests one.admitted one.taken one.code one.threads one.objects in
     let may = subst (MayGo c.args.refused) c.ask-asked.ensures.value c.in-Some.ensures.has in
     subst (λ z. StandsAt setup flats z c.run_to_rest.new.state) goes.3
     (stands_after_turn setup flats noted threads v goes.0 g s here t c.args.refused goes.1 u c.run_to_rest.new.state may
@@ -68,7 +68,7 @@ returns-in-Err-run_to_rest-clause-fails c = λ setup flats noted threads size v 
     let rests : Rests (ask_of f.code (thread_of f t)) =
     subst (λ (z : SourcedFlat). Rests (ask_of z.flat.code (thread_of z.flat t))) (sym c.state.view_is) c.requires.rests in
     let one = c.in_default-take.ensures in
-    let step = takes_step_at_rest_if_tables_step f c.take.new.self sources t c.in-Some.answer rests one.admitted one.taken one.code one.threads one.objects in
+    let step = rest_takes_step f c.take.new.self sources t c.in-Some.answer rests one.admitted one.taken one.code one.threads one.objects in
     stop_after_turn setup flats noted threads v goes.0 g s here t c.args.refused goes.1 c.args.limit c.in-Err-run_to_rest.stop u c.run_to_rest.new.state
     (subst (TakesStep s u t) c.in-Some.ensures.result step) c.run_to_rest.ensures.goes c.in-Err-run_to_rest.ensures.stopped
 

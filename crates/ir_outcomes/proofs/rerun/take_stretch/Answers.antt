@@ -2,7 +2,7 @@ use Rattle.std.proofs.Common.{◌≡◌, ◌+◌, ◌-◌, ◌∷◌, ◌++◌, 
 use Rattle.ir_graph.specs.Turn.{GoesAlone}
 use Rattle.ir_graph.proofs.CallerLemmas.{goes_alone_append}
 use Rattle.ir_outcomes.specs.Along.{ArrivesBy, FailsBy}
-use Rattle.ir_outcomes.proofs.Arriving.{arrives_append, arrives_by_plain_steps, fails_after, fails_append, fails_at_rest, replicate_apart, replicate_one_more}
+use Rattle.ir_outcomes.proofs.Arriving.{arrives_append, arrives_by_plain_steps, fails_after, fails_append, fails_at_rest, replicate_splits_at, replicate_push_plus_one}
 use Rattle.ir_outcomes.proofs.rerun.take_stretch.Goals as goal
 
 pub loop-init : goal.loop-init
@@ -28,7 +28,7 @@ loop-preserved c =
       rests = c.in-Ok-enter.ensures.rests;
       thread = let a = one.threads in let b = c.loop.invariant.thread in omega (arith, a, b);
       source = let a = one.sources in let b = c.loop.invariant.source in omega (arith, a, b);
-      arrives = subst (λ z. ArrivesBy stretch.thread z c.args.state.now c.enter.new.state) (replicate_one_more c.loop.counter stretch.refused)
+      arrives = subst (λ z. ArrivesBy stretch.thread z c.args.state.now c.enter.new.state) (replicate_push_plus_one c.loop.counter stretch.refused)
           (arrives_append stretch.thread (replicate c.loop.counter stretch.refused) (stretch.refused ∷ []) c.args.state.now c.loop.state c.enter.new.state
           c.loop.invariant.arrives c.in-Ok-enter.ensures.arrives);
     }
@@ -45,7 +45,7 @@ returns-in-Err-enter-clause-fails c =
     let k = c.loop.counter in
     let own = stretch.refused ∷ [] in
     let more = replicate (stretch.steps - k - 1) stretch.refused in
-    subst (λ z. FailsBy c.args.limit stretch.thread z c.args.state.now c.in-Err-enter.e) (sym (replicate_apart stretch.steps k stretch.refused c.loop-test.true))
+    subst (λ z. FailsBy c.args.limit stretch.thread z c.args.state.now c.in-Err-enter.e) (sym (replicate_splits_at stretch.steps k stretch.refused c.loop-test.true))
     (fails_after c.args.limit stretch.thread (replicate k stretch.refused) (own ++ more) c.args.state.now c.loop.state c.in-Err-enter.e c.loop.invariant.arrives
     (fails_append c.args.limit stretch.thread own more c.loop.state c.in-Err-enter.e c.in-Err-enter.ensures.fails))
 

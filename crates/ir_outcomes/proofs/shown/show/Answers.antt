@@ -8,7 +8,7 @@ use Rattle.ir_graph.specs.Notes.{noted_by}
 use Rattle.ir_record.specs.Recording.{turns_of_items}
 use Rattle.ir_outcomes.specs.Path.{FallInLevel, IsPathTo}
 use Rattle.ir_outcomes.proofs.Along.{origins_fall_in_level}
-use Rattle.ir_outcomes.proofs.Onwards.{done_with_its_outcome_if_alike_is}
+use Rattle.ir_outcomes.proofs.Onwards.{done_with_same_outcome}
 use Rattle.ir_outcomes.proofs.Showing.{shown_if_again}
 use Rattle.ir_outcomes.proofs.shown.show.Goals as goal
 
@@ -47,7 +47,7 @@ returns-clause-shown c = λ s here.
     let wide : c.args.node < length origins = subst (λ z. c.args.node < length z) (sym c.as_slice-origins.ensures.value) c.requires.origin in
     let n : Origin = slice_index_or origins c.args.node first_origin in
     let same : s.flat.code ≡ u.flat.code = (c.requires.search.graph.reached c.args.node s here).like.code ∙ sym again.again.like.code in
-    let done = done_with_its_outcome_if_alike_is u s same (c.in-Ok.ensures.alike s here) (c.requires.done s here) in
+    let done = done_with_same_outcome u s same (c.in-Ok.ensures.alike s here) (c.requires.done s here) in
     shown_if_again setup (turns_of_items c.in-Ok.run'.1.items) c.args.states.now.search.found.refusals.items c.as_slice.result.now u again n.level s
     (subst (λ z. length z ≤ suc n.level) (sym c.as_slice.ensures.value)
     (c.in_ok-path.ensures.few n (slice_get-get_or origins c.args.node first_origin wide)))

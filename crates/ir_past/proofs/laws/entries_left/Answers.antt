@@ -1,5 +1,5 @@
-use Rattle.ir_past.proofs.Leaving.{entry_is_left_in_complete_run}
+use Rattle.ir_past.proofs.Leaving.{complete_entry_is_left}
 use Rattle.ir_past.proofs.laws.entries_left.Goals as goal
 
 pub returns : goal.returns
-returns c = entry_is_left_in_complete_run
+returns c = complete_entry_is_left

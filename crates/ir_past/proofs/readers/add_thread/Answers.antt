@@ -5,5 +5,8 @@ use Rattle.ir_past.proofs.readers.add_thread.Goals as goal
 
 pub returns : goal.returns
 returns c =
-    let all : length (recorded_thread c.args.trace.now c.args.thread).events ≤ c.loop-event.event = omega (arith, c.loop-event-test.false, c.loop-event.auto.event-end, c.events_of.ensures.count, c.events_of.ensures.few) in
+    let all : length (recorded_thread c.args.trace.now c.args.thread).events
+    ≤ c.loop-event.event =
+    omega (arith, c.loop-event-test.false, c.loop-event.auto.event-end, c.events_of.ensures.count, c.events_of.ensures.few)
+    in
     read_before_next_thread c.args.trace.now c.args.object c.args.version c.args.thread c.loop-event.event c.loop-event.places.items all c.loop-event.invariant

@@ -1,9 +1,12 @@
 use Rattle.std.proofs.Common.{◌≤◌, length, arith}
 use Rattle.ir_trace.specs.Recorded.{recorded_thread}
-use Rattle.ir_past.proofs.ReadTables.{has_reads_before_next_thread}
+use Rattle.ir_past.proofs.ReadTables.{has_reads_next_thread}
 use Rattle.ir_past.proofs.reads.note_thread.Goals as goal
 
 pub returns : goal.returns
 returns c =
-    let all : length (recorded_thread c.args.trace.now c.args.thread).events ≤ c.loop-event.event = omega (arith, c.loop-event-test.false, c.loop-event.auto.event-end, c.events_of.ensures.count, c.events_of.ensures.few) in
-    has_reads_before_next_thread c.args.trace.now c.args.thread c.loop-event.event c.loop-event.reads all c.loop-event.invariant
+    let all : length (recorded_thread c.args.trace.now c.args.thread).events
+    ≤ c.loop-event.event =
+    omega (arith, c.loop-event-test.false, c.loop-event.auto.event-end, c.events_of.ensures.count, c.events_of.ensures.few)
+    in
+    has_reads_next_thread c.args.trace.now c.args.thread c.loop-event.event c.loop-event.reads all c.loop-event.invariant

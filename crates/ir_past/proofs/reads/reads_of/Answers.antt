@@ -1,5 +1,5 @@
 use Rattle.std.proofs.Common.{◌∙◌, arith}
-use Rattle.ir_past.proofs.ReadTables.{has_reads_at_start, table_reads_to_end_are_readers}
+use Rattle.ir_past.proofs.ReadTables.{has_reads_at_start, reads_to_end_readers}
 use Rattle.ir_past.proofs.reads.reads_of.Goals as goal
 
 pub loop-thread-init : goal.loop-thread-init
@@ -7,5 +7,5 @@ loop-thread-init c = has_reads_at_start c.args.trace.now c.in_ok-reads.reads (c.
     c.in_ok-reads.ensures.none
 
 pub returns : goal.returns
-returns c = table_reads_to_end_are_readers c.args.trace.now c.loop-thread.thread c.loop-thread.reads
+returns c = reads_to_end_readers c.args.trace.now c.loop-thread.thread c.loop-thread.reads
     (omega (arith, c.loop-thread-test.false, c.loop-thread.auto.thread-end, c.thread_count-thread-end.ensures)) c.loop-thread.invariant

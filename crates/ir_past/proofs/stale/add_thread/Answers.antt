@@ -1,6 +1,6 @@
 use Rattle.std.proofs.Common.{◌≤◌, length, arith}
 use Rattle.ir_trace.specs.Recorded.{recorded_thread}
-use Rattle.ir_past.proofs.Rows.{has_rows_before_next_thread}
+use Rattle.ir_past.proofs.Rows.{has_rows_next_thread}
 use Rattle.ir_past.proofs.stale.add_thread.Goals as goal
 
 pub returns : goal.returns
@@ -12,4 +12,4 @@ returns c =
       c.events_of.ensures.count,
       c.events_of.ensures.few,
     ) in
-    has_rows_before_next_thread c.args.trace.now c.args.thread c.loop-event.event c.loop-event.rows.items all c.loop-event.invariant.rows
+    has_rows_next_thread c.args.trace.now c.args.thread c.loop-event.event c.loop-event.rows.items all c.loop-event.invariant.rows

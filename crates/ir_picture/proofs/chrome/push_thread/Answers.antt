@@ -1,9 +1,9 @@
 use Rattle.std.proofs.lemmas.Result.{on_ok_weaker}
-use Rattle.ir_picture.proofs.Texts.{five_appends_nest_to_the_right}
+use Rattle.ir_picture.proofs.Texts.{append_assoc_5}
 use Rattle.ir_picture.proofs.chrome.push_thread.Goals as goal
 
 pub returns : goal.returns
 returns c = on_ok_weaker c.push_words.result
-    (five_appends_nest_to_the_right c.args.text.now.items _ _ _ _ _ _ _ _ _ _ c.in_ok-push_row.ensures c.in_ok-push_number.ensures c.in_ok-push_row-2.ensures
+    (append_assoc_5 c.args.text.now.items _ _ _ _ _ _ _ _ _ _ c.in_ok-push_row.ensures c.in_ok-push_number.ensures c.in_ok-push_row-2.ensures
     c.in_ok-push_row-3.ensures)
     c.push_words.ensures

@@ -1,11 +1,11 @@
 use Rattle.std.proofs.Common.{flat_map, refl, subst, sym}
 use Rattle.std.proofs.lemmas.Result.{err_from_is_err_and}
-use Rattle.ir_files.proofs.CallerLemmas.{if_err_holds_if_holds_of_handed_on_error}
+use Rattle.ir_files.proofs.CallerLemmas.{if_err_handed_on}
 use Rattle.ir_past.specs.Past.{IsRising}
 use Rattle.ir_picture.specs.Chrome.{box_line, all_arrows}
 use Rattle.ir_picture.specs.Progress.{AreBoxesOf, chrome_end}
-use Rattle.ir_picture.proofs.InPieces.{stops_in_second_of_four_texts, stops_in_third_of_four_texts, stops_in_last_of_four_texts, four_texts_are_appended}
-use Rattle.ir_picture.proofs.Texts.{four_parts_are_chrome_text}
+use Rattle.ir_picture.proofs.InPieces.{stops_in_second, stops_in_third, stops_in_last, four_texts_are_appended}
+use Rattle.ir_picture.proofs.Texts.{four_parts_are_chrome}
 use Rattle.ir_picture.proofs.chrome.write_lines.Goals as goal
 
 pub write_slices-requires-clause-boxes : goal.write_slices-requires-clause-boxes
@@ -18,10 +18,10 @@ pub returns-in_err-write_slices-clause-fails : goal.returns-in_err-write_slices-
 returns-in_err-write_slices-clause-fails g c =
     let p = err_from_is_err_and c.from_residual-in_err-write_slices.result c.from_residual-in_err-write_slices.ensures.1 in
     let e = c.in_err-write_slices.field-0.0 in
-    if_err_holds_if_holds_of_handed_on_error _ c.from_residual-in_err-write_slices.result e p.0 p.1 p.2
-    (stops_in_second_of_four_texts e _ _ _ c.in_ok-text.text.items
+    if_err_handed_on _ c.from_residual-in_err-write_slices.result e p.0 p.1 p.2
+    (stops_in_second e _ _ _ c.in_ok-text.text.items
     (flat_map (box_line c.args.trace.now c.deref-2.result.now) c.deref.result.now) (all_arrows 0 c.args.sights.now) chrome_end _
-    (four_parts_are_chrome_text c.args.trace.now c.args.picture.now c.args.sights.now c.thread_count.result c.in_ok-text.text.items chrome_end
+    (four_parts_are_chrome c.args.trace.now c.args.picture.now c.args.sights.now c.thread_count.result c.in_ok-text.text.items chrome_end
     c.deref.result.now c.deref-2.result.now c.in_ok-text.ensures c.thread_count.ensures c.deref.ensures.value c.deref-2.ensures.value refl)
     c.in_err-write_slices.ensures.fails)
 
@@ -29,10 +29,10 @@ pub returns-in_err-write_arrows-clause-fails : goal.returns-in_err-write_arrows-
 returns-in_err-write_arrows-clause-fails g c =
     let p = err_from_is_err_and c.from_residual-in_err-write_arrows.result c.from_residual-in_err-write_arrows.ensures.1 in
     let e = c.in_err-write_arrows.field-0.0 in
-    if_err_holds_if_holds_of_handed_on_error _ c.from_residual-in_err-write_arrows.result e p.0 p.1 p.2
-    (stops_in_third_of_four_texts e _ _ _ _ c.in_ok-text.text.items
+    if_err_handed_on _ c.from_residual-in_err-write_arrows.result e p.0 p.1 p.2
+    (stops_in_third e _ _ _ _ c.in_ok-text.text.items
     (flat_map (box_line c.args.trace.now c.deref-2.result.now) c.deref.result.now) (all_arrows 0 c.args.sights.now) chrome_end _ _
-    (four_parts_are_chrome_text c.args.trace.now c.args.picture.now c.args.sights.now c.thread_count.result c.in_ok-text.text.items chrome_end
+    (four_parts_are_chrome c.args.trace.now c.args.picture.now c.args.sights.now c.thread_count.result c.in_ok-text.text.items chrome_end
     c.deref.result.now c.deref-2.result.now c.in_ok-text.ensures c.thread_count.ensures c.deref.ensures.value c.deref-2.ensures.value refl)
     c.in_ok-write_slices.ensures.ok c.in_err-write_arrows.ensures.fails)
 
@@ -40,16 +40,16 @@ pub returns-clause-ok : goal.returns-clause-ok
 returns-clause-ok g c =
     four_texts_are_appended c.write_last.result _ _ _ _ c.in_ok-text.text.items
     (flat_map (box_line c.args.trace.now c.deref-2.result.now) c.deref.result.now) (all_arrows 0 c.args.sights.now) c.as_bytes.result.now _ _ _
-    (four_parts_are_chrome_text c.args.trace.now c.args.picture.now c.args.sights.now c.thread_count.result c.in_ok-text.text.items c.as_bytes.result.now
+    (four_parts_are_chrome c.args.trace.now c.args.picture.now c.args.sights.now c.thread_count.result c.in_ok-text.text.items c.as_bytes.result.now
     c.deref.result.now c.deref-2.result.now c.in_ok-text.ensures c.thread_count.ensures c.deref.ensures.value c.deref-2.ensures.value
     c.as_bytes.ensures.value)
     c.in_ok-write_slices.ensures.ok c.in_ok-write_arrows.ensures.ok c.write_last.ensures.ok
 
 pub returns-clause-fails : goal.returns-clause-fails
 returns-clause-fails g c =
-    stops_in_last_of_four_texts c.write_last.result _ _ _ _ _ c.in_ok-text.text.items
+    stops_in_last c.write_last.result _ _ _ _ _ c.in_ok-text.text.items
     (flat_map (box_line c.args.trace.now c.deref-2.result.now) c.deref.result.now) (all_arrows 0 c.args.sights.now) c.as_bytes.result.now _ _ _
-    (four_parts_are_chrome_text c.args.trace.now c.args.picture.now c.args.sights.now c.thread_count.result c.in_ok-text.text.items c.as_bytes.result.now
+    (four_parts_are_chrome c.args.trace.now c.args.picture.now c.args.sights.now c.thread_count.result c.in_ok-text.text.items c.as_bytes.result.now
     c.deref.result.now c.deref-2.result.now c.in_ok-text.ensures c.thread_count.ensures c.deref.ensures.value c.deref-2.ensures.value
     c.as_bytes.ensures.value)
     c.in_ok-write_slices.ensures.ok c.in_ok-write_arrows.ensures.ok c.write_last.ensures.fails

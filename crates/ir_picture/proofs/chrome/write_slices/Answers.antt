@@ -1,11 +1,12 @@
 use Rattle.std.proofs.Common.{◌∙◌, refl}
 use Rattle.std.proofs.lemmas.Option.{slice_get-get_or}
 use Rattle.std.proofs.lemmas.Result.{err_from_is_err_and}
-use Rattle.ir_files.proofs.CallerLemmas.{if_err_holds_if_holds_of_handed_on_error}
+use Rattle.ir_files.proofs.CallerLemmas.{if_err_handed_on}
 use Rattle.ir_past.specs.declared.past_err.PastErr.TheVariants.{NoMem, Write}
 use Rattle.ir_picture.specs.Chrome.{box_line}
-use Rattle.ir_picture.proofs.InPieces.{buffered_after_line, buffered_after_piece, prefix_of_text_appended_if_prefix_of_held_is, prefix_appended_if_buffered, only_held_text_is_unwritten_if_nothing_left}
+use Rattle.ir_picture.proofs.InPieces.{buffered_after_line, buffered_after_piece, buffered_is_prefix, only_held_is_unwritten}
 use Rattle.ir_picture.proofs.Texts.{flat_map_of_drop, flat_map_past_end}
+use Rattle.ir_text.proofs.CallerLemmas.{prefix_by_failed_write}
 use Rattle.ir_picture.proofs.chrome.write_slices.Goals as goal
 
 pub push_box-requires-clause-box_of : goal.push_box-requires-clause-box_of
@@ -15,14 +16,14 @@ push_box-requires-clause-box_of g c =
 pub returns-in_err-write_piece-clause-fails : goal.returns-in_err-write_piece-clause-fails
 returns-in_err-write_piece-clause-fails g c =
     let p = err_from_is_err_and c.from_residual.result c.from_residual.ensures.1 in
-    if_err_holds_if_holds_of_handed_on_error _ c.from_residual.result Write p.0 p.1 p.2
-    (prefix_of_text_appended_if_prefix_of_held_is _ _ _ _ _ _ c.loop-own.invariant.text c.in_err-write_piece.ensures.prefix, c.in_err-write_piece.ensures.err)
+    if_err_handed_on _ c.from_residual.result Write p.0 p.1 p.2
+    (prefix_by_failed_write _ _ _ _ _ _ c.loop-own.invariant.text c.in_err-write_piece.ensures.prefix, c.in_err-write_piece.ensures.err)
 
 pub returns-in_err-push_box-clause-fails : goal.returns-in_err-push_box-clause-fails
 returns-in_err-push_box-clause-fails g c =
     let p = err_from_is_err_and c.from_residual-in_err-push_box.result c.from_residual-in_err-push_box.ensures.1 in
-    if_err_holds_if_holds_of_handed_on_error _ c.from_residual-in_err-push_box.result NoMem p.0 p.1 p.2 (
-      prefix_appended_if_buffered _ _ _ _ (buffered_after_piece _ _ _ _ _ _ _ c.loop-own.invariant.text c.in_ok-write_piece.ensures.ok),
+    if_err_handed_on _ c.from_residual-in_err-push_box.result NoMem p.0 p.1 p.2 (
+      buffered_is_prefix _ _ _ _ (buffered_after_piece _ _ _ _ _ _ _ c.loop-own.invariant.text c.in_ok-write_piece.ensures.ok),
       c.in_ok-write_piece.ensures.stays ∙ c.loop-own.invariant.works,
     )
 
@@ -35,5 +36,5 @@ loop-own-preserved g c = record {
 }
 
 pub returns-clause-ok : goal.returns-clause-ok
-returns-clause-ok g c = only_held_text_is_unwritten_if_nothing_left _ _ _ _ _ c.loop-own.invariant.text
+returns-clause-ok g c = only_held_is_unwritten _ _ _ _ _ c.loop-own.invariant.text
     (flat_map_past_end (box_line c.args.trace.now c.args.stale.now) c.loop-own.own-index c.args.boxes.now c.loop-own-test.false)

@@ -1,11 +1,11 @@
 use Rattle.std.proofs.Common.{◌++◌, sym, subst, refl}
 use Rattle.std.proofs.lemmas.Result.{err_from_is_err_and}
-use Rattle.ir_files.proofs.CallerLemmas.{if_err_holds_if_holds_of_handed_on_error}
+use Rattle.ir_files.proofs.CallerLemmas.{if_err_handed_on}
 use Rattle.ir_past.specs.declared.past_err.PastErr.TheVariants.{NoMem}
 use Rattle.ir_picture.specs.Numbers.{rows_from, box_row, stale_row}
 use Rattle.ir_picture.specs.Progress.{stale_head, AreBoxesOf}
-use Rattle.ir_picture.proofs.InPieces.{buffered_at_start, prefix_appended_if_buffered, stops_in_second_of_four_texts, stops_in_third_of_four_texts, stops_in_last_of_four_texts, four_texts_are_appended}
-use Rattle.ir_picture.proofs.ViewAnswers.{four_parts_are_framed_rows}
+use Rattle.ir_picture.proofs.InPieces.{buffered_at_start, buffered_is_prefix, stops_in_second, stops_in_third, stops_in_last, four_texts_are_appended}
+use Rattle.ir_picture.proofs.ViewAnswers.{four_parts_framed_rows}
 use Rattle.ir_picture.proofs.data.write_data.Goals as goal
 
 pub write_box_rows-requires-clause-boxes : goal.write_box_rows-requires-clause-boxes
@@ -14,7 +14,7 @@ write_box_rows-requires-clause-boxes g c = subst (AreBoxesOf c.args.trace.now) (
 pub returns-in_err-text-clause-fails : goal.returns-in_err-text-clause-fails
 returns-in_err-text-clause-fails g c =
     let p = err_from_is_err_and c.from_residual.result c.from_residual.ensures.1 in
-    if_err_holds_if_holds_of_handed_on_error _ c.from_residual.result NoMem p.0 p.1 p.2 (prefix_appended_if_buffered _ _ _ _ (buffered_at_start _ _), c.requires.works)
+    if_err_handed_on _ c.from_residual.result NoMem p.0 p.1 p.2 (buffered_is_prefix _ _ _ _ (buffered_at_start _ _), c.requires.works)
 
 pub returns-in_err-write_box_rows-clause-fails : goal.returns-in_err-write_box_rows-clause-fails
 returns-in_err-write_box_rows-clause-fails g c =
@@ -22,10 +22,10 @@ returns-in_err-write_box_rows-clause-fails g c =
     let e = c.in_err-write_box_rows.field-0.0 in
     let r = c.args.trace.now in
     let after = c.args.frame.now.after.items in
-    if_err_holds_if_holds_of_handed_on_error _ c.from_residual-in_err-write_box_rows.result e p.0 p.1 p.2
-    (stops_in_second_of_four_texts e _ _ _ c.in_ok-text.text.items (rows_from (box_row r) 0 c.deref-3.result.now)
+    if_err_handed_on _ c.from_residual-in_err-write_box_rows.result e p.0 p.1 p.2
+    (stops_in_second e _ _ _ c.in_ok-text.text.items (rows_from (box_row r) 0 c.deref-3.result.now)
     (stale_head ++ rows_from stale_row 0 c.args.picture.now.stale.items) after _
-    (four_parts_are_framed_rows r c.args.near.now c.args.picture.now c.deref-2.result.now c.in_ok-text.text.items after c.args.frame.now.before.items after
+    (four_parts_framed_rows r c.args.near.now c.args.picture.now c.deref-2.result.now c.in_ok-text.text.items after c.args.frame.now.before.items after
     c.deref.result.now c.deref-3.result.now c.args.picture.now.stale.items c.in_ok-text.ensures c.deref-2.ensures.value c.deref.ensures.value
     c.deref-3.ensures.value refl refl)
     c.in_err-write_box_rows.ensures.fails)
@@ -36,10 +36,10 @@ returns-in_err-write_stale-clause-fails g c =
     let e = c.in_err-write_stale.field-0.0 in
     let r = c.args.trace.now in
     let after = c.args.frame.now.after.items in
-    if_err_holds_if_holds_of_handed_on_error _ c.from_residual-in_err-write_stale.result e p.0 p.1 p.2
-    (stops_in_third_of_four_texts e _ _ _ _ c.in_ok-text.text.items (rows_from (box_row r) 0 c.deref-3.result.now)
+    if_err_handed_on _ c.from_residual-in_err-write_stale.result e p.0 p.1 p.2
+    (stops_in_third e _ _ _ _ c.in_ok-text.text.items (rows_from (box_row r) 0 c.deref-3.result.now)
     (stale_head ++ rows_from stale_row 0 c.deref-4.result.now) after _ _
-    (four_parts_are_framed_rows r c.args.near.now c.args.picture.now c.deref-2.result.now c.in_ok-text.text.items after c.args.frame.now.before.items after
+    (four_parts_framed_rows r c.args.near.now c.args.picture.now c.deref-2.result.now c.in_ok-text.text.items after c.args.frame.now.before.items after
     c.deref.result.now c.deref-3.result.now c.deref-4.result.now c.in_ok-text.ensures c.deref-2.ensures.value c.deref.ensures.value
     c.deref-3.ensures.value c.deref-4.ensures.value refl)
     c.in_ok-write_box_rows.ensures.ok c.in_err-write_stale.ensures.fails)
@@ -49,7 +49,7 @@ returns-clause-ok g c =
     let r = c.args.trace.now in
     four_texts_are_appended c.write_last.result _ _ _ _ c.in_ok-text.text.items (rows_from (box_row r) 0 c.deref-3.result.now)
     (stale_head ++ rows_from stale_row 0 c.deref-4.result.now) c.deref-5.result.now _ _ _
-    (four_parts_are_framed_rows r c.args.near.now c.args.picture.now c.deref-2.result.now c.in_ok-text.text.items c.deref-5.result.now
+    (four_parts_framed_rows r c.args.near.now c.args.picture.now c.deref-2.result.now c.in_ok-text.text.items c.deref-5.result.now
     c.args.frame.now.before.items c.args.frame.now.after.items c.deref.result.now c.deref-3.result.now c.deref-4.result.now c.in_ok-text.ensures
     c.deref-2.ensures.value c.deref.ensures.value c.deref-3.ensures.value c.deref-4.ensures.value c.deref-5.ensures.value)
     c.in_ok-write_box_rows.ensures.ok c.in_ok-write_stale.ensures.ok c.write_last.ensures.ok
@@ -57,9 +57,9 @@ returns-clause-ok g c =
 pub returns-clause-fails : goal.returns-clause-fails
 returns-clause-fails g c =
     let r = c.args.trace.now in
-    stops_in_last_of_four_texts c.write_last.result _ _ _ _ _ c.in_ok-text.text.items (rows_from (box_row r) 0 c.deref-3.result.now)
+    stops_in_last c.write_last.result _ _ _ _ _ c.in_ok-text.text.items (rows_from (box_row r) 0 c.deref-3.result.now)
     (stale_head ++ rows_from stale_row 0 c.deref-4.result.now) c.deref-5.result.now _ _ _
-    (four_parts_are_framed_rows r c.args.near.now c.args.picture.now c.deref-2.result.now c.in_ok-text.text.items c.deref-5.result.now
+    (four_parts_framed_rows r c.args.near.now c.args.picture.now c.deref-2.result.now c.in_ok-text.text.items c.deref-5.result.now
     c.args.frame.now.before.items c.args.frame.now.after.items c.deref.result.now c.deref-3.result.now c.deref-4.result.now c.in_ok-text.ensures
     c.deref-2.ensures.value c.deref.ensures.value c.deref-3.ensures.value c.deref-4.ensures.value c.deref-5.ensures.value)
     c.in_ok-write_box_rows.ensures.ok c.in_ok-write_stale.ensures.ok c.write_last.ensures.fails

@@ -1,7 +1,7 @@
 use Rattle.std.proofs.Common.{inl, inr, Ok, Result, sym, subst}
 use Rattle.std.specs.Prelude.{MatchResult}
 use Rattle.std.proofs.lemmas.Result.{err_from_is_err_and}
-use Rattle.ir_files.proofs.CallerLemmas.{if_err_holds_if_holds_of_handed_on_error}
+use Rattle.ir_files.proofs.CallerLemmas.{if_err_handed_on}
 use Rattle.ir_files.specs.declared.exit_status.ExitStatus.{ExitStatus}
 use Rattle.ir_past.proofs.CallerLemmas.{answered_if_written}
 use Rattle.ir_picture.specs.Needs.{HasNoCircle, IsCircleAt}
@@ -10,7 +10,7 @@ use Rattle.ir_picture.specs.declared.circle.Circle.{Circle}
 use Rattle.ir_picture.specs.declared.picture.Picture.{Picture}
 use Rattle.ir_picture.specs.declared.view_err.ViewErr.TheVariants.{Unwritten}
 use Rattle.ir_picture.proofs.OfTrace.{picture_is_of_trace}
-use Rattle.ir_picture.proofs.ViewAnswers.{trace_answer_is_view_answer, view_not_answered_if_stopped, answered_of_implied_kind, not_answered_of_implied_kind}
+use Rattle.ir_picture.proofs.ViewAnswers.{trace_answer_is_view, stopped_view_no_answer, answered_implied, not_answered_implied}
 use Rattle.ir_picture.proofs.run.show_trace.Goals as goal
 
 pub show_picture-requires-clause-of_trace : goal.show_picture-requires-clause-of_trace
@@ -31,9 +31,9 @@ returns-in_err-show_picture-in-Ok-clause-fails g c =
     c.in-Ok.is c.in_ok-circle.ensures.ok in
     let p = err_from_is_err_and c.from_residual-in_err-show_picture-in-Ok.result c.from_residual-in_err-show_picture-in-Ok.ensures.1 in
     let e = c.in_err-show_picture-in-Ok.field-0.0 in
-    if_err_holds_if_holds_of_handed_on_error _ c.from_residual-in_err-show_picture-in-Ok.result (Unwritten e) p.0 p.1 p.2
-    (not_answered_of_implied_kind (IsForm asked.form r asked.around c.in-Ok.picture) (IsViewAnswer asked (Ok r)) e _
-    (λ s text is. trace_answer_is_view_answer asked r s text c.requires.coherent c.in_ok-circle.ensures.there (inr (drawn.0, (c.in-Ok.picture, drawn.1, is))))
+    if_err_handed_on _ c.from_residual-in_err-show_picture-in-Ok.result (Unwritten e) p.0 p.1 p.2
+    (not_answered_implied (IsForm asked.form r asked.around c.in-Ok.picture) (IsViewAnswer asked (Ok r)) e _
+    (λ s text is. trace_answer_is_view asked r s text c.requires.coherent c.in_ok-circle.ensures.there (inr (drawn.0, (c.in-Ok.picture, drawn.1, is))))
     c.in_err-show_picture-in-Ok.ensures.fails)
 
 pub returns-in_ok-show_picture-in-Ok-clause-ok : goal.returns-in_ok-show_picture-in-Ok-clause-ok
@@ -43,8 +43,8 @@ returns-in_ok-show_picture-in-Ok-clause-ok g c =
     let drawn : HasNoCircle r × IsPicture r asked.around c.in-Ok.picture =
     subst (λ (x : Result Picture Circle). MatchResult x (λ p. HasNoCircle r × IsPicture r asked.around p) (λ d. IsCircleAt r d.thread d.event))
     c.in-Ok.is c.in_ok-circle.ensures.ok in
-    answered_of_implied_kind (IsForm asked.form r asked.around c.in-Ok.picture) (IsViewAnswer asked (Ok r)) c.in_ok-show_picture-in-Ok.field-0 _
-    (λ text is. trace_answer_is_view_answer asked r c.in_ok-show_picture-in-Ok.field-0 text c.requires.coherent c.in_ok-circle.ensures.there
+    answered_implied (IsForm asked.form r asked.around c.in-Ok.picture) (IsViewAnswer asked (Ok r)) c.in_ok-show_picture-in-Ok.field-0 _
+    (λ text is. trace_answer_is_view asked r c.in_ok-show_picture-in-Ok.field-0 text c.requires.coherent c.in_ok-circle.ensures.there
     (inr (drawn.0, (c.in-Ok.picture, drawn.1, is))))
     c.in_ok-show_picture-in-Ok.ensures.ok
 
@@ -57,8 +57,8 @@ returns-in_err-put_answer-in-Err-clause-fails g c =
     c.in-Err.is c.in_ok-circle.ensures.ok in
     let p = err_from_is_err_and c.from_residual-in_err-put_answer-in-Err.result c.from_residual-in_err-put_answer-in-Err.ensures.1 in
     let e = c.in_err-put_answer-in-Err.field-0.0 in
-    if_err_holds_if_holds_of_handed_on_error _ c.from_residual-in_err-put_answer-in-Err.result (Unwritten e) p.0 p.1 p.2
-    (view_not_answered_if_stopped asked r c.in_ok-circle_answer-in-Err.field-0.status c.in_ok-circle_answer-in-Err.field-0.text.items e _ c.requires.coherent
+    if_err_handed_on _ c.from_residual-in_err-put_answer-in-Err.result (Unwritten e) p.0 p.1 p.2
+    (stopped_view_no_answer asked r c.in_ok-circle_answer-in-Err.field-0.status c.in_ok-circle_answer-in-Err.field-0.text.items e _ c.requires.coherent
     c.in_ok-circle.ensures.there
     (inl (c.in-Err.circle.thread, c.in-Err.circle.event, circle, c.in_ok-circle_answer-in-Err.ensures.0, c.in_ok-circle_answer-in-Err.ensures.1))
     c.in_err-put_answer-in-Err.ensures.fails)
@@ -74,7 +74,7 @@ returns-in_ok-put_answer-in-Err-clause-ok g c =
     (g.O.Sink.broken c.put_answer.new.out) c.in_ok-circle_answer-in-Err.field-0.text.items
     (subst (λ (s : ExitStatus). IsViewAnswer asked (Ok r) s c.in_ok-circle_answer-in-Err.field-0.text.items)
     (sym c.in_ok-put_answer-in-Err.ensures.status)
-    (trace_answer_is_view_answer asked r c.in_ok-circle_answer-in-Err.field-0.status c.in_ok-circle_answer-in-Err.field-0.text.items c.requires.coherent
+    (trace_answer_is_view asked r c.in_ok-circle_answer-in-Err.field-0.status c.in_ok-circle_answer-in-Err.field-0.text.items c.requires.coherent
     c.in_ok-circle.ensures.there
     (inl (c.in-Err.circle.thread, c.in-Err.circle.event, circle, c.in_ok-circle_answer-in-Err.ensures.0, c.in_ok-circle_answer-in-Err.ensures.1))))
     c.in_ok-put_answer-in-Err.ensures.ok c.in_ok-put_answer-in-Err.ensures.works

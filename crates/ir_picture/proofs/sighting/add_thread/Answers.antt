@@ -1,6 +1,6 @@
 use Rattle.std.proofs.Common.{◌≤◌, length, arith}
 use Rattle.ir_trace.specs.Recorded.{recorded_thread}
-use Rattle.ir_picture.proofs.Seen.{sights_before_next_thread}
+use Rattle.ir_picture.proofs.Seen.{sights_before_thread}
 use Rattle.ir_picture.proofs.sighting.add_thread.Goals as goal
 
 pub returns : goal.returns
@@ -12,4 +12,4 @@ returns c =
       c.events_of.ensures.count,
       c.events_of.ensures.few,
     ) in
-    sights_before_next_thread c.args.trace.now c.args.boxes.now c.args.thread c.loop-event.event c.loop-event.sights.items all c.loop-event.invariant.sights
+    sights_before_thread c.args.trace.now c.args.boxes.now c.args.thread c.loop-event.event c.loop-event.sights.items all c.loop-event.invariant.sights

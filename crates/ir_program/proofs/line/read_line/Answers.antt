@@ -1,11 +1,11 @@
 use Rattle.std.proofs.Common.{arith}
-use Rattle.ir_program.proofs.TakenLines.{takes_line_at_input_end, takes_line_at_feed_byte, line_of_input_is_longer_than_bound_if_consumed_is, too_long_line_is_refused, in_line_after_consumed_plain}
+use Rattle.ir_program.proofs.TakenLines.{takes_line_at_input_end, takes_line_at_feed_byte, consumed_long_line, too_long_is_refused, in_line_after_plain}
 use Rattle.ir_program.proofs.line.read_line.Goals as goal
 
 pub returns-in-Failed-clause-fails : goal.returns-in-Failed-clause-fails
 returns-in-Failed-clause-fails g c = (
   c.in-Failed.ensures.broken,
-  in_line_after_consumed_plain (g.R.Source.left c.args.reader.now)
+  in_line_after_plain (g.R.Source.left c.args.reader.now)
       (g.R.Source.left c.loop.reader) (g.R.Source.left c.next_byte.new.reader) c.loop.line.items c.loop.invariant.plain c.loop.invariant.taken
       c.in-Failed.ensures.bytes,
 )
@@ -22,8 +22,8 @@ returns-then-byte-eq10-clause-ok g c = takes_line_at_feed_byte (g.R.Source.left 
 
 pub returns-clause-fails : goal.returns-clause-fails
 returns-clause-fails g c = (
-  too_long_line_is_refused (g.R.Source.left c.args.reader.now)
-      (line_of_input_is_longer_than_bound_if_consumed_is (g.R.Source.left c.args.reader.now) (g.R.Source.left c.loop.reader) c.loop.line.items 4194305 c.loop.invariant.plain
+  too_long_is_refused (g.R.Source.left c.args.reader.now)
+      (consumed_long_line (g.R.Source.left c.args.reader.now) (g.R.Source.left c.loop.reader) c.loop.line.items 4194305 c.loop.invariant.plain
       c.loop.invariant.taken (omega (arith, c.loop.line.ok))),
   c.loop.invariant.works,
 )

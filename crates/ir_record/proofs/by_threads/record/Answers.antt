@@ -1,16 +1,17 @@
 use Rattle.std.proofs.Common.{rules, ◌≡◌, ◌<◌, ℕ, List, map, length, sym, ap, ◌∙◌, subst, arith}
 use Rattle.std.specs.List.{AllByRecursion, AllZip}
 use Rattle.ir_image.specs.Guest.{Guest, object_count}
-use Rattle.ir_image.proofs.CallerLemmas.{guest_threads_at_most_limit}
-use Rattle.ir_crew.specs.Ends.{IsEnd}
+use Rattle.ir_image.proofs.CallerLemmas.{guest_threads_within}
+use Rattle.ir_crew.specs.Ends.{IsCrewEnd}
 use Rattle.ir_record.specs.Recording.{EachWentOn}
 use Rattle.ir_record.specs.Threads.{IsSeatOf, views_of}
-use Rattle.ir_record.specs.Working.{work_of, IsReadyWorker, RanToEnd}
+use Rattle.ir_record.specs.Working.{work_of_worker, IsReadyWorker, RanToEnd}
 use Rattle.ir_record.specs.Worlds.{NoneFailed, IsFirstFailed, AreSameWorlds}
 use Rattle.ir_record.specs.declared.by_threads.worker.Worker.{Worker}
 use Rattle.ir_record.proofs.ByThreads.{recorded_of}
-use Rattle.ir_record.proofs.Crewed.{NoneBroken, HaveRun, new_workers_are_ready, threads_there, room_there, worlds_there, seats_there, ended_there, all_over, each_there, views_of_seats_are_tracks_of_works, trace_at_place_is_of_its_worker, map_map}
-use Rattle.ir_record.proofs.Manning.{traces_are_as_many_as_workers}
+use Rattle.ir_record.proofs.Crewed.{NoneBroken, HaveRun, new_workers_are_ready, threads_there, room_there, worlds_there, seats_there}
+use Rattle.ir_record.proofs.Crewed.{ended_there, all_over, each_there, seat_views_are_tracks, trace_of_its_worker, map_map}
+use Rattle.ir_record.proofs.Manning.{traces_count_workers}
 use Rattle.ir_record.proofs.by_threads.record.Given as given
 use Rattle.ir_record.proofs.by_threads.record.Goals as goal
 
@@ -71,7 +72,7 @@ pub overflow_cast-result : goal.overflow_cast-result
 overflow_cast-result g c =
     let below : c.in-Some.thread < length c.run_workers.new.workers.items =
     subst (λ z. c.in-Some.thread < length z) c.as_slice.ensures.value c.in-Some.ensures.below in
-    omega (arith, below, threads_there (ran_some g c), guest_threads_at_most_limit c.args.image.now c.code.ensures.within)
+    omega (arith, below, threads_there (ran_some g c), guest_threads_within c.args.image.now c.code.ensures.within)
 
 pub returns-in-Some-clause-failed : goal.returns-in-Some-clause-failed
 returns-in-Some-clause-failed g c = (
@@ -107,14 +108,14 @@ returns-clause-recorded g c =
     let emitted = c.gathered-seats.ensures.trace in
     let each_of = c.gathered-seats.result.2.each.items in
     recorded_of (all_over all c.code.ensures.within (none_broken g (at_count g c)))
-    (subst (λ z. IsEnd z c.joined-seat.result.me.0 c.close.new.objects) c.in_ok-crew.ensures.key c.close.ensures)
-    (c.joined-seat.ensures.views ∙ ap views_of c.gathered-seats.ensures.seats ∙ views_of_seats_are_tracks_of_works g.W.World.answers end)
+    (subst (λ z. IsCrewEnd z c.joined-seat.result.me.0 c.close.new.objects) c.in_ok-crew.ensures.key c.close.ensures)
+    (c.joined-seat.ensures.views ∙ ap views_of c.gathered-seats.ensures.seats ∙ seat_views_are_tracks g.W.World.answers end)
     c.gathered-seats.result.1 (emitted.0 ∙ counted g (at_count g c)) emitted.1 emitted.2
-    (traces_are_as_many_as_workers end c.gathered-seats.result.1.threads emitted.3 ∙ threads_there all)
-    (λ t l. trace_at_place_is_of_its_worker g.W.World.answers end c.gathered-seats.result.1.threads emitted.3 t (omega (arith, l, threads_there all)))
-    _ (c.gathered-seats.ensures.bytes ∙ sym (map_map (λ w. w.thread.output) (work_of g.W.World.answers) end))
+    (traces_count_workers end c.gathered-seats.result.1.threads emitted.3 ∙ threads_there all)
+    (λ t l. trace_of_its_worker g.W.World.answers end c.gathered-seats.result.1.threads emitted.3 t (omega (arith, l, threads_there all)))
+    _ (c.gathered-seats.ensures.bytes ∙ sym (map_map (λ w. w.thread.output) (work_of_worker g.W.World.answers) end))
     _ (sym (map_map g.W.World.answers (λ o. o.world) each_of) ∙ ap (map g.W.World.answers) c.gathered-seats.ensures.worlds
-    ∙ map_map g.W.World.answers (λ w. w.world) end ∙ sym (map_map (λ w. w.answers) (work_of g.W.World.answers) end))
+    ∙ map_map g.W.World.answers (λ w. w.world) end ∙ sym (map_map (λ w. w.answers) (work_of_worker g.W.World.answers) end))
 
 pub returns-clause-works : goal.returns-clause-works
 returns-clause-works g c = subst NoneFailed (sym (sym (map_map g.W.World.broken (λ o. o.world) c.gathered-seats.result.2.each.items)

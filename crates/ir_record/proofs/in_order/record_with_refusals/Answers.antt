@@ -1,27 +1,27 @@
 use Rattle.std.proofs.Common.{rules, ◌≡◌, length, map, sym, ap, ◌∙◌, subst, arith}
 use Rattle.std.proofs.lemmas.List.{length-map}
-use Rattle.ir_record.specs.Progress.{IsReady}
+use Rattle.ir_record.specs.Progress.{IsReadyToRecord}
 use Rattle.ir_record.specs.Recorders.{progress_of}
 use Rattle.ir_record.specs.Recording.{turns_of_items}
 use Rattle.ir_record.specs.Worlds.{NoneFailed}
-use Rattle.ir_record.proofs.Ended.{recording_start_is_ready, RecordingOver, recording_is_over_if_rounds_leave_no_step, progress_is_start_if_flat_and_logs_are_new, threads_there, objects_there, profiles_there, ended_there, recorded_there, map_of_composition}
+use Rattle.ir_record.proofs.Ended.{start_is_ready, RecordingOver, over_if_no_step, new_is_start_progress, threads_there, objects_there, profiles_there, ended_there, recorded_there, map_of_composition}
 use Rattle.ir_record.proofs.in_order.record_with_refusals.Given as given
-use Rattle.ir_record.proofs.Stopped.{recording_stopped_in_turns_if_stopped_from_start}
+use Rattle.ir_record.proofs.Stopped.{recording_stopped}
 use Rattle.ir_record.proofs.in_order.record_with_refusals.Goals as goal
 
 pub record-requires-clause-ready : goal.record-requires-clause-ready
 record-requires-clause-ready g c =
     let size : length c.args.worlds.items ≡ length c.args.image.now.entries = search rules in
-    subst (λ a. IsReady a (map g.W.World.broken c.args.worlds.items))
-    (sym (progress_is_start_if_flat_and_logs_are_new c.args.image.now c.args.budget c.args.profile (map g.W.World.answers c.args.worlds.items)
+    subst (λ a. IsReadyToRecord a (map g.W.World.broken c.args.worlds.items))
+    (sym (new_is_start_progress c.args.image.now c.args.budget c.args.profile (map g.W.World.answers c.args.worlds.items)
     c.in_ok-start.ensures.flat c.in_ok-start.ensures.logs))
-    (recording_start_is_ready c.args.image.now c.args.budget c.args.profile (map g.W.World.answers c.args.worlds.items)
+    (start_is_ready c.args.image.now c.args.budget c.args.profile (map g.W.World.answers c.args.worlds.items)
     (map g.W.World.broken c.args.worlds.items) (length-map c.args.worlds.items g.W.World.answers ∙ size) c.requires.works)
 
 -- once no world has failed, the recording is at its end
 over : (g : given.Over) (c : goal.In_ok-outputs g) → RecordingOver c.args.image.now c.args.budget c.args.profile (turns_of_items c.args.order.now)
     (map g.W.World.answers c.args.worlds.items) (progress_of g.W.World.answers c.record.new.self)
-over g c = recording_is_over_if_rounds_leave_no_step c.in_ok-start.ensures.flat c.in_ok-start.ensures.logs c.in_default.ensures.took c.in_default.ensures.over
+over g c = over_if_no_step c.in_ok-start.ensures.flat c.in_ok-start.ensures.logs c.in_default.ensures.took c.in_default.ensures.over
 
 pub into_trace-requires-clause-some : goal.into_trace-requires-clause-some
 into_trace-requires-clause-some g c = omega (arith, threads_there (over g c), c.in_ok-start.ensures.guest.some_thread)
@@ -59,5 +59,5 @@ pub returns-in-Err-clause-failed : goal.returns-in-Err-clause-failed
 returns-in-Err-clause-failed g c = (
   c.in-Err.ensures.stays.failed,
   c.record.ensures.stays.same_worlds,
-  recording_stopped_in_turns_if_stopped_from_start c.in_ok-start.ensures.flat c.in_ok-start.ensures.logs c.in-Err.ensures.stopped,
+  recording_stopped c.in_ok-start.ensures.flat c.in_ok-start.ensures.logs c.in-Err.ensures.stopped,
 )

@@ -1,6 +1,6 @@
 use Rattle.std.proofs.Common.{Some, None}
 use Rattle.std.proofs.lemmas.Str.Pattern.{split_parts}
-use Rattle.ir_record_command.proofs.Parts.{split_without_mark_is_one_part, split_at_first_mark}
+use Rattle.ir_record_command.proofs.Parts.{split_without_mark, split_at_first_mark}
 use Rattle.ir_record_command.proofs.order.first_part.Goals as goal
 
 pub returns-in-Some-clause-parts : goal.returns-in-Some-clause-parts
@@ -10,4 +10,4 @@ returns-in-Some-clause-parts c =
 
 pub returns-in-None-clause-parts : goal.returns-in-None-clause-parts
 returns-in-None-clause-parts c =
-    split_without_mark_is_one_part c.args.mark c.args.text.now (split_parts c.args.mark c.args.text.now None c.in-None.ensures.cases c.requires)
+    split_without_mark c.args.mark c.args.text.now (split_parts c.args.mark c.args.text.now None c.in-None.ensures.cases c.requires)

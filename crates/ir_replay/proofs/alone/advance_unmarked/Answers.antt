@@ -1,37 +1,37 @@
 use Rattle.std.proofs.Common.{arith}
-use Rattle.ir_replay.proofs.Reached.{standing_under_target_stands_at_own_positions, standing_under_target_is_not_past_it}
-use Rattle.ir_replay.proofs.Unmarked.{under_target_after_private_steps, standings_gone_if_went_alone, unmarked_steps_in_standings_if_in_flats, rests_unmarked_if_fewer_than_most_steps_taken}
+use Rattle.ir_replay.proofs.Reached.{under_stands_at_own, under_not_past_target}
+use Rattle.ir_replay.proofs.Unmarked.{under_after_private, standing_gone_alone, standing_steps_unmarked, rests_unmarked_if_fewer}
 use Rattle.ir_replay.proofs.alone.advance_unmarked.Goals as goal
 
 pub returns-clause-stands : goal.returns-clause-stands
-returns-clause-stands c = standing_under_target_stands_at_own_positions c.args.fitted.now c.positions.result.now c.run_unmarked-taken.new.self c.without_code.result
-    (under_target_after_private_steps c.args.fitted.now c.args.target.now c.positions.result.now c.args.state c.with_code-flat.result
+returns-clause-stands c = under_stands_at_own c.args.fitted.now c.positions.result.now c.run_unmarked-taken.new.self c.without_code.result
+    (under_after_private c.args.fitted.now c.args.target.now c.positions.result.now c.args.state c.with_code-flat.result
     c.run_unmarked-taken.new.self c.args.t c.run_unmarked-taken.result c.with_code-flat.ensures c.positions.ensures c.known.ensures
     c.requires.target c.requires.state c.requires.below
     (let a = c.run_unmarked-taken.ensures.within in let b = c.left.ensures in let m = c.min-limit.ensures in omega (arith, a, b, m))
     c.run_unmarked-taken.ensures.went) c.without_code.ensures.state c.without_code.ensures.within
 
 pub returns-clause-below : goal.returns-clause-below
-returns-clause-below c = standing_under_target_is_not_past_it c.args.fitted.now c.args.target.now c.positions.result.now c.run_unmarked-taken.new.self
+returns-clause-below c = under_not_past_target c.args.fitted.now c.args.target.now c.positions.result.now c.run_unmarked-taken.new.self
     c.without_code.result c.positions.ensures
-    (under_target_after_private_steps c.args.fitted.now c.args.target.now c.positions.result.now c.args.state c.with_code-flat.result
+    (under_after_private c.args.fitted.now c.args.target.now c.positions.result.now c.args.state c.with_code-flat.result
     c.run_unmarked-taken.new.self c.args.t c.run_unmarked-taken.result c.with_code-flat.ensures c.positions.ensures c.known.ensures
     c.requires.target c.requires.state c.requires.below
     (let a = c.run_unmarked-taken.ensures.within in let b = c.left.ensures in let m = c.min-limit.ensures in omega (arith, a, b, m))
     c.run_unmarked-taken.ensures.went) c.without_code.ensures.state
 
 pub returns-clause-gone : goal.returns-clause-gone
-returns-clause-gone c = standings_gone_if_went_alone c.args.fitted.now c.args.state c.without_code.result c.with_code-flat.result
+returns-clause-gone c = standing_gone_alone c.args.fitted.now c.args.state c.without_code.result c.with_code-flat.result
     c.run_unmarked-taken.new.self c.args.t c.run_unmarked-taken.result c.with_code-flat.ensures c.run_unmarked-taken.ensures.went
     c.without_code.ensures.state
 
 pub returns-clause-unmarked : goal.returns-clause-unmarked
-returns-clause-unmarked c = unmarked_steps_in_standings_if_in_flats c.args.fitted.now c.args.state c.without_code.result c.with_code-flat.result
+returns-clause-unmarked c = standing_steps_unmarked c.args.fitted.now c.args.state c.without_code.result c.with_code-flat.result
     c.run_unmarked-taken.new.self c.args.code.now c.args.t c.run_unmarked-taken.result c.with_code-flat.ensures
     c.run_unmarked-taken.ensures.unmarked c.without_code.ensures.state
 
 pub returns-clause-stops : goal.returns-clause-stops
-returns-clause-stops c = rests_unmarked_if_fewer_than_most_steps_taken c.args.fitted.now c.args.target.now c.positions.result.now c.without_code.result
+returns-clause-stops c = rests_unmarked_if_fewer c.args.fitted.now c.args.target.now c.positions.result.now c.without_code.result
     c.with_code-flat.result c.run_unmarked-taken.new.self c.args.code.now c.args.t c.run_unmarked-taken.result c.min-limit.result
     c.args.most c.positions.ensures c.run_unmarked-taken.ensures.went
     (λ left less. let b = c.left.ensures in let m = c.min-limit.ensures in omega (arith, left, less, b, m))

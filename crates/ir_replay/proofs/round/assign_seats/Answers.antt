@@ -1,5 +1,5 @@
 use Rattle.std.proofs.Common.{◌∷◌, [], length, ap, ◌∙◌, arith, length-append}
-use Rattle.ir_replay.proofs.Dealt.{dealt_threads_stay_whole_if_worker_moved, dealt_seats_stay_whole_if_worker_moved}
+use Rattle.ir_replay.proofs.Dealt.{threads_whole_if_moved, seats_whole_if_moved}
 use Rattle.ir_replay.proofs.round.assign_seats.Goals as goal
 
 pub threads-preserved-in-Some-pop : goal.threads-preserved-in-Some-pop
@@ -13,10 +13,10 @@ threads-preserved-in-Some-pop c =
       held = c.pop.ensures.capacity ∙ i.held;
       counts = omega (arith, t, s, counts);
       room = omega (arith, t, w, room, cap);
-      threads = dealt_threads_stay_whole_if_worker_moved c.threads.threads.items c.pop.new.self.items _ c.threads.workers.items c.push_reserved.new.self.items
+      threads = threads_whole_if_moved c.threads.threads.items c.pop.new.self.items _ c.threads.workers.items c.push_reserved.new.self.items
           (record { seat = c.in-Some-pop.seat; thread = c.in-Some.thread; apart = _ }) c.in-Some.ensures.items c.push_reserved.ensures.items
           i.threads;
-      seats = dealt_seats_stay_whole_if_worker_moved c.threads.seats.items c.pop-in-Some.new.self.items _ c.threads.workers.items c.push_reserved.new.self.items
+      seats = seats_whole_if_moved c.threads.seats.items c.pop-in-Some.new.self.items _ c.threads.workers.items c.push_reserved.new.self.items
           (record { seat = c.in-Some-pop.seat; thread = c.in-Some.thread; apart = _ }) c.in-Some-pop.ensures.items
           c.push_reserved.ensures.items i.seats;
     }

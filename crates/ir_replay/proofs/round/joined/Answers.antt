@@ -2,8 +2,8 @@ use Rattle.std.proofs.Common.{rules, ◌≡◌, [], ◌∷◌, ◌++◌, length,
 use Rattle.std.specs.List.{AllByRecursion}
 use Rattle.std.specs.Prelude.{option_to_list, vec_len}
 use Rattle.ir_lemmas.proofs.CallerLemmas.{all_splits_off_last}
-use Rattle.ir_replay.specs.Rounds.{backwards, threads_of, IsOfTable}
-use Rattle.ir_replay.proofs.Dealt.{views_are_last_view_then_views_of_rest, joined_views_stay_whole_if_next_seat_joined, joined_threads_stay_whole_if_next_worker_joined, length_after_push}
+use Rattle.ir_replay.specs.Rounds.{backwards, round_threads, IsOfTable}
+use Rattle.ir_replay.proofs.Dealt.{views_of_last, joined_views_whole, joined_threads_whole, length_after_push}
 use Rattle.ir_replay.proofs.round.joined.Goals as goal
 
 pub workers-init : goal.workers-init
@@ -23,9 +23,9 @@ workers-init c =
     record {
       table = h.1.table;
       slots = h.1.slots;
-      views = views_are_last_view_then_views_of_rest c.args.workers.now.items c.pop.new.self.items c.unwrap-first.result parts;
-      threads = joined_threads_stay_whole_if_next_worker_joined c.args.workers.now.items c.pop.new.self.items c.unwrap-first.result [] c.push_reserved.new.self.items
-          (backwards (threads_of c.args.workers.now.items)) refl parts pushed;
+      views = views_of_last c.args.workers.now.items c.pop.new.self.items c.unwrap-first.result parts;
+      threads = joined_threads_whole c.args.workers.now.items c.pop.new.self.items c.unwrap-first.result [] c.push_reserved.new.self.items
+          (backwards (round_threads c.args.workers.now.items)) refl parts pushed;
       room = omega (arith, one, less, len, room, cap);
       seats = h.0;
     }
@@ -51,9 +51,9 @@ workers-preserved c =
     record {
       table = c.join-all.ensures.0 ∙ i.table;
       slots = ap (λ z. z.1) c.join-all.ensures.1;
-      views = joined_views_stay_whole_if_next_seat_joined c.workers.workers.items c.pop-in-workers.new.self.items c.in-Some.worker c.workers.all c.join-all.result _ i.views
+      views = joined_views_whole c.workers.workers.items c.pop-in-workers.new.self.items c.in-Some.worker c.workers.all c.join-all.result _ i.views
           c.in-Some.ensures.items c.join-all.ensures.1;
-      threads = joined_threads_stay_whole_if_next_worker_joined c.workers.workers.items c.pop-in-workers.new.self.items c.in-Some.worker c.workers.threads.items
+      threads = joined_threads_whole c.workers.workers.items c.pop-in-workers.new.self.items c.in-Some.worker c.workers.threads.items
           c.push_reserved-in-Some.new.self.items _ i.threads c.in-Some.ensures.items c.push_reserved-in-Some.ensures.items;
       room = omega (arith, less, more, cap, room);
       seats = h.0;

@@ -1,10 +1,10 @@
 use Rattle.std.proofs.Common.{◌≡◌}
-use Rattle.ir_replay.specs.Workers.{IsReady}
+use Rattle.ir_replay.specs.Workers.{IsWorkerReady}
 use Rattle.ir_replay.proofs.worker.try_again.Given as goal
 
 abbrev pub invariant-looks : goal.invariant-looks
 invariant-looks g l = record {
-  ready : IsReady l.weave.table.shared.table_id l.weave.table.shared.key l.target l.worker;
+  ready : IsWorkerReady l.weave.table.shared.table_id l.weave.table.shared.key l.target l.worker;
   same : l.worker.thread ≡ l.fn.worker.thread;
 }
 

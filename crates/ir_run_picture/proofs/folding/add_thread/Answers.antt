@@ -2,9 +2,9 @@ use Rattle.std.proofs.Common.{◌+◌, ◌∙◌, List, length, ap, sym, subst, 
 use Rattle.ir_log.specs.declared.event.Event.{Event}
 use Rattle.ir_trace.specs.Recorded.{Recorded, recorded_thread}
 use Rattle.ir_picture.specs.Boxing.{Notes, IsRepeat, IsFold}
-use Rattle.ir_picture.proofs.CallerLemmas.{repeat_is_before_next_event, fold_is_whether_repeats_before_and_now_are_alike}
-use Rattle.ir_run_picture.proofs.Behind.{event_below_length_is_inside}
-use Rattle.ir_run_picture.proofs.Boxed.{run_boxed_before_next_thread}
+use Rattle.ir_picture.proofs.CallerLemmas.{repeat_before_next, fold_is_alike}
+use Rattle.ir_run_picture.proofs.Behind.{below_length_is_inside}
+use Rattle.ir_run_picture.proofs.Boxed.{run_boxed_next_thread}
 use Rattle.ir_run_picture.proofs.folding.add_thread.Goals as goal
 
 pub folds_in-folds-requires-clause-inside : goal.folds_in-folds-requires-clause-inside
@@ -13,7 +13,7 @@ folds_in-folds-requires-clause-inside c =
     let end = c.loop-event.auto.event-end in
     let count = c.events_of-events.ensures.count in
     let same = ap (λ (r : Recorded). length (recorded_thread r c.args.thread).events) c.trace.ensures.value in
-    event_below_length_is_inside c.args.fitted.now c.known.ensures.run c.args.thread c.loop-event.event (omega (arith, below, end, count, same))
+    below_length_is_inside c.args.fitted.now c.known.ensures.run c.args.thread c.loop-event.event (omega (arith, below, end, count, same))
 
 pub folds_in-folds-requires-clause-folds : goal.folds_in-folds-requires-clause-folds
 folds_in-folds-requires-clause-folds c =
@@ -22,7 +22,7 @@ folds_in-folds-requires-clause-folds c =
     let now : IsRepeat es c.loop-event.event c.note-repeat.result =
     subst (λ (x : List Event). IsRepeat x c.loop-event.event c.note-repeat.result) events c.note-repeat.ensures.repeat in
     subst (IsFold es c.loop-event.event) (sym c.are_alike.ensures)
-    (fold_is_whether_repeats_before_and_now_are_alike es c.loop-event.event c.loop-event.before c.note-repeat.result c.loop-event.invariant.before now)
+    (fold_is_alike es c.loop-event.event c.loop-event.before c.note-repeat.result c.loop-event.invariant.before now)
 
 pub loop-event-preserved : goal.loop-event-preserved
 loop-event-preserved c =
@@ -31,7 +31,7 @@ loop-event-preserved c =
     record {
       objects = c.note-repeat.ensures.objects ∙ c.loop-event.invariant.objects;
       notes = subst (λ (x : List Event). Notes x (c.loop-event.event + 1) c.note-repeat.new.self) events c.note-repeat.ensures.notes;
-      before = repeat_is_before_next_event es c.loop-event.event c.note-repeat.result
+      before = repeat_before_next es c.loop-event.event c.note-repeat.result
           (subst (λ (x : List Event). IsRepeat x c.loop-event.event c.note-repeat.result) events c.note-repeat.ensures.repeat);
       boxed = search rules;
     }
@@ -43,5 +43,5 @@ returns c =
     let count = c.events_of-events.ensures.count in
     let few = c.events_of-events.ensures.few in
     let same = ap (λ (r : Recorded). length (recorded_thread r c.args.thread).events) c.trace.ensures.value in
-    run_boxed_before_next_thread c.args.fitted.now c.args.thread c.loop-event.event c.loop-event.boxes.items (omega (arith, past, end, count, few, same))
+    run_boxed_next_thread c.args.fitted.now c.args.thread c.loop-event.event c.loop-event.boxes.items (omega (arith, past, end, count, few, same))
     c.loop-event.invariant.boxed

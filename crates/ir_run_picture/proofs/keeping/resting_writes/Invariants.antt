@@ -1,6 +1,6 @@
 use Rattle.std.proofs.Common.{◌≡◌}
-use Rattle.ir_run_picture.specs.Resting.{first_kept}
+use Rattle.ir_run_picture.specs.Resting.{first_resting}
 use Rattle.ir_run_picture.proofs.keeping.resting_writes.Given as goal
 
 abbrev pub invariant-loop-i : goal.invariant-loop-i
-invariant-loop-i l = l.kept.items ≡ first_kept l.boxes l.rows l.rests l.i
+invariant-loop-i l = l.kept.items ≡ first_resting l.boxes l.rows l.rests l.i

@@ -1,10 +1,10 @@
 use Rattle.std.proofs.lemmas.Result.{err_from_is_err_and}
-use Rattle.ir_files.proofs.CallerLemmas.{if_err_holds_if_holds_of_handed_on_error}
+use Rattle.ir_files.proofs.CallerLemmas.{if_err_handed_on}
 use Rattle.ir_opened.proofs.CallerLemmas.{run_trace_is_coherent}
 use Rattle.ir_picture.specs.declared.view_err.ViewErr.TheVariants.{Unwritten}
-use Rattle.ir_picture.proofs.CallerLemmas.{answered_of_implied_kind, not_answered_of_implied_kind}
+use Rattle.ir_picture.proofs.CallerLemmas.{answered_implied, not_answered_implied}
 use Rattle.ir_run_picture.specs.Answers.{IsFormOfRun, IsRunViewAnswer}
-use Rattle.ir_run_picture.proofs.Shown.{run_answer_is_view_answer, picture_form_is_run_answer}
+use Rattle.ir_run_picture.proofs.Shown.{run_answer_is_view, picture_form_is_answer}
 use Rattle.ir_run_picture.proofs.run.show_run.Goals as goal
 
 pub show_picture-requires-clause-coherent : goal.show_picture-requires-clause-coherent
@@ -16,17 +16,17 @@ returns-in_err-show_picture-clause-fails g c =
     let asked = c.args.asked.now in
     let p = err_from_is_err_and c.from_residual-in_err-show_picture.result c.from_residual-in_err-show_picture.ensures.1 in
     let e = c.in_err-show_picture.field-0.0 in
-    if_err_holds_if_holds_of_handed_on_error _ c.from_residual-in_err-show_picture.result (Unwritten e) p.0 p.1 p.2
-    (λ i t fits. not_answered_of_implied_kind (IsFormOfRun asked.form f asked.around c.in_ok-shown.shown.picture c.in_ok-shown.shown.kept.items) (IsRunViewAnswer asked i t) e
-    _ (λ s text is. run_answer_is_view_answer asked f s text i t fits c.in_ok-shown.ensures.there
-    (picture_form_is_run_answer asked f s text c.in_ok-shown.shown.picture c.in_ok-shown.shown.kept.items c.in_ok-shown.ensures.drawn is))
+    if_err_handed_on _ c.from_residual-in_err-show_picture.result (Unwritten e) p.0 p.1 p.2
+    (λ i t fits. not_answered_implied (IsFormOfRun asked.form f asked.around c.in_ok-shown.shown.picture c.in_ok-shown.shown.kept.items) (IsRunViewAnswer asked i t) e
+    _ (λ s text is. run_answer_is_view asked f s text i t fits c.in_ok-shown.ensures.there
+    (picture_form_is_answer asked f s text c.in_ok-shown.shown.picture c.in_ok-shown.shown.kept.items c.in_ok-shown.ensures.drawn is))
     c.in_err-show_picture.ensures.fails)
 
 pub returns-clause-ok : goal.returns-clause-ok
 returns-clause-ok g c =
     let f = c.args.fitted.now in
     let asked = c.args.asked.now in
-    λ i t fits. answered_of_implied_kind (IsFormOfRun asked.form f asked.around c.in_ok-shown.shown.picture c.in_ok-shown.shown.kept.items) (IsRunViewAnswer asked i t)
-    c.in_ok-show_picture.field-0 _ (λ text is. run_answer_is_view_answer asked f c.in_ok-show_picture.field-0 text i t fits c.in_ok-shown.ensures.there
-    (picture_form_is_run_answer asked f c.in_ok-show_picture.field-0 text c.in_ok-shown.shown.picture c.in_ok-shown.shown.kept.items c.in_ok-shown.ensures.drawn is))
+    λ i t fits. answered_implied (IsFormOfRun asked.form f asked.around c.in_ok-shown.shown.picture c.in_ok-shown.shown.kept.items) (IsRunViewAnswer asked i t)
+    c.in_ok-show_picture.field-0 _ (λ text is. run_answer_is_view asked f c.in_ok-show_picture.field-0 text i t fits c.in_ok-shown.ensures.there
+    (picture_form_is_answer asked f c.in_ok-show_picture.field-0 text c.in_ok-shown.shown.picture c.in_ok-shown.shown.kept.items c.in_ok-shown.ensures.drawn is))
     c.in_ok-show_picture.ensures.ok

@@ -1,20 +1,20 @@
 use Rattle.std.proofs.Common.{◌≡◌, ◌++◌, ◌∙◌, ℕ, List, length, inr, ap, sym, subst, arith}
 use Rattle.std.proofs.lemmas.Result.{err_from_is_err_and, IfErr-weaker}
-use Rattle.ir_files.proofs.CallerLemmas.{if_err_holds_if_holds_of_handed_on_error}
+use Rattle.ir_files.proofs.CallerLemmas.{if_err_handed_on}
 use Rattle.ir_files.specs.Writers.{writer_of}
 use Rattle.ir_files.specs.declared.exit_status.ExitStatus.TheVariants.{Done}
 use Rattle.ir_past.specs.Answers.{NotAnswered, Stops}
 use Rattle.ir_past.specs.declared.past_err.PastErr.TheVariants.{NoMem}
-use Rattle.ir_past.proofs.CallerLemmas.{answered_if_written, not_answered_if_no_memory, not_answered_if_stopped}
+use Rattle.ir_past.proofs.CallerLemmas.{answered_if_written, no_memory_no_answer, not_answered_if_stopped}
 use Rattle.ir_picture.specs.Answers.{many_line}
 use Rattle.ir_picture.specs.Progress.{AreBoxesOf}
 use Rattle.ir_picture.specs.declared.asked.Form.TheVariants as form
 use Rattle.ir_picture.specs.declared.placed_box.PlacedBox.{PlacedBox}
 use Rattle.ir_run_picture.specs.Answers.{IsFormOfRun}
-use Rattle.ir_run_picture.specs.Numbers.{data_rows}
+use Rattle.ir_run_picture.specs.Numbers.{run_data_rows}
 use Rattle.ir_run_picture.specs.Steps.{AreDrawn}
 use Rattle.ir_run_picture.specs.declared.resting.Resting.{Resting}
-use Rattle.ir_run_picture.proofs.Shown.{framed_rows_are_page_form}
+use Rattle.ir_run_picture.proofs.Shown.{framed_run_rows_page}
 use Rattle.ir_run_picture.proofs.run.write_page.Goals as goal
 
 pub all_drawn-requires : goal.all_drawn-requires
@@ -30,8 +30,8 @@ write_data-requires-clause-drawn g c =
 pub returns-in_err-frame-clause-fails : goal.returns-in_err-frame-clause-fails
 returns-in_err-frame-clause-fails g c =
     let p = err_from_is_err_and c.from_residual-in_err-frame.result c.from_residual-in_err-frame.ensures.1 in
-    if_err_holds_if_holds_of_handed_on_error _ c.from_residual-in_err-frame.result NoMem p.0 p.1 p.2
-    (not_answered_if_no_memory (IsFormOfRun form.Page c.args.fitted.now c.args.near.now c.args.shown.now.picture c.args.shown.now.kept.items)
+    if_err_handed_on _ c.from_residual-in_err-frame.result NoMem p.0 p.1 p.2
+    (no_memory_no_answer (IsFormOfRun form.Page c.args.fitted.now c.args.near.now c.args.shown.now.picture c.args.shown.now.kept.items)
     (g.O.Sink.written c.args.out.now) (g.O.Sink.broken c.args.out.now) c.requires.works)
 
 pub returns-in_err-write_data-clause-fails : goal.returns-in_err-write_data-clause-fails
@@ -42,11 +42,11 @@ returns-in_err-write_data-clause-fails g c =
     let near = c.args.near.now in
     let p = c.args.shown.now.picture in
     let text : List ℕ = c.in_ok-frame.frame.before.items
-    ++ (data_rows f near p c.deref-2.result.now c.deref-3.result.now ++ c.in_ok-frame.frame.after.items) in
-    if_err_holds_if_holds_of_handed_on_error _ c.from_residual-in_err-write_data.result e q.0 q.1 q.2
+    ++ (run_data_rows f near p c.deref-2.result.now c.deref-3.result.now ++ c.in_ok-frame.frame.after.items) in
+    if_err_handed_on _ c.from_residual-in_err-write_data.result e q.0 q.1 q.2
     (not_answered_if_stopped (IsFormOfRun form.Page f near p c.args.shown.now.kept.items) Done text e _
     (subst (λ (ks : List Resting). IsFormOfRun form.Page f near p ks Done text) c.deref-3.ensures.value
-    (framed_rows_are_page_form f near p c.deref-2.result.now c.deref-3.result.now c.in_ok-frame.frame.before.items c.in_ok-frame.frame.after.items
+    (framed_run_rows_page f near p c.deref-2.result.now c.deref-3.result.now c.in_ok-frame.frame.before.items c.in_ok-frame.frame.after.items
     (subst (AreDrawn f p.boxes.items) (sym c.deref-2.ensures.value)
     (subst (λ (bs : List PlacedBox). AreDrawn f bs c.in_ok-drawn.drawn.items) c.deref.ensures.value c.in_ok-drawn.ensures)) (omega (arith, c.if-len-gt-MOST_BOXES.false))
     c.in_ok-frame.ensures.before c.in_ok-frame.ensures.after))
@@ -58,11 +58,11 @@ returns-clause-ok g c =
     let near = c.args.near.now in
     let p = c.args.shown.now.picture in
     let text : List ℕ = c.in_ok-frame.frame.before.items
-    ++ (data_rows f near p c.deref-2.result.now c.deref-3.result.now ++ c.in_ok-frame.frame.after.items) in
+    ++ (run_data_rows f near p c.deref-2.result.now c.deref-3.result.now ++ c.in_ok-frame.frame.after.items) in
     answered_if_written (IsFormOfRun form.Page f near p c.args.shown.now.kept.items) Done (g.O.Sink.written c.args.out.now)
     (g.O.Sink.written c.write_data.new.out) (g.O.Sink.broken c.write_data.new.out) text
     (subst (λ (ks : List Resting). IsFormOfRun form.Page f near p ks Done text) c.deref-3.ensures.value
-    (framed_rows_are_page_form f near p c.deref-2.result.now c.deref-3.result.now c.in_ok-frame.frame.before.items c.in_ok-frame.frame.after.items
+    (framed_run_rows_page f near p c.deref-2.result.now c.deref-3.result.now c.in_ok-frame.frame.before.items c.in_ok-frame.frame.after.items
     (subst (AreDrawn f p.boxes.items) (sym c.deref-2.ensures.value)
     (subst (λ (bs : List PlacedBox). AreDrawn f bs c.in_ok-drawn.drawn.items) c.deref.ensures.value c.in_ok-drawn.ensures)) (omega (arith, c.if-len-gt-MOST_BOXES.false))
     c.in_ok-frame.ensures.before c.in_ok-frame.ensures.after))

@@ -1,6 +1,6 @@
 use Rattle.std.proofs.Common.{◌∙◌}
 use Rattle.ir_schedule.specs.Ranking.{first_places}
-use Rattle.ir_schedule.proofs.Words.{first_places_step, drawn_places_are_whole_at_end}
+use Rattle.ir_schedule.proofs.Words.{first_places_step, drawn_places_whole}
 use Rattle.ir_schedule.proofs.ranking.places.Goals as goal
 
 pub places-preserved : goal.places-preserved
@@ -9,5 +9,5 @@ places-preserved c = first_places_step c.args.choices.now c.args.count c.places.
     c.in_ok-push.ensures.items ∙ c.places.invariant
 
 pub returns : goal.returns
-returns c = drawn_places_are_whole_at_end c.args.choices.now c.args.count c.places.counter c.places.random c.places.places.items
+returns c = drawn_places_whole c.args.choices.now c.args.count c.places.counter c.places.random c.places.places.items
     (first_places c.args.choices.now c.args.count c.args.random.now) c.places-test.false c.places.invariant

@@ -1,6 +1,6 @@
-use Rattle.ir_schedule.proofs.Texts.{occurs_in_rest_is_unchanged_unless_text_starts_at_place}
+use Rattle.ir_schedule.proofs.Texts.{occurs_in_rest_same}
 use Rattle.ir_schedule.proofs.text.occurs.Goals as goal
 
 pub starts-preserved : goal.starts-preserved
-starts-preserved c = occurs_in_rest_is_unchanged_unless_text_starts_at_place c.args.text.now c.args.bytes.now c.starts.start c.starts_with.result c.starts-test.true
+starts-preserved c = occurs_in_rest_same c.args.text.now c.args.bytes.now c.starts.start c.starts_with.result c.starts-test.true
     c.starts_with.ensures.value c.if-starts_with.false c.starts.invariant

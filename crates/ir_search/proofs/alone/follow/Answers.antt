@@ -2,15 +2,15 @@ use Rattle.std.proofs.Common.{◌≡◌, ◌⊎◌, Bool, false, true, Some, [],
 use Rattle.ir_search.specs.declared.found.Pending.{Pending}
 use Rattle.ir_search.specs.TurnSoFar.{IsTurnSoFar, IsAfter}
 use Rattle.ir_search.specs.Origins.{AreReached}
-use Rattle.ir_search.proofs.Opens.{Opening, opening_leaves_fewer_to_open, open_if_element_true}
-use Rattle.ir_search.proofs.Reached.{reached_if_notes_kept, adds_reflexive, index_of_element_is_below_length}
-use Rattle.ir_search.proofs.TurnSoFar.{turn_so_far_if_notes_kept, opened_row_is_opening_and_long_as_nodes, joined_if_nodes_unchanged_or_pushed, node_is_at_most_size_if_one_added_at_most, reached_after_going_on, adds_after_going_on, going_after_going_on}
+use Rattle.ir_search.proofs.Opens.{Opening, opening_leaves_fewer, open_if_element_true}
+use Rattle.ir_search.proofs.Reached.{reached_if_notes_kept, adds_reflexive, slice_get_some_below}
+use Rattle.ir_search.proofs.TurnSoFar.{so_far_if_notes_kept, opened_row_long_as_nodes, joined_same_or_pushed, node_at_most_size, reached_after_going_on, adds_after_going_on, going_after_going_on}
 use Rattle.ir_search.proofs.alone.follow.Goals as goal
 use Rattle.ir_search.proofs.alone.follow.Goals.{else-node-len-via-then-node-len+else-index, else-node-len-via-else-node-len}
 
 pub next-requires-clause-node : goal.next-requires-clause-node
 next-requires-clause-node g c =
-    let a = index_of_element_is_below_length c.args.opened.now.items c.args.here.node true (c.requires.turn.opens 0 c.args.here refl) in
+    let a = slice_get_some_below c.args.opened.now.items c.args.here.node true (c.requires.turn.opens 0 c.args.here refl) in
     let b = c.requires.turn.wide in let d = c.requires.nodes in omega (arith, a, b, d)
 
 pub returns-in_err-node-clause-reached : goal.returns-in_err-node-clause-reached
@@ -23,7 +23,7 @@ returns-in_err-node-clause-adds g c = adds_reflexive c.args.here.origin.level c.
 
 pub returns-in_default-clause-turn : goal.returns-in_default-clause-turn
 returns-in_default-clause-turn g c =
-    turn_so_far_if_notes_kept (g.S.Successors.noted c.args.graph.now) (g.S.Successors.noted c.next.new.self) c.args.here.origin.thread c.args.here.origin.level
+    so_far_if_notes_kept (g.S.Successors.noted c.args.graph.now) (g.S.Successors.noted c.next.new.self) c.args.here.origin.thread c.args.here.origin.level
     c.args.opened.now.items c.args.found.now.nodes.items c.args.found.now.refusals.items (c.args.here ∷ c.args.found.now.pending.items)
     c.next.ensures.kept c.requires.turn
 
@@ -37,7 +37,7 @@ returns-in_default-clause-adds g c = adds_reflexive c.args.here.origin.level c.a
 
 pub returns-then-index-clause-turn : goal.returns-then-index-clause-turn
 returns-then-index-clause-turn g c =
-    turn_so_far_if_notes_kept (g.S.Successors.noted c.args.graph.now) (g.S.Successors.noted c.next.new.self) c.args.here.origin.thread c.args.here.origin.level
+    so_far_if_notes_kept (g.S.Successors.noted c.args.graph.now) (g.S.Successors.noted c.next.new.self) c.args.here.origin.thread c.args.here.origin.level
     c.args.opened.now.items c.args.found.now.nodes.items c.args.found.now.refusals.items (c.args.here ∷ c.args.found.now.pending.items)
     c.next.ensures.kept c.requires.turn
 
@@ -78,7 +78,7 @@ returns-in_err-open-clause-reached g c =
     (subst (λ z. IsAfter c.args.found.now.refusals.items z c.args.here.origin c.args.refused next.origin) (sym c.open.ensures.refusals)
     c.in_ok-origin.ensures.after)
     (c.in_ok-node.ensures.found ∙ ap Some c.in-Some.is)
-    (joined_if_nodes_unchanged_or_pushed c.args.opened.now.items c.args.found.now.nodes.items c.open.new.found.nodes.items next c.requires.turn.wide c.open.ensures.nodes)
+    (joined_same_or_pushed c.args.opened.now.items c.args.found.now.nodes.items c.open.new.found.nodes.items next c.requires.turn.wide c.open.ensures.nodes)
 
 pub returns-in_err-open-clause-adds : goal.returns-in_err-open-clause-adds
 returns-in_err-open-clause-adds g c =
@@ -90,7 +90,7 @@ returns-in_err-open-clause-adds g c =
     (subst (λ z. IsAfter c.args.found.now.refusals.items z c.args.here.origin c.args.refused next.origin) (sym c.open.ensures.refusals)
     c.in_ok-origin.ensures.after)
     (c.in_ok-node.ensures.found ∙ ap Some c.in-Some.is)
-    (joined_if_nodes_unchanged_or_pushed c.args.opened.now.items c.args.found.now.nodes.items c.open.new.found.nodes.items next c.requires.turn.wide c.open.ensures.nodes)
+    (joined_same_or_pushed c.args.opened.now.items c.args.found.now.nodes.items c.open.new.found.nodes.items next c.requires.turn.wide c.open.ensures.nodes)
 
 pub returns-clause-reached : goal.returns-clause-reached
 returns-clause-reached g c =
@@ -102,7 +102,7 @@ returns-clause-reached g c =
     (subst (λ z. IsAfter c.args.found.now.refusals.items z c.args.here.origin c.args.refused next.origin) (sym c.open.ensures.refusals)
     c.in_ok-origin.ensures.after)
     (c.in_ok-node.ensures.found ∙ ap Some c.in-Some.is)
-    (joined_if_nodes_unchanged_or_pushed c.args.opened.now.items c.args.found.now.nodes.items c.open.new.found.nodes.items next c.requires.turn.wide c.open.ensures.nodes)
+    (joined_same_or_pushed c.args.opened.now.items c.args.found.now.nodes.items c.open.new.found.nodes.items next c.requires.turn.wide c.open.ensures.nodes)
 
 pub returns-clause-adds : goal.returns-clause-adds
 returns-clause-adds g c =
@@ -114,13 +114,13 @@ returns-clause-adds g c =
     (subst (λ z. IsAfter c.args.found.now.refusals.items z c.args.here.origin c.args.refused next.origin) (sym c.open.ensures.refusals)
     c.in_ok-origin.ensures.after)
     (c.in_ok-node.ensures.found ∙ ap Some c.in-Some.is)
-    (joined_if_nodes_unchanged_or_pushed c.args.opened.now.items c.args.found.now.nodes.items c.open.new.found.nodes.items next c.requires.turn.wide c.open.ensures.nodes)
+    (joined_same_or_pushed c.args.opened.now.items c.args.found.now.nodes.items c.open.new.found.nodes.items next c.requires.turn.wide c.open.ensures.nodes)
 
 pub returns-clause-turn : goal.returns-clause-turn
 returns-clause-turn g c =
     let next : Pending = record { node = c.in-Some.node; origin = c.in_ok-origin.origin } in
     let here : c.in-Some.node ≤ length c.args.opened.now.items =
-    (let a = node_is_at_most_size_if_one_added_at_most (g.S.Successors.size c.args.graph.now) (g.S.Successors.size c.next.new.self) c.in-Some.node c.in_ok-node.field-0
+    (let a = node_at_most_size (g.S.Successors.size c.args.graph.now) (g.S.Successors.size c.next.new.self) c.in-Some.node c.in_ok-node.field-0
     c.in_ok-node.ensures.added (c.in_ok-node.ensures.within c.in-Some.node c.in-Some.is) in
     let b = c.requires.nodes in let d = c.requires.turn.wide in omega (arith, a, b, d)) in
     let shut_there : ((d : Bool) × (c.in-Some.node < length c.args.opened.now.items) × (get_or c.args.opened.now.items c.in-Some.node d ≡ false))
@@ -135,7 +135,7 @@ returns-clause-turn g c =
     ] in
     let both : Opening c.args.opened.now.items c.open.new.opened.items next.node
     × (length c.open.new.opened.items ≡ length c.open.new.found.nodes.items) =
-    opened_row_is_opening_and_long_as_nodes c.args.opened.now.items c.open.new.opened.items c.args.found.now.nodes.items c.open.new.found.nodes.items next c.requires.turn.wide
+    opened_row_long_as_nodes c.args.opened.now.items c.open.new.opened.items c.args.found.now.nodes.items c.open.new.found.nodes.items next c.requires.turn.wide
     here shut_there c.in_ok-open.ensures.old c.in_ok-open.ensures.new in
     subst (λ z. IsTurnSoFar (g.S.Successors.noted c.next.new.self) c.args.here.origin.thread c.args.here.origin.level c.open.new.opened.items
     c.open.new.found.nodes.items c.open.new.found.refusals.items (c.args.here ∷ z)) (sym c.in_ok-open.ensures.pending)
@@ -145,14 +145,14 @@ returns-clause-turn g c =
     (subst (λ z. IsAfter c.args.found.now.refusals.items z c.args.here.origin c.args.refused next.origin) (sym c.open.ensures.refusals)
     c.in_ok-origin.ensures.after)
     (c.in_ok-node.ensures.found ∙ ap Some c.in-Some.is)
-    (joined_if_nodes_unchanged_or_pushed c.args.opened.now.items c.args.found.now.nodes.items c.open.new.found.nodes.items next c.requires.turn.wide c.open.ensures.nodes)
+    (joined_same_or_pushed c.args.opened.now.items c.args.found.now.nodes.items c.open.new.found.nodes.items next c.requires.turn.wide c.open.ensures.nodes)
     c.open.new.opened.items both.0 both.1)
 
 pub returns-clause-follows : goal.returns-clause-follows
 returns-clause-follows g c =
     let next : Pending = record { node = c.in-Some.node; origin = c.in_ok-origin.origin } in
     let here : c.in-Some.node ≤ length c.args.opened.now.items =
-    (let a = node_is_at_most_size_if_one_added_at_most (g.S.Successors.size c.args.graph.now) (g.S.Successors.size c.next.new.self) c.in-Some.node c.in_ok-node.field-0
+    (let a = node_at_most_size (g.S.Successors.size c.args.graph.now) (g.S.Successors.size c.next.new.self) c.in-Some.node c.in_ok-node.field-0
     c.in_ok-node.ensures.added (c.in_ok-node.ensures.within c.in-Some.node c.in-Some.is) in
     let b = c.requires.nodes in let d = c.requires.turn.wide in omega (arith, a, b, d)) in
     let shut_there : ((d : Bool) × (c.in-Some.node < length c.args.opened.now.items) × (get_or c.args.opened.now.items c.in-Some.node d ≡ false))
@@ -167,7 +167,7 @@ returns-clause-follows g c =
     ] in
     let both : Opening c.args.opened.now.items c.open.new.opened.items next.node
     × (length c.open.new.opened.items ≡ length c.open.new.found.nodes.items) =
-    opened_row_is_opening_and_long_as_nodes c.args.opened.now.items c.open.new.opened.items c.args.found.now.nodes.items c.open.new.found.nodes.items next c.requires.turn.wide
+    opened_row_long_as_nodes c.args.opened.now.items c.open.new.opened.items c.args.found.now.nodes.items c.open.new.found.nodes.items next c.requires.turn.wide
     here shut_there c.in_ok-open.ensures.old c.in_ok-open.ensures.new in
     inr (c.in-Some.node, c.in_ok-node.ensures.found ∙ ap Some c.in-Some.is, both.0.opens)
 
@@ -175,7 +175,7 @@ pub returns-clause-less : goal.returns-clause-less
 returns-clause-less g c =
     let next : Pending = record { node = c.in-Some.node; origin = c.in_ok-origin.origin } in
     let here : c.in-Some.node ≤ length c.args.opened.now.items =
-    (let a = node_is_at_most_size_if_one_added_at_most (g.S.Successors.size c.args.graph.now) (g.S.Successors.size c.next.new.self) c.in-Some.node c.in_ok-node.field-0
+    (let a = node_at_most_size (g.S.Successors.size c.args.graph.now) (g.S.Successors.size c.next.new.self) c.in-Some.node c.in_ok-node.field-0
     c.in_ok-node.ensures.added (c.in_ok-node.ensures.within c.in-Some.node c.in-Some.is) in
     let b = c.requires.nodes in let d = c.requires.turn.wide in omega (arith, a, b, d)) in
     let shut_there : ((d : Bool) × (c.in-Some.node < length c.args.opened.now.items) × (get_or c.args.opened.now.items c.in-Some.node d ≡ false))
@@ -190,7 +190,7 @@ returns-clause-less g c =
     ] in
     let both : Opening c.args.opened.now.items c.open.new.opened.items next.node
     × (length c.open.new.opened.items ≡ length c.open.new.found.nodes.items) =
-    opened_row_is_opening_and_long_as_nodes c.args.opened.now.items c.open.new.opened.items c.args.found.now.nodes.items c.open.new.found.nodes.items next c.requires.turn.wide
+    opened_row_long_as_nodes c.args.opened.now.items c.open.new.opened.items c.args.found.now.nodes.items c.open.new.found.nodes.items next c.requires.turn.wide
     here shut_there c.in_ok-open.ensures.old c.in_ok-open.ensures.new in
     let room : length c.open.new.opened.items ≤ g.S.Successors.most c.next.new.self =
     (let size = c.requires.nodes in let wide = c.requires.turn.wide in let grown = c.next.ensures.grown in let most = c.next.ensures.room in
@@ -204,7 +204,7 @@ returns-clause-less g c =
           let add = length-append c.args.opened.now.items (true ∷ []) in
           let inside = c.in_ok-node.ensures.within c.in-Some.node c.in-Some.is in omega (arith, size, wide, most, rows, add, at, inside)
     ]) in
-    let less = opening_leaves_fewer_to_open (g.S.Successors.most c.next.new.self) c.args.opened.now.items c.open.new.opened.items next.node both.0 room in
+    let less = opening_leaves_fewer (g.S.Successors.most c.next.new.self) c.args.opened.now.items c.open.new.opened.items next.node both.0 room in
     let limit = c.next.ensures.limit in
     let more = ap length c.in_ok-open.ensures.pending in
     let one = length-append c.args.found.now.pending.items (next ∷ []) in

@@ -1,11 +1,11 @@
 use Rattle.std.proofs.Common.{◌≡◌, ◌++◌, Bool, true, false, Some, None, [], ◌∷◌, ◌<◌, inl, length, slice_set, refl, sym, ap, ◌∙◌, subst, arith}
 use Rattle.ir_search.specs.declared.found.Pending.{Pending}
-use Rattle.ir_search.specs.Following.{IsOpen, GoesTo}
+use Rattle.ir_search.specs.Following.{IsNodeOpen, GoesTo}
 use Rattle.ir_search.specs.TurnSoFar.{IsTurnSoFar}
 use Rattle.ir_search.specs.Origins.{Adds}
-use Rattle.ir_search.proofs.Opens.{opened_place_is_open, goes_to_open_if_notes_kept_and_open_stays_open}
+use Rattle.ir_search.proofs.Opens.{opened_place_is_open, goes_to_open_kept}
 use Rattle.ir_search.proofs.Reached.{adds_reflexive, adds_transitive}
-use Rattle.ir_search.proofs.TurnSoFar.{property_of_all_bools_by_cases, turn_so_far_at_start, turn_so_far_with_last_in_hand_put_first, turn_so_far_without_followed_first_in_hand}
+use Rattle.ir_search.proofs.TurnSoFar.{both_bools_satisfy, turn_so_far_at_start, so_far_last_put_first, so_far_without_first}
 use Rattle.ir_search.proofs.alone.go_alone.Goals as goal
 
 pub pending-init : goal.pending-init
@@ -29,7 +29,7 @@ pending-init g c =
           (sym c.open.ensures.refusals)
           (subst (λ z. IsTurnSoFar noted start.thread start.level c.open.new.opened.items z c.args.found.now.refusals.items (first ∷ [])) (sym is.1)
           (subst (λ z. IsTurnSoFar noted start.thread start.level z nodes c.args.found.now.refusals.items (first ∷ [])) (sym is.0) turn)));
-      opens = subst (λ z. IsOpen z start.from) (sym is.0) (opened_place_is_open opened start.from less);
+      opens = subst (λ z. IsNodeOpen z start.from) (sym is.0) (opened_place_is_open opened start.from less);
       stays = c.open.ensures.stays;
       adds = subst (Adds start.level nodes) (sym is.1) (adds_reflexive start.level nodes);
       nodes = ap length is.1 ∙ c.requires.nodes;
@@ -51,7 +51,7 @@ follow-requires-clause-turn g c =
     let rest = c.pop.new.self.items in
     let here = c.in-Some.here in
     let turn : IsTurnSoFar noted start.thread start.level row nodes table (here ∷ rest) =
-    turn_so_far_with_last_in_hand_put_first noted start.thread start.level row nodes table rest here
+    so_far_last_put_first noted start.thread start.level row nodes table rest here
     (subst (IsTurnSoFar noted start.thread start.level row nodes table) c.in-Some.ensures.items c.pending.invariant.turn) in
     subst (λ z. IsTurnSoFar noted z here.origin.level row nodes table (here ∷ rest)) (sym (turn.threads 0 here refl))
     (subst (λ z. IsTurnSoFar noted start.thread z row nodes table (here ∷ rest)) (sym (turn.levels 0 here refl)) turn)
@@ -65,7 +65,7 @@ returns-in_err-follow-clause-adds g c =
     let table = c.pending.found.refusals.items in
     let here = c.in-Some.here in
     let turn : IsTurnSoFar noted start.thread start.level row nodes table (here ∷ c.pop.new.self.items) =
-    turn_so_far_with_last_in_hand_put_first noted start.thread start.level row nodes table c.pop.new.self.items here
+    so_far_last_put_first noted start.thread start.level row nodes table c.pop.new.self.items here
     (subst (IsTurnSoFar noted start.thread start.level row nodes table) c.in-Some.ensures.items c.pending.invariant.turn) in
     adds_transitive start.level c.args.found.now.nodes.items nodes c.follow.new.found.nodes.items c.pending.invariant.adds
     (subst (λ z. Adds z nodes c.follow.new.found.nodes.items) (turn.levels 0 here refl) c.follow.ensures.adds)
@@ -79,7 +79,7 @@ returns-in_err-follow-2-clause-adds g c =
     let table = c.pending.found.refusals.items in
     let here = c.in-Some.here in
     let turn : IsTurnSoFar noted start.thread start.level row nodes table (here ∷ c.pop.new.self.items) =
-    turn_so_far_with_last_in_hand_put_first noted start.thread start.level row nodes table c.pop.new.self.items here
+    so_far_last_put_first noted start.thread start.level row nodes table c.pop.new.self.items here
     (subst (IsTurnSoFar noted start.thread start.level row nodes table) c.in-Some.ensures.items c.pending.invariant.turn) in
     adds_transitive start.level c.args.found.now.nodes.items nodes c.follow-in-Some.new.found.nodes.items c.pending.invariant.adds
     (subst (λ z. Adds z nodes c.follow-in-Some.new.found.nodes.items) (turn.levels 0 here refl)
@@ -95,7 +95,7 @@ pending-preserved-in-Some-None g c =
     let table = c.pending.found.refusals.items in
     let here = c.in-Some.here in
     let turn : IsTurnSoFar noted start.thread start.level row nodes table (here ∷ c.pop.new.self.items) =
-    turn_so_far_with_last_in_hand_put_first noted start.thread start.level row nodes table c.pop.new.self.items here
+    so_far_last_put_first noted start.thread start.level row nodes table c.pop.new.self.items here
     (subst (IsTurnSoFar noted start.thread start.level row nodes table) c.in-Some.ensures.items c.pending.invariant.turn) in
     let i = c.pending.invariant in
     let a = c.follow.new in
@@ -104,12 +104,12 @@ pending-preserved-in-Some-None g c =
     let level = turn.levels 0 here refl in
     let none : last here.origin.thread true here.node ≡ Some None =
     sym c.known.ensures ∙ c.in-Some-None.is ∙ ap Some c.in-Some-None.field-0-is in
-    let both : (refused : Bool) → GoesTo (last here.origin.thread refused) (IsOpen a.opened.items) here.node =
-    property_of_all_bools_by_cases (λ refused. GoesTo (last here.origin.thread refused) (IsOpen a.opened.items) here.node) c.in_ok-follow.ensures.follows (inl none) in
+    let both : (refused : Bool) → GoesTo (last here.origin.thread refused) (IsNodeOpen a.opened.items) here.node =
+    both_bools_satisfy (λ refused. GoesTo (last here.origin.thread refused) (IsNodeOpen a.opened.items) here.node) c.in_ok-follow.ensures.follows (inl none) in
     record {
       turn = subst (λ z. IsTurnSoFar last z start.level a.opened.items a.found.nodes.items a.found.refusals.items a.found.pending.items) thread
           (subst (λ z. IsTurnSoFar last here.origin.thread z a.opened.items a.found.nodes.items a.found.refusals.items a.found.pending.items) level
-          (turn_so_far_without_followed_first_in_hand last here.origin.thread here.origin.level a.opened.items a.found.nodes.items a.found.refusals.items a.found.pending.items here
+          (so_far_without_first last here.origin.thread here.origin.level a.opened.items a.found.nodes.items a.found.refusals.items a.found.pending.items here
           c.in_ok-follow.ensures.turn both));
       opens = c.follow.ensures.stays start.from i.opens;
       stays = λ v is. c.follow.ensures.stays v (i.stays v is);
@@ -133,7 +133,7 @@ pending-preserved g c =
     let table = c.pending.found.refusals.items in
     let here = c.in-Some.here in
     let turn : IsTurnSoFar noted start.thread start.level row nodes table (here ∷ c.pop.new.self.items) =
-    turn_so_far_with_last_in_hand_put_first noted start.thread start.level row nodes table c.pop.new.self.items here
+    so_far_last_put_first noted start.thread start.level row nodes table c.pop.new.self.items here
     (subst (IsTurnSoFar noted start.thread start.level row nodes table) c.in-Some.ensures.items c.pending.invariant.turn) in
     let i = c.pending.invariant in
     let a = c.follow.new in
@@ -141,15 +141,15 @@ pending-preserved g c =
     let last = g.S.Successors.noted b.graph in
     let thread = turn.threads 0 here refl in
     let level = turn.levels 0 here refl in
-    let entered : GoesTo (last here.origin.thread false) (IsOpen b.opened.items) here.node =
-    goes_to_open_if_notes_kept_and_open_stays_open (g.S.Successors.noted a.graph here.origin.thread false) (last here.origin.thread false) a.opened.items b.opened.items here.node
+    let entered : GoesTo (last here.origin.thread false) (IsNodeOpen b.opened.items) here.node =
+    goes_to_open_kept (g.S.Successors.noted a.graph here.origin.thread false) (last here.origin.thread false) a.opened.items b.opened.items here.node
     (c.follow-in-Some.ensures.kept here.origin.thread false) c.follow-in-Some.ensures.stays c.in_ok-follow.ensures.follows in
-    let both : (refused : Bool) → GoesTo (last here.origin.thread refused) (IsOpen b.opened.items) here.node =
-    property_of_all_bools_by_cases (λ refused. GoesTo (last here.origin.thread refused) (IsOpen b.opened.items) here.node) entered c.in_ok-follow-2.ensures.follows in
+    let both : (refused : Bool) → GoesTo (last here.origin.thread refused) (IsNodeOpen b.opened.items) here.node =
+    both_bools_satisfy (λ refused. GoesTo (last here.origin.thread refused) (IsNodeOpen b.opened.items) here.node) entered c.in_ok-follow-2.ensures.follows in
     record {
       turn = subst (λ z. IsTurnSoFar last z start.level b.opened.items b.found.nodes.items b.found.refusals.items b.found.pending.items) thread
           (subst (λ z. IsTurnSoFar last here.origin.thread z b.opened.items b.found.nodes.items b.found.refusals.items b.found.pending.items) level
-          (turn_so_far_without_followed_first_in_hand last here.origin.thread here.origin.level b.opened.items b.found.nodes.items b.found.refusals.items b.found.pending.items here
+          (so_far_without_first last here.origin.thread here.origin.level b.opened.items b.found.nodes.items b.found.refusals.items b.found.pending.items here
           c.in_ok-follow-2.ensures.turn both));
       opens = c.follow-in-Some.ensures.stays start.from (c.follow.ensures.stays start.from i.opens);
       stays = λ v is. c.follow-in-Some.ensures.stays v (c.follow.ensures.stays v (i.stays v is));

@@ -1,5 +1,5 @@
 use Rattle.std.proofs.Common.{◌≡◌, ℕ, ◌+◌, ◌≤◌, Bool, length}
-use Rattle.ir_search.specs.Following.{Keeps, Stay, IsOpen, StaysOpen}
+use Rattle.ir_search.specs.Following.{Keeps, Stay, IsNodeOpen, StaysOpen}
 use Rattle.ir_search.specs.TurnSoFar.{IsTurnSoFar, left_to_open}
 use Rattle.ir_search.specs.Origins.{Adds}
 use Rattle.ir_search.proofs.alone.go_alone.Given as goal
@@ -7,7 +7,7 @@ use Rattle.ir_search.proofs.alone.go_alone.Given as goal
 abbrev pub invariant-pending : goal.invariant-pending
 invariant-pending g l = record {
   turn : IsTurnSoFar (g.S.Successors.noted l.graph) l.fn.start.thread l.fn.start.level l.opened.items l.found.nodes.items l.found.refusals.items l.found.pending.items;
-  opens : IsOpen l.opened.items l.fn.start.from;
+  opens : IsNodeOpen l.opened.items l.fn.start.from;
   stays : StaysOpen l.fn.opened.items l.opened.items;
   adds : Adds l.fn.start.level l.fn.found.nodes.items l.found.nodes.items;
   nodes : length l.found.nodes.items ≡ g.S.Successors.size l.graph;

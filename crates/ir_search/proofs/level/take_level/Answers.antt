@@ -1,7 +1,7 @@
 use Rattle.std.proofs.Common.{◌≤◌, ◌<◌, length, length-set, inl, inr, sym, ◌∙◌, subst, arith}
 use Rattle.std.proofs.lemmas.Bool.{cases_lt}
-use Rattle.ir_search.specs.Following.{IsFollowed, IsOpen}
-use Rattle.ir_search.proofs.Rows.{slice_get_of_rows_is_items_of_element, row_after_set_cases}
+use Rattle.ir_search.specs.Following.{IsWayFollowed, IsNodeOpen}
+use Rattle.ir_search.proofs.Rows.{slice_get-rows, row_after_set_cases}
 use Rattle.ir_search.proofs.Reached.{adds_transitive, begins_at_if_nodes_kept}
 use Rattle.ir_search.proofs.Opens.{followed_if_notes_kept}
 use Rattle.ir_search.proofs.level.take_level.Goals as goal
@@ -10,7 +10,7 @@ pub take_turn-requires-clause-row : goal.take_turn-requires-clause-row
 take_turn-requires-clause-row g c =
     let l : c.loop-thread.thread < length c.loop-thread.opened =
     (let a = c.loop-thread-test.true in let b = c.loop-thread.auto.opened in omega (arith, a, b)) in
-    c.loop-thread.invariant.within c.loop-thread.thread _ (slice_get_of_rows_is_items_of_element c.loop-thread.opened c.loop-thread.thread c.index-opened-thread.result l)
+    c.loop-thread.invariant.within c.loop-thread.thread _ (slice_get-rows c.loop-thread.opened c.loop-thread.thread c.index-opened-thread.result l)
 
 pub returns-in_err-take_turn-clause-adds : goal.returns-in_err-take_turn-clause-adds
 returns-in_err-take_turn-clause-adds g c =
@@ -21,22 +21,22 @@ pub loop-thread-preserved : goal.loop-thread-preserved
 loop-thread-preserved g c =
     let l : c.loop-thread.thread < length c.loop-thread.opened =
     (let a = c.loop-thread-test.true in let b = c.loop-thread.auto.opened in omega (arith, a, b)) in
-    let this = slice_get_of_rows_is_items_of_element c.loop-thread.opened c.loop-thread.thread c.index-opened-thread.result l in
+    let this = slice_get-rows c.loop-thread.opened c.loop-thread.thread c.index-opened-thread.result l in
     let longer : length c.loop-thread.found.nodes.items ≤ length c.take_turn.new.found.nodes.items = c.take_turn.ensures.adds.longer in record {
       followed = λ t row e. elim (row_after_set_cases c.loop-thread.opened c.loop-thread.thread t c.take_turn.new.opened row l e) [
-        | inl p ↦ subst (IsFollowed (g.S.Successors.noted c.take_turn.new.graph t)) p.1
-            (subst (λ u. IsFollowed (g.S.Successors.noted c.take_turn.new.graph u) c.take_turn.new.opened.items) (sym p.0)
+        | inl p ↦ subst (IsWayFollowed (g.S.Successors.noted c.take_turn.new.graph t)) p.1
+            (subst (λ u. IsWayFollowed (g.S.Successors.noted c.take_turn.new.graph u) c.take_turn.new.opened.items) (sym p.0)
             c.in_ok-take_turn.ensures.followed)
         | inr n ↦ followed_if_notes_kept (g.S.Successors.noted c.loop-thread.graph t) (g.S.Successors.noted c.take_turn.new.graph t) row
             (c.take_turn.ensures.kept t) (c.loop-thread.invariant.followed t row n.1)
       ];
       before = λ t row few e v low less. elim (row_after_set_cases c.loop-thread.opened c.loop-thread.thread t c.take_turn.new.opened row l e) [
-        | inl p ↦ subst (λ r. IsOpen r v) p.1 (c.take_turn.ensures.stays v
+        | inl p ↦ subst (λ r. IsNodeOpen r v) p.1 (c.take_turn.ensures.stays v
             (c.loop-thread.invariant.before c.loop-thread.thread _ (subst (λ z. z < length c.args.opened.now) p.0 few) this v low less))
         | inr n ↦ c.loop-thread.invariant.before t row few n.1 v low less
       ];
       opens = λ t row few e v low less. elim (row_after_set_cases c.loop-thread.opened c.loop-thread.thread t c.take_turn.new.opened row l e) [
-        | inl p ↦ subst (λ r. IsOpen r v) p.1 (elim (cases_lt v c.args.level.first) [
+        | inl p ↦ subst (λ r. IsNodeOpen r v) p.1 (elim (cases_lt v c.args.level.first) [
           | inl old ↦ c.take_turn.ensures.stays v
               (c.loop-thread.invariant.before c.loop-thread.thread _
               (let a = c.loop-thread.invariant.threads in omega (arith, a, l)) this v low old)

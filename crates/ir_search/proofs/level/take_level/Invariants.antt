@@ -1,6 +1,6 @@
 use Rattle.std.proofs.Common.{◌≡◌, ℕ, Bool, ◌≤◌, length}
 use Rattle.ir_search.specs.Following.{Keeps, Stay}
-use Rattle.ir_search.specs.Levels.{rows, AllFollowed, AllOpen, AreWithin}
+use Rattle.ir_search.specs.Levels.{rows, AllFollowed, AllOpen, AreRowsWithin}
 use Rattle.ir_search.specs.Origins.{AreReached, IsLevel, Adds}
 use Rattle.ir_search.proofs.level.take_level.Given as goal
 
@@ -9,7 +9,7 @@ invariant-loop-thread g l = record {
   followed : AllFollowed (g.S.Successors.noted l.graph) (rows l.opened);
   before : AllOpen (rows l.opened) 0 l.level.first (length l.fn.opened);
   opens : AllOpen (rows l.opened) 0 l.level.until l.thread;
-  within : AreWithin (rows l.opened) (length l.found.nodes.items);
+  within : AreRowsWithin (rows l.opened) (length l.found.nodes.items);
   threads : length l.opened ≡ length l.fn.opened;
   nodes : length l.found.nodes.items ≡ g.S.Successors.size l.graph;
   until : l.level.until ≤ length l.found.nodes.items;

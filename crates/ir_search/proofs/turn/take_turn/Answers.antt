@@ -1,13 +1,13 @@
 use Rattle.std.proofs.Common.{◌≡◌, inl, inr, sym, ◌∙◌, subst, arith}
 use Rattle.std.proofs.lemmas.Bool.{cases_lt}
-use Rattle.ir_search.specs.Following.{IsOpen, IsFollowed}
+use Rattle.ir_search.specs.Following.{IsNodeOpen, IsWayFollowed}
 use Rattle.ir_search.specs.Origins.{Adds}
 use Rattle.ir_search.proofs.Reached.{adds_transitive, begins_at_if_nodes_kept}
 use Rattle.ir_search.proofs.turn.take_turn.Goals as goal
 
 pub go_alone-requires-clause-followed : goal.go_alone-requires-clause-followed
 go_alone-requires-clause-followed g c =
-    subst (λ t. IsFollowed (g.S.Successors.noted c.loop-from.graph t) c.loop-from.opened.items) (sym c.in_ok-start.ensures.thread)
+    subst (λ t. IsWayFollowed (g.S.Successors.noted c.loop-from.graph t) c.loop-from.opened.items) (sym c.in_ok-start.ensures.thread)
     c.loop-from.invariant.followed
 
 pub returns-in_err-go_alone-clause-adds : goal.returns-in_err-go_alone-clause-adds
@@ -22,13 +22,13 @@ loop-from-preserved g c =
     let adds : Adds c.args.level.number c.loop-from.found.nodes.items last.found.nodes.items =
     subst (λ z. Adds z c.loop-from.found.nodes.items last.found.nodes.items) c.in_ok-start.ensures.level c.go_alone.ensures.adds in
     record {
-      followed = subst (λ t. IsFollowed (g.S.Successors.noted last.graph t) last.opened.items) c.in_ok-start.ensures.thread
+      followed = subst (λ t. IsWayFollowed (g.S.Successors.noted last.graph t) last.opened.items) c.in_ok-start.ensures.thread
           c.in_ok-go_alone.ensures.followed;
       opens = λ v low less. elim (cases_lt v c.loop-from.from) [
         | inl before ↦ c.go_alone.ensures.stays v (c.loop-from.invariant.opens v low before)
         | inr here ↦
             let same : c.loop-from.from ≡ v = omega (arith, less, here) in
-            subst (IsOpen last.opened.items) (c.in_ok-start.ensures.from ∙ same) c.in_ok-go_alone.ensures.opens
+            subst (IsNodeOpen last.opened.items) (c.in_ok-start.ensures.from ∙ same) c.in_ok-go_alone.ensures.opens
       ];
       stays = λ v o. c.go_alone.ensures.stays v (c.loop-from.invariant.stays v o);
       row = c.in_ok-go_alone.ensures.row;

@@ -1,11 +1,11 @@
 use Rattle.std.proofs.Common.{◌≡◌, ℕ, Bool, ◌≤◌, length}
-use Rattle.ir_search.specs.Following.{Keeps, Stay, AreOpen, StaysOpen, IsFollowed}
+use Rattle.ir_search.specs.Following.{Keeps, Stay, AreOpen, StaysOpen, IsWayFollowed}
 use Rattle.ir_search.specs.Origins.{AreReached, IsLevel, Adds}
 use Rattle.ir_search.proofs.turn.take_turn.Given as goal
 
 abbrev pub invariant-loop-from : goal.invariant-loop-from
 invariant-loop-from g l = record {
-  followed : IsFollowed (g.S.Successors.noted l.graph l.thread) l.opened.items;
+  followed : IsWayFollowed (g.S.Successors.noted l.graph l.thread) l.opened.items;
   opens : AreOpen l.opened.items l.level.first l.from;
   stays : StaysOpen l.fn.opened.items l.opened.items;
   row : length l.opened.items ≡ length l.found.nodes.items;

@@ -1,6 +1,6 @@
 use Rattle.std.proofs.Common.{◌≡◌, ℕ, Bool, ◌<◌, Some}
-use Rattle.ir_search.specs.Following.{IsOpen}
+use Rattle.ir_search.specs.Following.{IsNodeOpen}
 use Rattle.ir_search.proofs.ways.is_before.Given as goal
 
 abbrev pub invariant-loop-thread : goal.invariant-loop-thread
-invariant-loop-thread g l = (t : ℕ) (refused : Bool) (w : ℕ) → t < l.thread → g.S.Successors.noted l.graph t refused l.node ≡ Some (Some w) → IsOpen l.marks w → ⊥
+invariant-loop-thread g l = (t : ℕ) (refused : Bool) (w : ℕ) → t < l.thread → g.S.Successors.noted l.graph t refused l.node ≡ Some (Some w) → IsNodeOpen l.marks w → ⊥

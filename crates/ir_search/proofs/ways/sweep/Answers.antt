@@ -1,8 +1,10 @@
 use Rattle.std.proofs.Common.{◌≡◌, ℕ, ◌+◌, ◌-◌, ◌<◌, true, false, length, slice_set, sym, subst, arith}
-use Rattle.ir_search.proofs.Marked.{Sweeping, sweeping_step_with_mark, sweeping_step_without_mark}
-use Rattle.ir_search.proofs.Opens.{open_if_get_or_false_is_true}
+use Rattle.ir_search.proofs.Marked.{Sweeping, sweeping_step_with_mark, sweeping_without_mark}
+use Rattle.ir_search.proofs.Opens.{open_by_get_or}
 use Rattle.ir_search.proofs.ways.sweep.Goals as goal
-use Rattle.ir_search.proofs.ways.sweep.Goals.{then-not-marks-node+then-is_before, else-not-marks-node, else-not-marks-node-via-then-not-marks-node+else-is_before, else-not-marks-node-via-else-not-marks-node}
+use Rattle.ir_search.proofs.ways.sweep.Goals.{then-not-marks-node+then-is_before, else-not-marks-node}
+use Rattle.ir_search.proofs.ways.sweep.Goals.{else-not-marks-node-via-then-not-marks-node+else-is_before}
+use Rattle.ir_search.proofs.ways.sweep.Goals.{else-not-marks-node-via-else-not-marks-node}
 
 pub loop-k-preserved : goal.loop-k-preserved
 loop-k-preserved g c =
@@ -27,10 +29,10 @@ loop-k-preserved g c =
           (subst (λ z. Sweeping noted c.args.threads first marks z (c.loop-k.k + 1)) (sym w.changed-is)
           (elim w.else-not-marks-node.branch [
             | else-not-marks-node-via-then-not-marks-node+else-is_before x ↦
-                sweeping_step_without_mark noted c.args.threads first marks c.loop-k.changed k node c.loop-k.invariant here
+                sweeping_without_mark noted c.args.threads first marks c.loop-k.changed k node c.loop-k.invariant here
                 (λ before. absurd (x.is_before.ensures.none x.if-is_before.false before))
             | else-not-marks-node-via-else-not-marks-node x ↦
-                sweeping_step_without_mark noted c.args.threads first marks c.loop-k.changed k node c.loop-k.invariant here
-                (λ before. open_if_get_or_false_is_true marks node x.if-not-marks-node.false)
+                sweeping_without_mark noted c.args.threads first marks c.loop-k.changed k node c.loop-k.invariant here
+                (λ before. open_by_get_or marks node x.if-not-marks-node.false)
           ]))
     ]

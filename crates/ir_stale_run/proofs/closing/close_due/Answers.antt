@@ -4,7 +4,7 @@ use Rattle.std.proofs.lemmas.Option.{slice_get_within}
 use Rattle.ir_stale_run.specs.Watch.{IsOpenAt}
 use Rattle.ir_stale_run.specs.declared.kept.Open.{Open}
 use Rattle.ir_stale_run.specs.declared.watch.Watch.{Watch}
-use Rattle.ir_stale_run.proofs.OpenRows.{watch_after_row_closed, open_rows_still_end_later_after_one_is_removed, watched_or_found_after_row_closed, adds_rests_after_found_rest_is_set}
+use Rattle.ir_stale_run.proofs.OpenRows.{watch_after_row_closed, removed_still_end_later, closed_watched_or_found, adds_rests_after_set}
 use Rattle.ir_stale_run.proofs.closing.close_due.Goals as goal
 
 pub take_out-opened-requires : goal.take_out-opened-requires
@@ -53,11 +53,11 @@ opened-preserved-then-ends c =
     let at = λ (d : Open). ap (λ (x : Open). x.span.row) (c.take_out-opened.ensures.taken d) in
     record {
       watch = watch_after_row_closed c.args.guide.copies f rows c.args.t c.args.k i w new k.watch refl refl out;
-      ends = open_rows_still_end_later_after_one_is_removed c.args.k i w.opened.items c.take_out-opened.new.opened.items out l k.ends;
+      ends = removed_still_end_later c.args.k i w.opened.items c.take_out-opened.new.opened.items out l k.ends;
       within = let a = out.size in omega (arith, a, l);
       spans = k.spans;
       next = k.next;
-      adds = adds_rests_after_found_rest_is_set c.args.guide.copies f rows c.args.rests.now c.opened.rests c.keep.new.rests o.span.row c.judged.result k.adds row c.keep.ensures c.judged.ensures;
-      found = λ r x there was. watched_or_found_after_row_closed c.args.guide.copies f rows w new c.opened.rests c.keep.new.rests i o.span.row c.judged.result o refl refl out l at row
+      adds = adds_rests_after_set c.args.guide.copies f rows c.args.rests.now c.opened.rests c.keep.new.rests o.span.row c.judged.result k.adds row c.keep.ensures c.judged.ensures;
+      found = λ r x there was. closed_watched_or_found c.args.guide.copies f rows w new c.opened.rests c.keep.new.rests i o.span.row c.judged.result o refl refl out l at row
           c.keep.ensures c.judged.ensures r x there (k.found r x there was);
     }

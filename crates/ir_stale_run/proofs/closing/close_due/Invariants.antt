@@ -3,7 +3,7 @@ use Rattle.std.specs.Prelude.{Some, slice_get}
 use Rattle.std.specs.List.{slice_index_or}
 use Rattle.ir_past.specs.declared.stale_write.StaleWrite.{StaleWrite}
 use Rattle.ir_stale_run.specs.declared.found.Found.TheVariants.{Unknown}
-use Rattle.ir_stale_run.specs.Watch.{IsFoundAs, IsWatch, IsWatched, AddsRests}
+use Rattle.ir_stale_run.specs.Watch.{IsFoundAs, IsWatch, IsWatchedWrite, AddsRests}
 use Rattle.ir_stale_run.specs.declared.kept.Open.{Open}
 use Rattle.ir_stale_run.proofs.closing.close_due.Given as goal
 
@@ -15,8 +15,8 @@ invariant-opened l = record {
   spans : l.watch.spans ≡ l.fn.watch.spans;
   next : l.watch.next ≡ l.fn.watch.next;
   adds : AddsRests l.guide.copies l.guide.route.fitted.now l.guide.rows.now l.fn.rests l.rests;
-  found : (r : ℕ) (x : StaleWrite) → slice_get l.guide.rows.now r ≡ Some x → IsWatched l.fn.watch r
-      → IsWatched l.watch r ⊎ IsFoundAs l.guide.copies l.guide.route.fitted.now x (slice_index_or l.rests r Unknown);
+  found : (r : ℕ) (x : StaleWrite) → slice_get l.guide.rows.now r ≡ Some x → IsWatchedWrite l.fn.watch r
+      → IsWatchedWrite l.watch r ⊎ IsFoundAs l.guide.copies l.guide.route.fitted.now x (slice_index_or l.rests r Unknown);
 }
 
 abbrev pub decreases-opened : goal.decreases-opened

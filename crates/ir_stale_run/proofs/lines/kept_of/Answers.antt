@@ -1,9 +1,9 @@
 use Rattle.std.proofs.Common.{arith}
-use Rattle.ir_stale_run.proofs.Joined.{kept_of_first_zero_rests_is_zero, kept_of_one_more_rest}
+use Rattle.ir_stale_run.proofs.Joined.{kept_of_no_rests, kept_of_one_more_rest}
 use Rattle.ir_stale_run.proofs.lines.kept_of.Goals as goal
 
 pub loop-i-init : goal.loop-i-init
-loop-i-init c = record { count = kept_of_first_zero_rests_is_zero c.args.rests.now; few = omega arith }
+loop-i-init c = record { count = kept_of_no_rests c.args.rests.now; few = omega arith }
 
 pub loop-i-preserved : goal.loop-i-preserved
 loop-i-preserved c = record {

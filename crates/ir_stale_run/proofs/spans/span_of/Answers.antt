@@ -1,5 +1,5 @@
 use Rattle.std.proofs.Common.{arith, sym, subst, ℕ, ◌+◌}
-use Rattle.ir_opened.proofs.CallerLemmas.{leave_position_plus_one_fits_64_bits}
+use Rattle.ir_opened.proofs.CallerLemmas.{leave_position_fits_64}
 use Rattle.ir_stale_run.proofs.Leaving.{row_entries_are_placed, row_positions_are_span}
 use Rattle.ir_stale_run.specs.Watch.{IsSpan}
 use Rattle.ir_stale_run.proofs.spans.span_of.Goals as goal
@@ -15,7 +15,7 @@ leave_of-requires c = (row_entries_are_placed c.args.fitted.now c.known.ensures.
 
 pub overflow_add-result : goal.overflow_add-result
 overflow_add-result c =
-    let fits = leave_position_plus_one_fits_64_bits c.args.fitted.now c.known.ensures c.args.stale.now.thread c.args.stale.now.event c.in_ok-last.last
+    let fits = leave_position_fits_64 c.args.fitted.now c.known.ensures c.args.stale.now.thread c.args.stale.now.event c.in_ok-last.last
     (row_entries_are_placed c.args.fitted.now c.known.ensures.run c.args.stale.now c.requires).there c.in_ok-last.ensures.found.leaves in
     omega (arith, fits)
 

@@ -7,7 +7,7 @@ use Rattle.ir_weave.specs.Standing.{flat_in, positions}
 use Rattle.ir_stale_run.specs.Watch.{IsOpenAt}
 use Rattle.ir_stale_run.specs.declared.kept.Open.{Open}
 use Rattle.ir_stale_run.specs.declared.watch.Watch.{Watch}
-use Rattle.ir_stale_run.proofs.Walked.{watch_stays_watch_up_to_next_stop, watched_if_spans_kept}
+use Rattle.ir_stale_run.proofs.Walked.{watch_stays_to_next_stop, watched_if_spans_kept}
 use Rattle.ir_stale_run.proofs.visit.stretch.Goals as goal
 
 pub note-requires-clause-opened : goal.note-requires-clause-opened
@@ -27,7 +27,7 @@ returns-clause-watch c =
     (let a = c.take_steps-state.ensures.gone.own in let b = c.take_steps-state.ensures.within in let d = c.next_stop.ensures.ahead in
     omega (arith, a, b, d, from)) in
     let new : Watch = record { spans = w.spans; next = w.next; opened = with_items w.opened c.note.new.opened } in
-    watch_stays_watch_up_to_next_stop c.args.guide.copies f c.args.guide.rows.now c.args.t c.steps-from.result (positions (flat_in f c.take_steps-state.result.0) c.args.t) c.next_stop.result w new
+    watch_stays_to_next_stop c.args.guide.copies f c.args.guide.rows.now c.args.t c.steps-from.result (positions (flat_in f c.take_steps-state.result.0) c.args.t) c.next_stop.result w new
     c.close_due.ensures.watch c.next_stop.ensures.stops within refl refl (ap (λ (xs : List Open). length xs) items ∙ size)
     (λ i d l. subst (λ (xs : List Open). IsOpenAt c.args.guide.copies f c.args.guide.rows.now c.args.t (positions (flat_in f c.take_steps-state.result.0) c.args.t)
     (slice_index_or xs i d)) (sym items)

@@ -4,10 +4,10 @@ use Rattle.std.proofs.lemmas.Bool.{cases_lt}
 use Rattle.ir_thread.specs.State as thread
 use Rattle.ir_trace.specs.Recorded.{recorded_thread}
 use Rattle.ir_weave.specs.Standing.{flat_in, positions}
-use Rattle.ir_stale_run.specs.Watch.{IsWatch, IsFound}
+use Rattle.ir_stale_run.specs.Watch.{IsWatch, IsWatchFound}
 use Rattle.ir_stale_run.specs.declared.watch.Watch.{Watch}
 use Rattle.ir_stale_run.proofs.Leaving.{row_entries_are_placed}
-use Rattle.ir_stale_run.proofs.Walked.{row_found_at_end, found_row_stays_found, watched_or_found_stays_so}
+use Rattle.ir_stale_run.proofs.Walked.{row_found_at_end, found_row_stays_found, watched_or_found_stays}
 use Rattle.ir_stale_run.proofs.walk.close_all.Goals as goal
 
 pub loop-t-init : goal.loop-t-init
@@ -53,10 +53,11 @@ loop-t-preserved c =
       ];
       others = λ u d past lu.
           let before = i.others u d (omega (arith, past)) (let n = length-set c.loop-t.watches t c.close_due.new.watch in omega (arith, n, lu)) in
-          subst (λ (z : Watch). IsWatch c.args.guide.copies f c.args.guide.rows.now u (positions (flat_in f c.args.state.now) u) z × IsFound c.args.guide.copies f c.args.guide.rows.now c.close_due.new.rests u z)
+          subst (λ (z : Watch). IsWatch c.args.guide.copies f c.args.guide.rows.now u (positions (flat_in f c.args.state.now) u) z
+          × IsWatchFound c.args.guide.copies f c.args.guide.rows.now c.close_due.new.rests u z)
           (sym (get_or-set_other c.loop-t.watches t u c.close_due.new.watch d (λ e. absurd (omega (arith, past, e))))) (
             before.0,
-            λ r x there own. watched_or_found_stays_so c.args.guide.copies f c.args.guide.rows.now (slice_index_or c.loop-t.watches u d) (slice_index_or c.loop-t.watches u d)
+            λ r x there own. watched_or_found_stays c.args.guide.copies f c.args.guide.rows.now (slice_index_or c.loop-t.watches u d) (slice_index_or c.loop-t.watches u d)
                 c.loop-t.rests c.close_due.new.rests r x adds there (λ z. inl z) (before.1 r x there own),
           );
     }

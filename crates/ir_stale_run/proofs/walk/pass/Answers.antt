@@ -1,9 +1,9 @@
 use Rattle.std.proofs.Common.{◌<◌, ◌∙◌, length, length-set, subst, arith}
 use Rattle.std.proofs.lemmas.List.{get_or_default}
 use Rattle.ir_events.proofs.CallerLemmas.{pass_after_next_thread}
-use Rattle.ir_stale_run.specs.Watch.{IsWatched}
+use Rattle.ir_stale_run.specs.Watch.{IsWatchedWrite}
 use Rattle.ir_stale_run.specs.declared.watch.Watch.{Watch}
-use Rattle.ir_stale_run.proofs.Walked.{all_watched_after_thread_goes_on}
+use Rattle.ir_stale_run.proofs.Walked.{watched_after_going_on}
 use Rattle.ir_stale_run.proofs.walk.pass.Goals as goal
 
 pub loop-t-preserved : goal.loop-t-preserved
@@ -18,8 +18,8 @@ loop-t-preserved c =
       passed = pass_after_next_thread f c.args.guide.route.ends.now t c.args.state c.loop-t.state new k.passed done.way done.further done.rests;
       watches = length-set c.loop-t.watches t c.visit_thread.new.watch ∙ k.watches;
       size = done.adds.size ∙ k.size;
-      watched = all_watched_after_thread_goes_on c.args.guide.copies f c.args.guide.rows.now t c.loop-t.state new c.loop-t.watches c.visit_thread.new.watch c.loop-t.rests
+      watched = watched_after_going_on c.args.guide.copies f c.args.guide.rows.now t c.loop-t.state new c.loop-t.watches c.visit_thread.new.watch c.loop-t.rests
           c.visit_thread.new.rests k.watched done.further l done.adds done.watch
           (λ d r x there was. done.found r x there
-          (subst (λ (w : Watch). IsWatched w r) (get_or_default c.loop-t.watches t d c.index-watches-t.result l) was));
+          (subst (λ (w : Watch). IsWatchedWrite w r) (get_or_default c.loop-t.watches t d c.index-watches-t.result l) was));
     }

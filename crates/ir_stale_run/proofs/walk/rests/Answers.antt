@@ -6,12 +6,12 @@ use Rattle.ir_stale_run.specs.WhatIf.{known}
 use Rattle.ir_stale_run.specs.Rests.{AreRests}
 use Rattle.ir_stale_run.specs.Watch.{AreBegun}
 use Rattle.ir_stale_run.specs.declared.found.Found.{Found}
-use Rattle.ir_stale_run.proofs.Begun.{rows_are_begun_with_no_rest_known, rests_of_known_found}
+use Rattle.ir_stale_run.proofs.Begun.{begun_without_rests, rests_of_known_found}
 use Rattle.ir_stale_run.proofs.walk.rests.Goals as goal
 
 pub walk-requires-clause-begun : goal.walk-requires-clause-begun
 walk-requires-clause-begun c = subst (AreBegun false c.args.fitted.now c.args.rows.now) (sym c.deref_mut.ensures.value)
-    (rows_are_begun_with_no_rest_known c.args.fitted.now c.args.rows.now c.in_ok-found.found.items c.in_ok-found.ensures)
+    (begun_without_rests c.args.fitted.now c.args.rows.now c.in_ok-found.found.items c.in_ok-found.ensures)
 
 pub returns : goal.returns
 returns c =

@@ -1,6 +1,6 @@
 use Rattle.std.proofs.Common.{◌+◌, ◌∙◌, ap, length, length-append, [], ◌∷◌, arith}
 use Rattle.ir_image.specs.Guest.{Guest}
-use Rattle.ir_stale_run.proofs.Built.{all_built_of_no_watch, all_built_after_watch_added}
+use Rattle.ir_stale_run.proofs.Built.{all_built_of_no_watch, all_built_watch_added}
 use Rattle.ir_stale_run.proofs.watches.empty_watches.Goals as goal
 
 pub loop-init : goal.loop-init
@@ -13,7 +13,7 @@ pub loop-preserved : goal.loop-preserved
 loop-preserved c = record {
   size = ap length c.in_ok-push.ensures.items ∙ length-append c.loop.watches.items (c.empty_watch.result ∷ [])
       ∙ ap (λ n. n + 1) c.loop.invariant.size;
-  built = all_built_after_watch_added c.args.guide.copies c.args.guide.route.fitted.now c.args.guide.rows.now c.args.found.now c.loop.watches.items c.push.new.self.items c.empty_watch.result
+  built = all_built_watch_added c.args.guide.copies c.args.guide.route.fitted.now c.args.guide.rows.now c.args.found.now c.loop.watches.items c.push.new.self.items c.empty_watch.result
       c.loop.invariant.built c.in_ok-push.ensures.items c.empty_watch.ensures.next c.empty_watch.ensures.spans c.empty_watch.ensures.opened;
 }
 

@@ -1,7 +1,7 @@
 use Rattle.std.proofs.Common.{◌≡◌, List, length, sym, ap, subst, ◌∙◌, arith}
 use Rattle.std.specs.Vec.{with_items}
 use Rattle.std.proofs.lemmas.List.{with_items_is}
-use Rattle.ir_stale_run.specs.Watch.{AreBuilt, AreSorted}
+use Rattle.ir_stale_run.specs.Watch.{AreBuilt, AreWatchesSorted}
 use Rattle.ir_stale_run.specs.declared.watch.Watch.{Watch}
 use Rattle.ir_stale_run.proofs.Built.{all_built_after_sorting}
 use Rattle.ir_stale_run.proofs.watches.watches.Goals as goal
@@ -16,5 +16,6 @@ returns-clause-built c =
     let items : (with_items v new).items ≡ new = with_items_is v new (size ∙ sym v.ok.0) in
     let all : c.loop-row.row ≡ length rows = (let a = c.loop-row-test.false in let b = c.loop-row.auto.row-end in omega (arith, a, b)) in
     subst (AreBuilt c.args.guide.copies f rows c.args.found.now (length rows)) (sym items)
-    (all_built_after_sorting c.args.guide.copies f rows c.args.found.now (length rows) v.items new (subst (λ n. AreBuilt c.args.guide.copies f rows c.args.found.now n v.items) all c.loop-row.invariant.built)
-    (subst (λ (xs : List Watch). AreSorted xs new) c.deref_mut-2.ensures.value c.in_ok-sort_all.ensures.sorted) size)
+    (all_built_after_sorting c.args.guide.copies f rows c.args.found.now (length rows) v.items new
+    (subst (λ n. AreBuilt c.args.guide.copies f rows c.args.found.now n v.items) all c.loop-row.invariant.built)
+    (subst (λ (xs : List Watch). AreWatchesSorted xs new) c.deref_mut-2.ensures.value c.in_ok-sort_all.ensures.sorted) size)

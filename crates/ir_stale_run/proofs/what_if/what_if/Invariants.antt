@@ -1,5 +1,5 @@
 use Rattle.std.proofs.Common.{◌≡◌, drop}
-use Rattle.ir_walk.specs.Calls.{AllSuit}
+use Rattle.ir_event_walk.specs.Calls.{AllSuit}
 use Rattle.ir_stale_run.specs.WhatIf.{what_if}
 use Rattle.ir_stale_run.specs.declared.hold.Hold.TheVariants.{Reading}
 use Rattle.ir_stale_run.proofs.what_if.what_if.Given as goal

@@ -1,5 +1,5 @@
-use Rattle.ir_symbols.proofs.Nearest.{nearest_is_some_exactly_if_is_nearest}
+use Rattle.ir_symbols.proofs.Nearest.{nearest_iff_is_nearest}
 use Rattle.ir_symbols.proofs.laws.nearest_is_first_of_greatest.Goals as goal
 
 pub returns : goal.returns
-returns c = nearest_is_some_exactly_if_is_nearest
+returns c = nearest_iff_is_nearest

@@ -1,11 +1,11 @@
 use Rattle.std.proofs.Common.{rules, ◌+◌, ◌∙◌, ◌++◌, List, ℕ, [], ◌∷◌, sym, ap}
 use Rattle.ir_text.specs.Texts.{bytes_from}
-use Rattle.ir_text.proofs.BytesFrom.{bytes_from_step, bytes_from_of_zero_count_is_empty}
+use Rattle.ir_text.proofs.BytesFrom.{bytes_from_step, bytes_from_zero}
 use Rattle.ir_text.proofs.bytes.bytes_from.Goals as goal
 
 pub loop-place-init : goal.loop-place-init
 loop-place-init c = record {
-  bytes = c.new-bytes.ensures ∙ sym (bytes_from_of_zero_count_is_empty c.args.code.now c.args.memory.now c.args.address);
+  bytes = c.new-bytes.ensures ∙ sym (bytes_from_zero c.args.code.now c.args.memory.now c.args.address);
   len = search rules;
 }
 

@@ -1,13 +1,13 @@
 use Rattle.std.proofs.Common.{rules, ◌≡◌, ◌<◌, ◌∙◌, length}
-use Rattle.ir_stream.proofs.CallerLemmas.{writes_or_fails_with_handed_on_error}
-use Rattle.ir_text.proofs.Buffers.{buffered_after_line_put, prefix_written_if_write_fails, writes_text_by_last_buffer}
+use Rattle.ir_stream.proofs.CallerLemmas.{writes_or_fails_error}
+use Rattle.ir_text.proofs.Buffers.{buffered_after_line_put, prefix_by_failed_write, writes_by_last_buffer}
 use Rattle.ir_text.proofs.Lines.{output_lines_step, output_lines_of_nothing}
 use Rattle.ir_text.proofs.bytes.write_output.Goals as goal
 
 pub returns-in_err-make_room : goal.returns-in_err-make_room
 returns-in_err-make_room g c =
-    writes_or_fails_with_handed_on_error _ c.from_residual.result c.from_residual.ensures.1
-    (prefix_written_if_write_fails _ _ _ _ _ _ c.loop-rest.invariant.text c.in_err-make_room.ensures.writes.prefix) c.in_err-make_room.ensures.writes.err
+    writes_or_fails_error _ c.from_residual.result c.from_residual.ensures.1
+    (prefix_by_failed_write _ _ _ _ _ _ c.loop-rest.invariant.text c.in_err-make_room.ensures.writes.prefix) c.in_err-make_room.ensures.writes.err
 
 pub loop-rest-preserved : goal.loop-rest-preserved
 loop-rest-preserved g c =
@@ -22,5 +22,5 @@ loop-rest-preserved g c =
 pub returns : goal.returns
 returns g c =
     let none : length c.loop-rest.rest.now ≡ 0 = search rules in
-    writes_text_by_last_buffer g.W.Sink.written _ _ _ _ c.write_all.result c.loop-rest.invariant.text (output_lines_of_nothing c.loop-rest.rest.now none)
+    writes_by_last_buffer g.W.Sink.written _ _ _ _ c.write_all.result c.loop-rest.invariant.text (output_lines_of_nothing c.loop-rest.rest.now none)
     c.as_slice.ensures.value c.loop-rest.invariant.broken c.write_all.ensures

@@ -1,15 +1,15 @@
 use Rattle.std.proofs.Common.{rules, ◌≤◌, ◌∙◌, length, map}
 use Rattle.ir_log.specs.Logging.{label_of}
 use Rattle.ir_text.specs.Texts.{log_text}
-use Rattle.ir_stream.proofs.CallerLemmas.{writes_or_fails_with_handed_on_error}
-use Rattle.ir_text.proofs.Buffers.{buffered_after_line_put, prefix_written_if_write_fails, writes_text_by_last_buffer}
-use Rattle.ir_text.proofs.Lines.{event_lines_step, event_lines_at_end_are_empty}
+use Rattle.ir_stream.proofs.CallerLemmas.{writes_or_fails_error}
+use Rattle.ir_text.proofs.Buffers.{buffered_after_line_put, prefix_by_failed_write, writes_by_last_buffer}
+use Rattle.ir_text.proofs.Lines.{event_lines_step, event_lines_at_end}
 use Rattle.ir_text.proofs.events.write_log.Goals as goal
 
 pub returns-in_err-make_room : goal.returns-in_err-make_room
 returns-in_err-make_room g c =
-    writes_or_fails_with_handed_on_error _ c.from_residual.result c.from_residual.ensures.1
-    (prefix_written_if_write_fails _ _ _ _ _ _ c.loop-index.invariant.text c.in_err-make_room.ensures.writes.prefix) c.in_err-make_room.ensures.writes.err
+    writes_or_fails_error _ c.from_residual.result c.from_residual.ensures.1
+    (prefix_by_failed_write _ _ _ _ _ _ c.loop-index.invariant.text c.in_err-make_room.ensures.writes.prefix) c.in_err-make_room.ensures.writes.err
 
 pub loop-index-preserved : goal.loop-index-preserved
 loop-index-preserved g c = record {
@@ -21,6 +21,6 @@ loop-index-preserved g c = record {
 pub returns : goal.returns
 returns g c =
     let past : length c.args.so_far.now ≤ c.loop-index.index = search rules in
-    writes_text_by_last_buffer g.W.Sink.written _ _ (log_text (map label_of c.args.so_far.now) c.args.all) _ c.write_all.result c.loop-index.invariant.text
-    (event_lines_at_end_are_empty c.args.so_far.now c.loop-index.index past)
+    writes_by_last_buffer g.W.Sink.written _ _ (log_text (map label_of c.args.so_far.now) c.args.all) _ c.write_all.result c.loop-index.invariant.text
+    (event_lines_at_end c.args.so_far.now c.loop-index.index past)
     c.as_slice.ensures.value c.loop-index.invariant.broken c.write_all.ensures

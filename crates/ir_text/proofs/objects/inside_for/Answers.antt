@@ -4,7 +4,7 @@ use Rattle.arrayvec.specs.ArrayVec.{ArrayVec, array_vec_len}
 use Rattle.ir_runs.specs.declared.access.Access.{Access}
 use Rattle.ir_text.specs.Texts.{inside_for}
 use Rattle.ir_text.specs.Held.{held_by}
-use Rattle.ir_text.proofs.Insides.{inside_for_step_if_inside, inside_for_step_unless_inside, inside_for_no_threads}
+use Rattle.ir_text.proofs.Insides.{inside_for_inside, inside_for_outside, inside_for_no_threads}
 use Rattle.ir_text.proofs.objects.inside_for.Goals as goal
 use Rattle.ir_text.proofs.objects.inside_for.Goals.{then-is_inside, else-is_inside}
 
@@ -24,7 +24,7 @@ loop-thread-preserved c =
             ap (λ (v : ArrayVec ℕ). v.items) w.inside-is
             ∙ w.append.ensures.text
             ∙ ap (λ (xs : List ℕ). xs ++ t ∷ []) c.loop-thread.invariant.inside
-            ∙ sym (inside_for_step_if_inside c.args.access inside t (sym c.held_by.ensures ∙ c.is_inside.ensures.inside w.if-is_inside.true));
+            ∙ sym (inside_for_inside c.args.access inside t (sym c.held_by.ensures ∙ c.is_inside.ensures.inside w.if-is_inside.true));
         len =
             let is = ap (λ (v : ArrayVec ℕ). array_vec_len v) w.inside-is in
             let more = w.append.ensures.len in
@@ -35,7 +35,7 @@ loop-thread-preserved c =
         inside =
             ap (λ (v : ArrayVec ℕ). v.items) w.inside-is
             ∙ c.loop-thread.invariant.inside
-            ∙ sym (inside_for_step_unless_inside c.args.access inside t (λ e. c.is_inside.ensures.other w.if-is_inside.false (c.held_by.ensures ∙ e))
+            ∙ sym (inside_for_outside c.args.access inside t (λ e. c.is_inside.ensures.other w.if-is_inside.false (c.held_by.ensures ∙ e))
             ∙ append-nil (inside_for c.args.access inside t));
         len =
             let is = ap (λ (v : ArrayVec ℕ). array_vec_len v) w.inside-is in

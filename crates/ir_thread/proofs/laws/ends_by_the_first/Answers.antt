@@ -1,5 +1,5 @@
-use Rattle.ir_thread.proofs.Conditions.{ask_of_running_thread_by_conditions}
+use Rattle.ir_thread.proofs.Conditions.{running_ask_conditions}
 use Rattle.ir_thread.proofs.laws.ends_by_the_first.Goals as goal
 
 pub returns : goal.returns
-returns c = ask_of_running_thread_by_conditions
+returns c = running_ask_conditions

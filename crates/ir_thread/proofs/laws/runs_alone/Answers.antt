@@ -1,5 +1,5 @@
-use Rattle.ir_thread.proofs.Alone.{lone_run_of_reply_values_is_after_replies}
+use Rattle.ir_thread.proofs.Alone.{lone_run_after_replies}
 use Rattle.ir_thread.proofs.laws.runs_alone.Goals as goal
 
 pub returns : goal.returns
-returns c = λ code s replies ok. lone_run_of_reply_values_is_after_replies code s replies ok
+returns c = λ code s replies ok. lone_run_after_replies code s replies ok

@@ -1,7 +1,7 @@
 use Rattle.std.proofs.Common.{◌≡◌, ◌<◌, arith}
 use Rattle.ir_weave.specs.Standing.{flat_in, positions}
 use Rattle.ir_hits.specs.Searching.{window_start}
-use Rattle.ir_timeline.proofs.Searches.{steps_of_thread_are_position, last_hit_in_window_is_last_hit_if_none_above_window, last_hit_is_none_if_none_found_from_position_zero, no_hit_below_extends_above_nonzero_position_if_none_found, nonzero_position_is_below_end_if_state_is_before_end}
+use Rattle.ir_timeline.proofs.Searches.{steps_are_own_position, last_hit_of_window, last_hit_is_none, no_hit_below_above_zero, nonzero_below_end}
 use Rattle.ir_timeline.proofs.searching.hit_below.Goals.{then-position-eq0-via-then-position-eq0, then-position-eq0-via-else-position-eq0+then-not-may_hit}
 use Rattle.ir_timeline.proofs.searching.hit_below.Goals as goal
 
@@ -16,15 +16,15 @@ pub returns-in-Some-clause-hit : goal.returns-in-Some-clause-hit
 returns-in-Some-clause-hit g c =
     let f = c.args.fitted.now in
     let t = c.args.t in
-    last_hit_in_window_is_last_hit_if_none_above_window f c.args.points.now t (window_start (positions (flat_in f c.in_ok-hand.field-0) t)) c.windows.to c.args.position
+    last_hit_of_window f c.args.points.now t (window_start (positions (flat_in f c.in_ok-hand.field-0) t)) c.windows.to c.args.position
     c.in_ok-found.found c.in-Some.hit c.windows.invariant.within c.windows.invariant.none c.in_ok-found.ensures.hit c.in-Some.is
 
 pub returns-then-from-eq0-clause-hit : goal.returns-then-from-eq0-clause-hit
 returns-then-from-eq0-clause-hit g c =
     let f = c.args.fitted.now in
     let t = c.args.t in
-    last_hit_is_none_if_none_found_from_position_zero f c.args.points.now t (positions (flat_in f c.in_ok-hand.field-0) t) c.position_of-from.result c.windows.to c.args.position
-    c.in_ok-found.found (steps_of_thread_are_position f c.in_ok-hand.field-0 t c.position_of-from.result c.position_of-from.ensures) c.if-from-eq0.true
+    last_hit_is_none f c.args.points.now t (positions (flat_in f c.in_ok-hand.field-0) t) c.position_of-from.result c.windows.to c.args.position
+    c.in_ok-found.found (steps_are_own_position f c.in_ok-hand.field-0 t c.position_of-from.result c.position_of-from.ensures) c.if-from-eq0.true
     c.windows.invariant.none c.in_ok-found.ensures.hit c.in_default.is
 
 pub windows-preserved : goal.windows-preserved
@@ -33,12 +33,12 @@ windows-preserved g c =
     let t = c.args.t in
     let from = c.position_of-from.result in
     let here : from ≡ positions (flat_in f c.in_ok-hand.field-0) t =
-    steps_of_thread_are_position f c.in_ok-hand.field-0 t from c.position_of-from.ensures in
+    steps_are_own_position f c.in_ok-hand.field-0 t from c.position_of-from.ensures in
     let less : from < c.windows.to =
-    nonzero_position_is_below_end_if_state_is_before_end f t c.windows.to from c.in_ok-hand.field-0 c.in_ok-hand.ensures.before here c.if-from-eq0.false in
+    nonzero_below_end f t c.windows.to from c.in_ok-hand.field-0 c.in_ok-hand.ensures.before here c.if-from-eq0.false in
     record {
       hand = record { stands = c.last_hit.ensures.stands; checkpoints = c.restore_before.ensures.checkpoints };
       within = (let within = c.windows.invariant.within in omega (arith, less, within));
-      none = no_hit_below_extends_above_nonzero_position_if_none_found f c.args.points.now t (positions (flat_in f c.in_ok-hand.field-0) t) from c.windows.to c.args.position
+      none = no_hit_below_above_zero f c.args.points.now t (positions (flat_in f c.in_ok-hand.field-0) t) from c.windows.to c.args.position
           c.in_ok-found.found here c.if-from-eq0.false c.windows.invariant.none c.in_ok-found.ensures.hit c.in_default.is;
     }

@@ -3,21 +3,21 @@ use Rattle.std.proofs.lemmas.Result.{err_from_is_err_and}
 use Rattle.ir_log.specs.Logged.{Logged}
 use Rattle.ir_bytes.specs.Reading.{fields_at}
 use Rattle.ir_trace.specs.Recorded.{event_reading}
-use Rattle.ir_bytes.proofs.CallerLemmas.{prefixed_fields_at_step, total_is_prefix_after_all_fields}
-use Rattle.ir_trace.proofs.Loop.{fields_fail_if_field_fails}
-use Rattle.ir_trace.proofs.Room.{event_room_step, event_room_for_next_event}
+use Rattle.ir_bytes.proofs.CallerLemmas.{prefixed_fields_at_step, fields_total_is_prefix}
+use Rattle.ir_trace.proofs.Loop.{fields_fail_by_field}
+use Rattle.ir_trace.proofs.Room.{event_room_step, next_event_has_room}
 use Rattle.ir_trace.proofs.event_reader.events.Goals as goal
 
 pub returns-in_err-one-clause-exact : goal.returns-in_err-one-clause-exact
 returns-in_err-one-clause-exact c =
     let p = err_from_is_err_and c.from_residual-in_err-one.result c.from_residual-in_err-one.ensures.1 in
-    rw (p.1, p.2) (fields_fail_if_field_fails c.in_err-one.field-0.0 (event_reading c.args.profile c.args.objects) c.loop.log.events c.args.count c.loop.counter c.loop.rest.now
+    rw (p.1, p.2) (fields_fail_by_field c.in_err-one.field-0.0 (event_reading c.args.profile c.args.objects) c.loop.log.events c.args.count c.loop.counter c.loop.rest.now
     (fields_at (event_reading c.args.profile c.args.objects) c.args.count c.args.bytes.now) c.loop-test.true c.in_err-one.ensures.exact
     c.loop.invariant.emitted)
 
 pub push-requires : goal.push-requires
 push-requires c =
-    rw (c.loop.invariant.pushed, c.loop.invariant.room) (event_room_for_next_event c.args.profile c.loop.counter c.args.count (length c.args.bytes.now)
+    rw (c.loop.invariant.pushed, c.loop.invariant.room) (next_event_has_room c.args.profile c.loop.counter c.args.count (length c.args.bytes.now)
     (length c.loop.rest.now) (length c.in_ok-one.after.now) c.loop-test.true c.loop.invariant.taken c.in_ok-one.ensures.taken)
 
 pub loop-preserved : goal.loop-preserved
@@ -34,5 +34,5 @@ loop-preserved c =
     }
 
 pub returns-clause-exact : goal.returns-clause-exact
-returns-clause-exact c = total_is_prefix_after_all_fields (event_reading c.args.profile c.args.objects) c.loop.log.events c.args.count c.loop.counter c.loop.rest.now
+returns-clause-exact c = fields_total_is_prefix (event_reading c.args.profile c.args.objects) c.loop.log.events c.args.count c.loop.counter c.loop.rest.now
     (fields_at (event_reading c.args.profile c.args.objects) c.args.count c.args.bytes.now) c.loop-test.false c.loop.invariant.emitted

@@ -1,14 +1,14 @@
 use Rattle.std.proofs.lemmas.Result.{err_from_is_err_and}
 use Rattle.ir_bytes.specs.Reading.{fields_at}
 use Rattle.ir_trace.specs.Recorded.{thread_part_at}
-use Rattle.ir_bytes.proofs.CallerLemmas.{prefixed_fields_at_step, total_is_prefix_after_all_fields}
-use Rattle.ir_trace.proofs.Loop.{fields_fail_if_field_fails}
+use Rattle.ir_bytes.proofs.CallerLemmas.{prefixed_fields_at_step, fields_total_is_prefix}
+use Rattle.ir_trace.proofs.Loop.{fields_fail_by_field}
 use Rattle.ir_trace.proofs.reader.threads.Goals as goal
 
 pub returns-in_err-one : goal.returns-in_err-one
 returns-in_err-one c =
     let p = err_from_is_err_and c.from_residual.result c.from_residual.ensures.1 in
-    rw (p.1, p.2) (fields_fail_if_field_fails c.in_err-one.field-0.0 (thread_part_at c.args.profile c.args.objects) c.loop.threads.items c.args.count c.loop.counter c.loop.rest.now
+    rw (p.1, p.2) (fields_fail_by_field c.in_err-one.field-0.0 (thread_part_at c.args.profile c.args.objects) c.loop.threads.items c.args.count c.loop.counter c.loop.rest.now
     (fields_at (thread_part_at c.args.profile c.args.objects) c.args.count c.args.bytes.now) c.loop-test.true c.in_err-one.ensures c.loop.invariant)
 
 pub loop-preserved : goal.loop-preserved
@@ -18,5 +18,5 @@ loop-preserved c =
     c.in_ok-one.ensures c.loop.invariant)
 
 pub returns : goal.returns
-returns c = total_is_prefix_after_all_fields (thread_part_at c.args.profile c.args.objects) c.loop.threads.items c.args.count c.loop.counter c.loop.rest.now
+returns c = fields_total_is_prefix (thread_part_at c.args.profile c.args.objects) c.loop.threads.items c.args.count c.loop.counter c.loop.rest.now
     (fields_at (thread_part_at c.args.profile c.args.objects) c.args.count c.args.bytes.now) c.loop-test.false c.loop.invariant

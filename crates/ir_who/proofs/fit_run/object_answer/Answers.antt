@@ -1,11 +1,11 @@
 use Rattle.std.proofs.Common.{sym, subst}
 use Rattle.ir_trace.specs.Recorded.{Recorded}
 use Rattle.ir_who.specs.Versions.{AreVersions}
-use Rattle.ir_who.proofs.Within.{trace_equal_to_run_trace_is_coherent, version_maker_is_inside}
+use Rattle.ir_who.proofs.Within.{equal_trace_is_coherent, version_maker_is_inside}
 use Rattle.ir_who.proofs.fit_run.object_answer.Goals as goal
 
 pub versions_of-requires : goal.versions_of-requires
-versions_of-requires c = trace_equal_to_run_trace_is_coherent c.args.fitted.now c.known.ensures.run c.trace.result.now c.trace.ensures.value
+versions_of-requires c = equal_trace_is_coherent c.args.fitted.now c.known.ensures.run c.trace.result.now c.trace.ensures.value
 
 pub all_dated-requires : goal.all_dated-requires
 all_dated-requires c = version_maker_is_inside c.args.fitted.now c.known.ensures.run c.args.object c.deref.result.now

@@ -1,7 +1,7 @@
 use Rattle.std.proofs.Common.{inl, refl, sym, subst}
 use Rattle.std.proofs.lemmas.Result.{err_from_is_err_and}
 use Rattle.ir_files.specs.declared.exit_status.ExitStatus.TheVariants as status
-use Rattle.ir_files.proofs.CallerLemmas.{if_err_holds_if_holds_of_handed_on_error}
+use Rattle.ir_files.proofs.CallerLemmas.{if_err_handed_on}
 use Rattle.ir_past.proofs.CallerLemmas.{not_answered_if_stopped}
 use Rattle.ir_opened.specs.Answers.{IsFitAnswerOf}
 use Rattle.ir_who.specs.FitLines.{IsFitWhoAnswer}
@@ -12,7 +12,7 @@ pub returns-in_err-put_bytes-clause-fails : goal.returns-in_err-put_bytes-clause
 returns-in_err-put_bytes-clause-fails g c =
     let p = err_from_is_err_and c.from_residual-in_err-put_bytes.result c.from_residual-in_err-put_bytes.ensures.1 in
     let e = c.in_err-put_bytes.field-0.0 in
-    if_err_holds_if_holds_of_handed_on_error _ c.from_residual-in_err-put_bytes.result (Unwritten e) p.0 p.1 p.2
+    if_err_handed_on _ c.from_residual-in_err-put_bytes.result (Unwritten e) p.0 p.1 p.2
     (λ i t fits. not_answered_if_stopped (IsFitAnswerOf (IsFitWhoAnswer c.args.asked.now) i t) status.Done c.as_bytes.result.now e _
     (inl (record {
       fitted = c.args.fitted.now;

@@ -7,8 +7,8 @@ use Rattle.ir_past.specs.declared.place.Place.{Place}
 use Rattle.ir_who.specs.FitLines.{fit_version_text}
 use Rattle.ir_who.specs.Versions.{AreVersions}
 use Rattle.ir_who.specs.declared.version.Version.{Version}
-use Rattle.ir_who.proofs.Listed.{noted_maker_is_overwriter}
-use Rattle.ir_who.proofs.Within.{trace_equal_to_run_trace_is_coherent, version_maker_is_inside, version_reader_is_inside, overwriter_is_inside}
+use Rattle.ir_who.proofs.Listed.{maker_is_overwriter}
+use Rattle.ir_who.proofs.Within.{equal_trace_is_coherent, version_maker_is_inside, reader_is_inside, overwriter_is_inside}
 use Rattle.ir_who.proofs.fit_run.version_answer.Goals as goal
 use Rattle.ir_who.proofs.fit_run.version_answer.Goals.{In-Some}
 
@@ -21,14 +21,14 @@ row_of c = subst (λ (rows : List Version). slice_get rows c.args.version ≡ So
     c.in-Some.ensures.lookup.1)
 
 pub versions_of-requires : goal.versions_of-requires
-versions_of-requires c = trace_equal_to_run_trace_is_coherent c.args.fitted.now c.known.ensures.run c.trace-trace.result.now c.trace-trace.ensures.value
+versions_of-requires c = equal_trace_is_coherent c.args.fitted.now c.known.ensures.run c.trace-trace.result.now c.trace-trace.ensures.value
 
 pub dated-dated-requires : goal.dated-dated-requires
 dated-dated-requires c = λ p made. version_maker_is_inside c.args.fitted.now c.known.ensures.run c.args.object c.in_ok-rows.rows.items (rows_of c) c.args.version
     c.in-Some.row.now p (row_of c) made
 
 pub version_text-requires-clause-read : goal.version_text-requires-clause-read
-version_text-requires-clause-read c = version_reader_is_inside c.args.fitted.now c.known.ensures.run c.args.object c.args.version c.deref-2.result.now
+version_text-requires-clause-read c = reader_is_inside c.args.fitted.now c.known.ensures.run c.args.object c.args.version c.deref-2.result.now
     (subst (AreReaders c.args.fitted.now.recorded c.args.object c.args.version) (sym c.deref-2.ensures.value)
     (subst (λ (r : Recorded). AreReaders r c.args.object c.args.version c.in_ok-readers.readers.items) c.trace-trace.ensures.value
     c.in_ok-readers.ensures))
@@ -36,7 +36,7 @@ version_text-requires-clause-read c = version_reader_is_inside c.args.fitted.now
 pub version_text-requires-clause-over : goal.version_text-requires-clause-over
 version_text-requires-clause-over c = overwriter_is_inside c.args.fitted.now c.known.ensures.run c.args.object c.args.version c.get-over.result
     (subst (λ (r : Recorded). IsOverwriter r c.args.object c.args.version c.get-over.result) c.trace-trace.ensures.value
-    (noted_maker_is_overwriter c.trace-trace.result.now c.args.object c.args.version (length c.trace-trace.result.now.threads) c.in_ok-makers_of.field-0
+    (maker_is_overwriter c.trace-trace.result.now c.args.object c.args.version (length c.trace-trace.result.now.threads) c.in_ok-makers_of.field-0
     c.get-over.result c.in_ok-makers_of.ensures.makes (omega arith) c.get-over.ensures))
 
 pub returns-clause-ok : goal.returns-clause-ok
@@ -54,7 +54,7 @@ returns-clause-ok c = record {
       c.in_ok-readers.ensures;
   over = c.get-over.result;
   overwritten = subst (λ (r : Recorded). IsOverwriter r c.args.object c.args.version c.get-over.result) c.trace-trace.ensures.value
-      (noted_maker_is_overwriter c.trace-trace.result.now c.args.object c.args.version (length c.trace-trace.result.now.threads) c.in_ok-makers_of.field-0
+      (maker_is_overwriter c.trace-trace.result.now c.args.object c.args.version (length c.trace-trace.result.now.threads) c.in_ok-makers_of.field-0
       c.get-over.result c.in_ok-makers_of.ensures.makes (omega arith) c.get-over.ensures);
   lines = c.in_ok-version_text.ensures
       ∙ ap (λ (ps : List Place). fit_version_text c.args.fitted.now c.args.version c.dated-dated.result ps c.get-over.result) c.deref-2.ensures.value;

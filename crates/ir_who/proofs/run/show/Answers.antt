@@ -1,10 +1,10 @@
 use Rattle.std.proofs.Common.{Err, subst}
 use Rattle.std.proofs.lemmas.Result.{err_from_is_err_and}
 use Rattle.ir_trace.specs.Recorded.{recorded_at}
-use Rattle.ir_files.proofs.CallerLemmas.{if_err_holds_if_holds_of_handed_on_error}
+use Rattle.ir_files.proofs.CallerLemmas.{if_err_handed_on}
 use Rattle.ir_past.specs.Answers.{IsOpened}
 use Rattle.ir_past.specs.declared.opened.Opened.TheVariants.{Refused}
-use Rattle.ir_past.proofs.CallerLemmas.{refusal_is_answered_or_stopped}
+use Rattle.ir_past.proofs.CallerLemmas.{refusal_is_answered}
 use Rattle.ir_who.specs.Lines.{IsWhoAnswer}
 use Rattle.ir_who.specs.declared.who_err.WhoErr.TheVariants.{Unwritten}
 use Rattle.ir_who.proofs.run.show.Goals as goal
@@ -15,6 +15,6 @@ returns-in_err-refuse-in-Refused-clause-fails g c =
     let e = c.in_err-refuse-in-Refused.field-0.0 in
     let because : IsOpened (recorded_at c.args.bytes.now) (Refused c.in-Refused.why) =
     subst (IsOpened (recorded_at c.args.bytes.now)) c.in-Refused.is c.in_ok-trace.ensures in
-    if_err_holds_if_holds_of_handed_on_error _ c.from_residual-in_err-refuse-in-Refused.result (Unwritten e) p.0 p.1 p.2
-    (refusal_is_answered_or_stopped (IsWhoAnswer c.args.asked.now) (recorded_at c.args.bytes.now) c.in-Refused.why (Err e) (g.O.Sink.written c.args.out.now)
+    if_err_handed_on _ c.from_residual-in_err-refuse-in-Refused.result (Unwritten e) p.0 p.1 p.2
+    (refusal_is_answered (IsWhoAnswer c.args.asked.now) (recorded_at c.args.bytes.now) c.in-Refused.why (Err e) (g.O.Sink.written c.args.out.now)
     (g.O.Sink.written c.refuse.new.out) (g.O.Sink.broken c.refuse.new.out) because _ _ _ c.in_err-refuse-in-Refused.ensures.fails).1

@@ -4,7 +4,7 @@ use Rattle.std.proofs.lemmas.Option.{slice_get_read}
 use Rattle.ir_who.specs.declared.version.Version.{Version}
 use Rattle.ir_past.specs.declared.place.Place.{Place}
 use Rattle.ir_who.specs.Lines.{version_text}
-use Rattle.ir_who.proofs.Listed.{noted_maker_is_overwriter}
+use Rattle.ir_who.proofs.Listed.{maker_is_overwriter}
 use Rattle.ir_who.proofs.run.version_answer.Goals as goal
 
 pub returns-clause-ok : goal.returns-clause-ok
@@ -18,6 +18,8 @@ returns-clause-ok c = record {
   readers = c.in_ok-readers.readers.items;
   read = c.in_ok-readers.ensures;
   over = c.get-over.result;
-  overwritten = noted_maker_is_overwriter c.args.trace.now c.args.object c.args.version (length c.args.trace.now.threads) c.in_ok-makers_of.field-0 c.get-over.result c.in_ok-makers_of.ensures.makes (omega arith) c.get-over.ensures;
+  overwritten =
+      maker_is_overwriter c.args.trace.now c.args.object c.args.version (length c.args.trace.now.threads) c.in_ok-makers_of.field-0
+      c.get-over.result c.in_ok-makers_of.ensures.makes (omega arith) c.get-over.ensures;
   lines = c.in_ok-version_text.ensures ∙ ap (λ (ps : List Place). version_text c.args.version c.in-Some.row.now ps c.get-over.result) c.deref-2.ensures.value;
 }

@@ -1,6 +1,6 @@
 use Rattle.std.proofs.Common.{◌+◌, ◌^◌, ◌≤◌, suc, sym, inl, inr, arith}
 use Rattle.std.proofs.lemmas.Bool.{cases_lt}
-use Rattle.ir_who.proofs.Listed.{no_readers_if_version_is_no_word}
+use Rattle.ir_who.proofs.Listed.{no_word_no_readers}
 use Rattle.ir_who.proofs.versions.next_readers.Goals as goal
 
 pub returns-in-None : goal.returns-in-None
@@ -9,4 +9,4 @@ returns-in-None c =
       | inl less ↦ absurd (c.in-None.ensures less)
       | inr past ↦ omega (arith, past)
     ] in
-    sym (no_readers_if_version_is_no_word c.args.trace.now c.args.object (suc c.args.version) c.requires.recorded far)
+    sym (no_word_no_readers c.args.trace.now c.args.object (suc c.args.version) c.requires.recorded far)

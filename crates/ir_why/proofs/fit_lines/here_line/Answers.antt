@@ -1,6 +1,6 @@
-use Rattle.ir_opened.proofs.CallerLemmas.{inside_event_number_is_below_event_count}
+use Rattle.ir_opened.proofs.CallerLemmas.{inside_below_events}
 use Rattle.ir_why.proofs.fit_lines.here_line.Goals as goal
 
 pub event_of-event-requires-clause-event : goal.event_of-event-requires-clause-event
 event_of-event-requires-clause-event c =
-    inside_event_number_is_below_event_count c.args.fitted.now c.known.ensures.run c.args.here.thread c.args.here.event c.requires c.trace.result.now c.trace.ensures.value
+    inside_below_events c.args.fitted.now c.known.ensures.run c.args.here.thread c.args.here.event c.requires c.trace.result.now c.trace.ensures.value

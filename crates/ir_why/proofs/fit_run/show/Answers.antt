@@ -1,6 +1,6 @@
 use Rattle.std.proofs.Common.{inr, refl, subst}
 use Rattle.std.proofs.lemmas.Result.{err_from_is_err_and}
-use Rattle.ir_files.proofs.CallerLemmas.{if_err_holds_if_holds_of_handed_on_error}
+use Rattle.ir_files.proofs.CallerLemmas.{if_err_handed_on}
 use Rattle.ir_past.proofs.CallerLemmas.{not_answered_if_stopped}
 use Rattle.ir_opened.specs.Answers.{IsFitAnswerOf}
 use Rattle.ir_opened.specs.Opened.{IsFitOpened, unfit_status, unfit_text}
@@ -16,6 +16,6 @@ returns-in_err-refuse-in-Refused-clause-fails g c =
     let why = c.in-Refused.why in
     let because : IsFitOpened c.args.image.now c.args.trace.now (Refused why) =
     subst (IsFitOpened c.args.image.now c.args.trace.now) c.in-Refused.is c.in_ok-fitted.ensures in
-    if_err_holds_if_holds_of_handed_on_error _ c.from_residual-in_err-refuse-in-Refused.result (Unwritten e) p.0 p.1 p.2
+    if_err_handed_on _ c.from_residual-in_err-refuse-in-Refused.result (Unwritten e) p.0 p.1 p.2
     (not_answered_if_stopped (IsFitAnswerOf (IsFitReason c.args.asked.now) c.args.image.now c.args.trace.now) (unfit_status why) (unfit_text why) e _
     (inr (record { why = why; because = because; status = refl; line = refl })) c.in_err-refuse-in-Refused.ensures.fails)

@@ -1,5 +1,5 @@
 use Rattle.std.proofs.Common.{◌++◌, ◌∙◌, ap, arith, flat_map}
-use Rattle.ir_lemmas.proofs.CallerLemmas.{four_appends_nest_to_the_right}
+use Rattle.ir_lemmas.proofs.CallerLemmas.{appends_nest_right}
 use Rattle.ir_why.specs.Lines.{past_line}
 use Rattle.ir_why.specs.FitLines.{fit_need_line, least_line, wait_line}
 use Rattle.ir_why.proofs.fit_texts.reason_in.Goals as goal
@@ -25,7 +25,7 @@ returns c = λ ends placed. record {
   placed = placed;
   waits = c.in_ok-waits.waits.items;
   chain = c.in_ok-waits.ensures;
-  lines = four_appends_nest_to_the_right c.in_ok-text.text.items (flat_map (fit_need_line c.args.at.now) c.in_ok-needs.needs.items) (past_line c.in_ok-past.past.items)
+  lines = appends_nest_right c.in_ok-text.text.items (flat_map (fit_need_line c.args.at.now) c.in_ok-needs.needs.items) (past_line c.in_ok-past.past.items)
       (least_line c.in_ok-least.least) (flat_map wait_line c.in_ok-waits.waits.items) c.push_needs.new.text.items c.extend_from_slice.new.self.items
       c.extend_from_slice-2.new.self.items c.push_waits.new.text.items
       (c.in_ok-push_needs.ensures ∙ ap (λ xs. c.in_ok-text.text.items ++ flat_map (fit_need_line c.args.at.now) xs) c.deref.ensures.value)

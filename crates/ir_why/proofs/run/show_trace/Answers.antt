@@ -1,19 +1,19 @@
 use Rattle.std.proofs.Common.{Ok, sym, subst}
 use Rattle.std.proofs.lemmas.Result.{err_from_is_err_and}
-use Rattle.ir_files.proofs.CallerLemmas.{if_err_holds_if_holds_of_handed_on_error}
+use Rattle.ir_files.proofs.CallerLemmas.{if_err_handed_on}
 use Rattle.ir_files.specs.declared.exit_status.ExitStatus.{ExitStatus}
 use Rattle.ir_past.proofs.CallerLemmas.{answered_if_written}
 use Rattle.ir_picture.specs.declared.view_err.ViewErr.TheVariants.{Unwritten}
 use Rattle.ir_why.specs.Answers.{IsWhyAnswer}
-use Rattle.ir_why.proofs.Said.{trace_answer_is_why_answer, why_not_answered_if_stopped}
+use Rattle.ir_why.proofs.Said.{trace_answer_is_why, stopped_why_no_answer}
 use Rattle.ir_why.proofs.run.show_trace.Goals as goal
 
 pub returns-in_err-put_answer-clause-fails : goal.returns-in_err-put_answer-clause-fails
 returns-in_err-put_answer-clause-fails g c =
     let p = err_from_is_err_and c.from_residual-in_err-put_answer.result c.from_residual-in_err-put_answer.ensures.1 in
     let e = c.in_err-put_answer.field-0.0 in
-    if_err_holds_if_holds_of_handed_on_error _ c.from_residual-in_err-put_answer.result (Unwritten e) p.0 p.1 p.2
-    (why_not_answered_if_stopped c.args.asked.now c.args.trace.now c.in_ok-answer.answer.status c.in_ok-answer.answer.text.items e _ c.requires.coherent
+    if_err_handed_on _ c.from_residual-in_err-put_answer.result (Unwritten e) p.0 p.1 p.2
+    (stopped_why_no_answer c.args.asked.now c.args.trace.now c.in_ok-answer.answer.status c.in_ok-answer.answer.text.items e _ c.requires.coherent
     c.in_ok-answer.ensures.there c.in_ok-answer.ensures.ok c.in_err-put_answer.ensures.fails)
 
 pub returns-clause-ok : goal.returns-clause-ok
@@ -22,6 +22,6 @@ returns-clause-ok g c =
     (g.O.Sink.written c.put_answer.new.out) (g.O.Sink.broken c.put_answer.new.out) c.in_ok-answer.answer.text.items
     (subst (λ (s : ExitStatus). IsWhyAnswer c.args.asked.now (Ok c.args.trace.now) s c.in_ok-answer.answer.text.items)
     (sym c.in_ok-put_answer.ensures.status)
-    (trace_answer_is_why_answer c.args.asked.now c.args.trace.now c.in_ok-answer.answer.status c.in_ok-answer.answer.text.items c.requires.coherent
+    (trace_answer_is_why c.args.asked.now c.args.trace.now c.in_ok-answer.answer.status c.in_ok-answer.answer.text.items c.requires.coherent
     c.in_ok-answer.ensures.there c.in_ok-answer.ensures.ok))
     c.in_ok-put_answer.ensures.ok c.in_ok-put_answer.ensures.works

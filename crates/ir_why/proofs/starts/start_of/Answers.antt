@@ -1,5 +1,5 @@
 use Rattle.std.proofs.Common.{refl}
-use Rattle.ir_why.proofs.Linked.{placed_box_of_event_exists}
+use Rattle.ir_why.proofs.Linked.{event_has_placed_box}
 use Rattle.ir_why.proofs.starts.start_of.Goals as goal
 
 pub returns-in-Some : goal.returns-in-Some
@@ -9,5 +9,5 @@ returns-in-Some c =
 
 pub returns-in-None : goal.returns-in-None
 returns-in-None c =
-    let has = placed_box_of_event_exists c.args.boxes.now c.args.place.thread c.args.place.event c.requires.there in
+    let has = event_has_placed_box c.args.boxes.now c.args.place.thread c.args.place.event c.requires.there in
     absurd (c.in-None.ensures.none has.0 has.1 has.2 has.3)

@@ -1,6 +1,6 @@
-use Rattle.ir_record.proofs.CallerLemmas.{none_failed_after_unbroken_world_is_appended}
+use Rattle.ir_record.proofs.CallerLemmas.{none_failed_push}
 use Rattle.ir_world.specs.Sources.{made_with, is_counted}
-use Rattle.ir_world.proofs.Fresh.{map_made_is_origins_step, made_with_is_origin, map_answers_is_replicate_empty_step}
+use Rattle.ir_world.proofs.Fresh.{map_made_step, made_with_is_origin, map_answers_empty_step}
 use Rattle.ir_world.proofs.thread_worlds.worlds.Goals as goal
 
 pub loop-thread-preserved : goal.loop-thread-preserved
@@ -11,9 +11,9 @@ loop-thread-preserved g c =
     let made = made_with_is_origin w.time c.args.time w.seed c.args.random w.file.now c.args.file.now c.loop-thread.thread c.in_ok-new.ensures.time
     c.in_ok-new.ensures.seed c.in_ok-new.ensures.file in
     record {
-      origins = map_made_is_origins_step (λ w. made_with w.time w.seed w.file.now) old new w (is_counted c.args.time) c.args.random c.args.file.now
+      origins = map_made_step (λ w. made_with w.time w.seed w.file.now) old new w (is_counted c.args.time) c.args.random c.args.file.now
           c.loop-thread.thread c.loop-thread.invariant.origins made c.in_ok-push.ensures.items;
-      fresh = map_answers_is_replicate_empty_step (λ w. w.answers.items) old new w c.loop-thread.thread c.loop-thread.invariant.fresh c.in_ok-new.ensures.fresh
+      fresh = map_answers_empty_step (λ w. w.answers.items) old new w c.loop-thread.thread c.loop-thread.invariant.fresh c.in_ok-new.ensures.fresh
           c.in_ok-push.ensures.items;
-      works = none_failed_after_unbroken_world_is_appended (λ w. w.failed) old new w c.loop-thread.invariant.works c.in_ok-push.ensures.items c.in_ok-new.ensures.works;
+      works = none_failed_push (λ w. w.failed) old new w c.loop-thread.invariant.works c.in_ok-push.ensures.items c.in_ok-new.ensures.works;
     }

@@ -1,4 +1,4 @@
-use Rattle.ir_checkpoint.proofs.Calls.{is_store_after_new, keeping_after_new_is_new}
+use Rattle.ir_checkpoint.proofs.Calls.{is_store_after_new, keeping_after_new}
 use Rattle.ir_checkpoint.proofs.keeper.Keeper.new.Goals as goal
 
 pub invariant_of-result : goal.invariant_of-result
@@ -8,5 +8,5 @@ invariant_of-result c =
 
 pub returns : goal.returns
 returns c =
-    keeping_after_new_is_new c.args.fitted.now c.in_ok-start.start c.in_ok-entries.entries.items c.push.new.self.items c.in_ok-entry_of.field-0 c.in_ok-start.ensures.start
+    keeping_after_new c.args.fitted.now c.in_ok-start.start c.in_ok-entries.entries.items c.push.new.self.items c.in_ok-entry_of.field-0 c.in_ok-start.ensures.start
     c.in_ok-entry_of.ensures.memories c.in_ok-entries.ensures.items c.in_ok-entry_of.ensures.value c.in_ok-push.ensures.items

@@ -1,7 +1,7 @@
 use Rattle.std.proofs.Common.{arith}
 use Rattle.ir_coherence.specs.Counting.{count_at}
 use Rattle.ir_coherence.specs.declared.entry_counts.ObjectCounts.{ObjectCounts}
-use Rattle.ir_coherence.proofs.Tables.{values_stay_zero_after_zero_push}
+use Rattle.ir_coherence.proofs.Tables.{zero_push_keeps_values}
 use Rattle.ir_coherence.proofs.entry_counts.EntryCounts.new.Goals as goal
 
 pub loop-limit-preserved : goal.loop-limit-preserved
@@ -10,9 +10,9 @@ loop-limit-preserved c =
     record {
       objects = omega (arith, c.in_ok-push.ensures.len, c.loop-limit.invariant.objects);
       reads = λ o v. rw c.in_ok-push.ensures.items
-          (values_stay_zero_after_zero_push (λ (x : ObjectCounts). count_at x.reads v) c.loop-limit.objects.items one o (c.in_ok-reads.ensures v)
+          (zero_push_keeps_values (λ (x : ObjectCounts). count_at x.reads v) c.loop-limit.objects.items one o (c.in_ok-reads.ensures v)
           (λ p. c.loop-limit.invariant.reads p v));
       writes = λ o v. rw c.in_ok-push.ensures.items
-          (values_stay_zero_after_zero_push (λ (x : ObjectCounts). count_at x.writes v) c.loop-limit.objects.items one o (c.in_ok-writes.ensures v)
+          (zero_push_keeps_values (λ (x : ObjectCounts). count_at x.writes v) c.loop-limit.objects.items one o (c.in_ok-writes.ensures v)
           (λ p. c.loop-limit.invariant.writes p v));
     }

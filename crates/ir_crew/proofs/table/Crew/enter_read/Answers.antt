@@ -4,7 +4,7 @@ use Rattle.ir_runs.specs.declared.access.Access.TheVariants.{Reading}
 use Rattle.ir_crew.specs.Plays.{M, history, inside_by, did, read_entry}
 use Rattle.ir_crew.specs.declared.deed.Deed.TheVariants.{Enter}
 use Rattle.ir_crew.specs.Rule.{entries, shared_of}
-use Rattle.ir_crew.proofs.Steps.{look_is_allowed, read_entry_is_allowed, tried_deed_is_done_if_word_is_expected, alone_if_same_seat}
+use Rattle.ir_crew.proofs.Steps.{look_is_allowed, read_entry_is_allowed, expected_deed_is_done, alone_if_same_seat}
 use Rattle.ir_crew.proofs.table.Crew.enter_read.Goals as goal
 
 pub load-seen-requires : goal.load-seen-requires
@@ -38,7 +38,7 @@ returns-then-found-seen-clause-seat g c = let e = c.compare_exchange-found.ensur
 
 pub returns-then-found-seen-clause-entered : goal.returns-then-found-seen-clause-entered
 returns-then-found-seen-clause-entered g c =
-    tried_deed_is_done_if_word_is_expected read_entry c.args.self.now.table.shared.table_id.slots c.args.object c.loop.seen (c.loop.seen + 2)
+    expected_deed_is_done read_entry c.args.self.now.table.shared.table_id.slots c.args.object c.loop.seen (c.loop.seen + 2)
     c.compare_exchange-found.result c.loop.seat.me c.args.seat.now.me c.compare_exchange-found.new.seat.me
     c.compare_exchange-found.ensures.2 c.if-found-seen.true c.loop.invariant.me
     ∙ ap (λ v. (did c.args.seat.now.me.0 c.args.object (Enter Reading v 0), c.args.seat.now.me.1)) (sym c.version.ensures)

@@ -3,7 +3,7 @@ use Rattle.ir_thread.specs.State.{most_events}
 use Rattle.ir_crew.specs.Plays.{M, history, did, try_entry}
 use Rattle.ir_crew.specs.declared.deed.Deed.TheVariants.{Try}
 use Rattle.ir_crew.specs.Rule.{entries, shared_of}
-use Rattle.ir_crew.proofs.Steps.{look_is_allowed, try_exchange_is_allowed_if_writer_admitted, tried_deed_is_done_if_word_is_expected, alone_if_same_seat}
+use Rattle.ir_crew.proofs.Steps.{look_is_allowed, try_exchange_allowed, expected_deed_is_done, alone_if_same_seat}
 use Rattle.ir_crew.proofs.table.Crew.try_write.Goals as goal
 
 pub load-seen-requires : goal.load-seen-requires
@@ -20,7 +20,7 @@ pub compare_exchange-found-requires : goal.compare_exchange-found-requires
 compare_exchange-found-requires c = let e = c.load-seen.ensures in (
   e.0 ∙ c.requires.seat.0,
   (let o = c.requires.object in let w = c.args.self.now.words in omega (arith, o, w)),
-  try_exchange_is_allowed_if_writer_admitted _ _ _ c.args.object c.load-seen.result c.load-seen.new.seat.me
+  try_exchange_allowed _ _ _ c.args.object c.load-seen.result c.load-seen.new.seat.me
       (alone_if_same_seat c.load-seen.new.seat.me c.args.seat.now.me e.2.0 c.requires.seat.1) c.requires.object
       (subst (λ (m : M). entries (map shared_of (history m.0)) < most_events) (sym e.2.0) c.requires.room)
       (c.can_write.ensures.0 c.if-not-can_write.false),
@@ -37,7 +37,7 @@ returns-then-found-seen-clause-seat c = let e = c.compare_exchange-found.ensures
 
 pub returns-then-found-seen-clause-tried : goal.returns-then-found-seen-clause-tried
 returns-then-found-seen-clause-tried c =
-    tried_deed_is_done_if_word_is_expected try_entry c.args.self.now.table.shared.table_id.slots c.args.object c.load-seen.result (c.load-seen.result + 1)
+    expected_deed_is_done try_entry c.args.self.now.table.shared.table_id.slots c.args.object c.load-seen.result (c.load-seen.result + 1)
     c.compare_exchange-found.result c.load-seen.new.seat.me c.args.seat.now.me c.compare_exchange-found.new.seat.me
     c.compare_exchange-found.ensures.2 c.if-found-seen.true c.load-seen.ensures.2.0
     ∙ (λ i. (did c.args.seat.now.me.0 c.args.object (Try (sym c.version.ensures i) (sym c.left.ensures i)), c.args.seat.now.me.1))

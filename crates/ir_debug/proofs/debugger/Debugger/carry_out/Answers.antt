@@ -6,7 +6,7 @@ use Rattle.ir_timeline.specs.Hand.{IsCutOf}
 use Rattle.ir_debug.specs.Machine.{if_some, thread_named}
 use Rattle.ir_command.specs.declared.command.Command.TheVariants as command
 use Rattle.ir_debug.specs.Debugging.{Debugging}
-use Rattle.ir_debug.proofs.CarriedOut.{thread_test_is_true_for_permitted_move}
+use Rattle.ir_debug.proofs.CarriedOut.{permitted_thread_test}
 use Rattle.ir_debug.proofs.debugger.Debugger.carry_out.Goals as goal
 
 pub destination-requires-clause-cut : goal.destination-requires-clause-cut
@@ -18,7 +18,7 @@ pub destination-requires-clause-thread : goal.destination-requires-clause-thread
 destination-requires-clause-thread g c =
     subst (λ (f : FittedTrace). if_some (thread_named (command.Move c.args.to)) (λ t. nat_lt t (threads_of f)) ≡ true)
     (sym (c.fitted.ensures.value ∙ ap (λ (d : Debugging). d.desk.fitted) c.self.view_is))
-    (thread_test_is_true_for_permitted_move c.args.self.now.desk c.args.to c.requires)
+    (permitted_thread_test c.args.self.now.desk c.args.to c.requires)
 
 pub go_to-requires-clause-consistent : goal.go_to-requires-clause-consistent
 go_to-requires-clause-consistent g c κs within =

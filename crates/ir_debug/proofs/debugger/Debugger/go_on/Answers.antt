@@ -5,9 +5,9 @@ use Rattle.ir_command.specs.declared.command.Command.TheVariants as command
 use Rattle.ir_hits.specs.Hits.{Finds}
 use Rattle.ir_timeline.specs.Hand.{IsCutOf}
 use Rattle.ir_debug.specs.Debugging.{Debugging}
-use Rattle.ir_debug.proofs.Desks.{is_debugging_if_desk_is_not_fresh}
+use Rattle.ir_debug.proofs.Desks.{moved_is_debugging}
 use Rattle.ir_debug.proofs.Passed.{named_thread_exists}
-use Rattle.ir_debug.proofs.Leading.{stop_at_most_last_position}
+use Rattle.ir_debug.proofs.Leading.{stop_le_last}
 use Rattle.ir_debug.proofs.debugger.Debugger.go_on.Goals as goal
 
 pub search-requires-clause-thread : goal.search-requires-clause-thread
@@ -16,13 +16,13 @@ search-requires-clause-thread g c κs within =
     (named_thread_exists c.args.self.now.desk (command.Continue c.args.thread c.args.direction) c.args.thread c.requires refl)
 
 pub invariant_of-self : goal.invariant_of-self
-invariant_of-self g c = is_debugging_if_desk_is_not_fresh _ _ _ c.search.ensures.fitted refl refl refl refl c.self.invariant.desk
+invariant_of-self g c = moved_is_debugging _ _ _ c.search.ensures.fitted refl refl refl refl c.self.invariant.desk
 
 pub invariant_of-self-in_err-cut : goal.invariant_of-self-in_err-cut
-invariant_of-self-in_err-cut g c = is_debugging_if_desk_is_not_fresh _ _ _ c.search.ensures.fitted refl refl refl refl c.self.invariant.desk
+invariant_of-self-in_err-cut g c = moved_is_debugging _ _ _ c.search.ensures.fitted refl refl refl refl c.self.invariant.desk
 
 pub invariant_of-self-2 : goal.invariant_of-self-2
-invariant_of-self-2 g c = is_debugging_if_desk_is_not_fresh _ _ _ c.search.ensures.fitted refl refl refl refl c.self.invariant.desk
+invariant_of-self-2 g c = moved_is_debugging _ _ _ c.search.ensures.fitted refl refl refl refl c.self.invariant.desk
 
 pub stop-requires-clause-cut : goal.stop-requires-clause-cut
 stop-requires-clause-cut g c =
@@ -42,7 +42,7 @@ stop-requires-clause-within g c =
     let f = c.self.inside.timeline.fitted in
     let finds = subst (λ points. EachRun f (λ run. Finds run f points c.args.thread (cut_of c.self.inside.at c.args.thread)
     c.args.direction c.in_ok-hit.hit)) c.as_slice-points.ensures c.in_ok-hit.ensures.finds in
-    stop_at_most_last_position c.fitted-fitted.result.now c.args.self.now.desk c.args.thread c.args.direction c.in_ok-hit.hit (sym same)
+    stop_le_last c.fitted-fitted.result.now c.args.self.now.desk c.args.thread c.args.direction c.in_ok-hit.hit (sym same)
     (subst HasRun (sym there) c.self.invariant.desk.run) (stop-requires-clause-thread g c)
     (subst (λ (z : Debugging). EachRun z.desk.fitted (λ run. Finds run z.desk.fitted z.desk.points c.args.thread
     (cut_of z.desk.at c.args.thread) c.args.direction c.in_ok-hit.hit)) c.self.view_is finds)

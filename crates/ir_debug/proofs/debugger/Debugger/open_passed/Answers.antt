@@ -1,7 +1,7 @@
 use Rattle.std.proofs.Common.{◌≡◌, ◌++◌, [], ◌∷◌, true, List, length, sym, ap, ◌∙◌, subst, arith}
 use Rattle.ir_fit.specs.Fit.{FittedTrace}
 use Rattle.ir_cut.specs.Positions.{cut_of}
-use Rattle.ir_weave.specs.Standing.{StandsAt}
+use Rattle.ir_weave.specs.Standing.{StandsAtCut}
 use Rattle.ir_hits.specs.Watchable.{AreWatchable}
 use Rattle.ir_timeline.specs.Hand.{IsCutOf}
 use Rattle.ir_debug.specs.Machine.{Kept}
@@ -34,6 +34,6 @@ invariant_of-result c =
         );
         few = omega (arith, long);
       });
-      fresh = λ e. subst (λ at. StandsAt c.in_ok-timeline.timeline.fitted (cut_of at) c.in_ok-timeline.timeline.state)
+      fresh = λ e. subst (λ at. StandsAtCut c.in_ok-timeline.timeline.fitted (cut_of at) c.in_ok-timeline.timeline.state)
           (sym c.in_ok-at.ensures.first) c.in_ok-timeline.ensures.start;
     }

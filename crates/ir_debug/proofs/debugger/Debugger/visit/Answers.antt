@@ -2,7 +2,7 @@ use Rattle.std.proofs.Common.{sym, ap, subst, refl}
 use Rattle.ir_fit.specs.Fit.{FittedTrace}
 use Rattle.ir_timeline.specs.Hand.{IsCutOf}
 use Rattle.ir_debug.specs.Debugging.{Debugging}
-use Rattle.ir_debug.proofs.Desks.{is_debugging_if_desk_is_not_fresh}
+use Rattle.ir_debug.proofs.Desks.{moved_is_debugging}
 use Rattle.ir_debug.proofs.debugger.Debugger.visit.Goals as goal
 
 pub go_to-requires-after_bounds : goal.go_to-requires-after_bounds
@@ -10,4 +10,4 @@ go_to-requires-after_bounds g c κs within =
     subst (λ (f : FittedTrace). IsCutOf f c.args.cut.now) (sym (ap (λ (d : Debugging). d.desk.fitted) c.self.view_is)) c.requires
 
 pub invariant_of-self : goal.invariant_of-self
-invariant_of-self g c = is_debugging_if_desk_is_not_fresh _ _ _ c.go_to.ensures.fitted refl refl refl refl c.self.invariant.desk
+invariant_of-self g c = moved_is_debugging _ _ _ c.go_to.ensures.fitted refl refl refl refl c.self.invariant.desk

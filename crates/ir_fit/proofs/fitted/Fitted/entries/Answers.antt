@@ -3,7 +3,7 @@ use Rattle.std.proofs.lemmas.List.{get_or_read}
 use Rattle.ir_fit.specs.Fit.{FittedTrace}
 use Rattle.ir_fit.specs.Growing.{none_placed}
 use Rattle.ir_fit.specs.Placed.{Placed, placed_at, placed_of}
-use Rattle.ir_fit.proofs.Placements.{length_of_placed_is_threads}
+use Rattle.ir_fit.proofs.Placements.{length-placed_of}
 use Rattle.ir_fit.proofs.fitted.Fitted.entries.Goals as goal
 
 pub index-requires : goal.index-requires
@@ -14,7 +14,7 @@ index-requires c =
       c.requires,
       c.self.inside.places.ok,
       ap length c.self.invariant.1,
-      length_of_placed_is_threads f,
+      length-placed_of f,
       ap (λ (g : FittedTrace). length g.guest.entries) c.self.view_is,
     )
 
@@ -26,7 +26,7 @@ returns c =
       arith,
       c.requires,
       ap length c.self.invariant.1,
-      length_of_placed_is_threads f,
+      length-placed_of f,
       ap (λ (g : FittedTrace). length g.guest.entries) c.self.view_is,
     ) in
     c.entries.ensures ∙ ap (λ (p : Placed). p.entries) (get_or_read ps c.args.t c.index.result.now within c.index.ensures none_placed)

@@ -2,18 +2,18 @@ use Rattle.std.proofs.Common.{◌≡◌, ◌<◌, ◌≤◌, ℕ, List, length, 
 use Rattle.ir_trace.specs.Recorded.{recorded_thread}
 use Rattle.ir_fit.specs.Fit.{FittedTrace, HasRun}
 use Rattle.ir_fit.specs.Placed.{Placed, placed_at, placed_of}
-use Rattle.ir_fit.proofs.Listed.{event_positions_are_as_many_as_events}
-use Rattle.ir_fit.proofs.Placements.{length_of_placed_is_threads}
+use Rattle.ir_fit.proofs.Listed.{entries_count_events}
+use Rattle.ir_fit.proofs.Placements.{length-placed_of}
 use Rattle.ir_fit.proofs.fitted.Fitted.new.Goals as goal
 
 places_not_above_threads : (f : FittedTrace) (ps : List Placed) → HasRun f → ps ≡ placed_of f → length ps ≤ length f.recorded.threads
-places_not_above_threads f ps run placed = omega (arith, ap length placed, length_of_placed_is_threads f, run.whole.0.threads)
+places_not_above_threads f ps run placed = omega (arith, ap length placed, length-placed_of f, run.whole.0.threads)
 
 events_not_above_positions : (f : FittedTrace) (ps : List Placed) → HasRun f → ps ≡ placed_of f → (t : ℕ) → t < length ps
     → length (recorded_thread f.recorded t).events ≤ length (placed_at ps t).entries
 events_not_above_positions f ps run placed t l =
-    let within : t < length f.guest.entries = omega (arith, l, ap length placed, length_of_placed_is_threads f) in
-    let same = event_positions_are_as_many_as_events f run t within in
+    let within : t < length f.guest.entries = omega (arith, l, ap length placed, length-placed_of f) in
+    let same = entries_count_events f run t within in
     subst (λ (qs : List Placed). length (recorded_thread f.recorded t).events ≤ length (placed_at qs t).entries) (sym placed) (omega (arith, same))
 
 pub entered-requires-clause-each : goal.entered-requires-clause-each

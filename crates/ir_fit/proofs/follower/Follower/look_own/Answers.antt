@@ -1,6 +1,6 @@
 use Rattle.std.proofs.Common.{refl, subst}
 use Rattle.ir_fit.specs.Ahead.{IsOwn}
-use Rattle.ir_fit.proofs.Seen.{own_ask_can_follow_if_step_is_ahead}
+use Rattle.ir_fit.proofs.Seen.{own_ask_can_follow}
 use Rattle.ir_fit.proofs.follower.Follower.look_own.Goals as goal
 
 pub returns : goal.returns
@@ -10,6 +10,6 @@ returns c = (
     below = c.requires.thread;
     asked = c.requires.asked;
     follows =
-        own_ask_can_follow_if_step_is_ahead c.args.self.now.trace c.args.self.now.flat c.args.t (subst IsOwn c.requires.asked c.requires.own) c.requires.steps;
+        own_ask_can_follow c.args.self.now.trace c.args.self.now.flat c.args.t (subst IsOwn c.requires.asked c.requires.own) c.requires.steps;
   },
 )

@@ -2,7 +2,7 @@ use Rattle.std.proofs.Common.{◌≡◌, ◌<◌, sym, ◌∙◌, ap, subst, len
 use Rattle.ir_thread.specs.State.{ask_of}
 use Rattle.ir_flat.specs.Flat.{thread_of}
 use Rattle.ir_fit.specs.Follower.{all_ahead, IsPlaced}
-use Rattle.ir_fit.proofs.Moves.{MoveTaken, move_taken_by_result, object_exists_if_thread_leaves_it}
+use Rattle.ir_fit.proofs.Moves.{MoveTaken, move_taken_by_result, left_object_exists}
 use Rattle.ir_fit.proofs.follower.Follower.take.Goals as goal
 use Rattle.ir_fit.proofs.follower.Follower.take.Goals.{After-wake}
 
@@ -56,7 +56,7 @@ take-requires-clause-asked c = subst (λ f. c.args.next.asked ≡ ask_of f.code 
 
 pub bounds-objects-object : goal.bounds-objects-object
 bounds-objects-object c =
-    let within = object_exists_if_thread_leaves_it c.args.self.now.flat c.args.next.thread c.in-Leave.object c.in-Leave.field-1 c.place.ensures.within
+    let within = left_object_exists c.args.self.now.flat c.args.next.thread c.in-Leave.object c.in-Leave.field-1 c.place.ensures.within
     c.requires.follows.below (sym c.requires.follows.asked ∙ c.in-Leave.is) in
     let same = ap (λ xs. length xs) c.objects.ensures.value ∙ c.take.ensures.objects ∙ ap (λ z. length z.objects) c.place.ensures.flat in
     subst (λ n. c.in-Leave.object < n) (sym same) within

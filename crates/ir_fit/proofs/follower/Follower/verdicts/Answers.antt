@@ -1,5 +1,5 @@
 use Rattle.std.proofs.Common.{◌≡◌, [], ◌∷◌, length, Some, slice_get, sym, ap, ◌∙◌, subst, arith, inl, inr, length-append}
-use Rattle.ir_lemmas.proofs.CallerLemmas.{slice_get_after_push_cases}
+use Rattle.ir_lemmas.proofs.CallerLemmas.{slice_get-push_cases}
 use Rattle.ir_flat.specs.Flat.{start_flat, tables, machine}
 use Rattle.ir_trace.specs.Recorded.{trace_of}
 use Rattle.ir_runs.specs.Standing.{StandsAs}
@@ -10,7 +10,7 @@ loop-t-preserved c = record {
   size = ap (λ xs. length xs) c.in_ok-push.ensures.items
       ∙ (let long = length-append c.loop-t.verdicts.items (c.verdict.result ∷ []) in let size = c.loop-t.invariant.size in
       omega (arith, long, size));
-  stand = λ guest k t v h. elim (slice_get_after_push_cases c.loop-t.verdicts.items c.verdict.result t v
+  stand = λ guest k t v h. elim (slice_get-push_cases c.loop-t.verdicts.items c.verdict.result t v
       (subst (λ xs. slice_get xs t ≡ Some v) c.in_ok-push.ensures.items h)) [
         | inl g ↦ c.loop-t.invariant.stand guest k t v g
         | inr e ↦

@@ -3,14 +3,14 @@ use Rattle.ir_thread.specs.State.{IsAllowed}
 use Rattle.ir_thread.specs.declared.profile.Profile.{Profile}
 use Rattle.ir_flat.specs.Flat.{start_flat}
 use Rattle.ir_flat.proofs.CallerLemmas.{length_of_start_threads}
-use Rattle.ir_fit.specs.Ahead.{IsStopped}
-use Rattle.ir_fit.proofs.Guests.{guest_with_header_is_allowed}
+use Rattle.ir_fit.specs.Ahead.{IsStoppedAhead}
+use Rattle.ir_fit.proofs.Guests.{header_guest_is_allowed}
 use Rattle.ir_fit.proofs.Moves.{followed_if_all_stopped, start_is_follower, start_is_placed, start_has_no_places, empty_growing_for}
 use Rattle.ir_fit.proofs.follower.ending.followed.Goals as goal
 
 pub start-requires-clause-allowed : goal.start-requires-clause-allowed
 start-requires-clause-allowed g c = subst (λ (p : Profile). IsAllowed p c.args.image.now) (sym c.profile.ensures)
-    (guest_with_header_is_allowed c.args.image.now c.args.trace c.budget.ensures.within c.requires)
+    (header_guest_is_allowed c.args.image.now c.args.trace c.budget.ensures.within c.requires)
 
 pub follow-requires : goal.follow-requires
 follow-requires g c =
@@ -36,7 +36,7 @@ returns-clause-followed g c =
     ∙ ap (map empty_growing_for) c.threads.ensures.value in
     followed_if_all_stopped c.args.image.now c.args.trace c.in_ok-flat.flat c.follow.new.self.flat c.in_ok-places.places.items
     c.follow.new.self.places.items start (start_has_no_places c.args.trace c.in_ok-places.places.items rooms) c.follow.ensures.goes
-    (λ t l. subst (λ z. IsStopped z c.follow.new.self.flat t) c.follow.ensures.trace (c.follow.ensures.stopped t l))
+    (λ t l. subst (λ z. IsStoppedAhead z c.follow.new.self.flat t) c.follow.ensures.trace (c.follow.ensures.stopped t l))
 
 pub returns-clause-passed : goal.returns-clause-passed
 returns-clause-passed g c =

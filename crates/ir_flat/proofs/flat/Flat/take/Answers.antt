@@ -4,7 +4,7 @@ use Rattle.ir_thread.specs.Permitted.{Permits}
 use Rattle.ir_thread.specs.declared.ask.Ask.{Ask}
 use Rattle.ir_thread.proofs.CallerLemmas.{ask_of_permitted}
 use Rattle.ir_flat.specs.Flat.{Flat, thread_of}
-use Rattle.ir_flat.proofs.Keeps.{step_test_iff_can, failed_test_cannot_step, flat_after_tested_step, tables_after_tested_step}
+use Rattle.ir_flat.proofs.Keeps.{step_test_iff_can, failed_test_cannot_step, flat_after_tested_step, tables_of_tested_step}
 use Rattle.ir_flat.proofs.flat.Flat.take.Goals as goal
 
 -- what is asked, of the value that the code's parts are
@@ -37,7 +37,7 @@ returns-clause-admitted c = (step_test_iff_can c.self.inside.parts c.args.self.n
     c.may.ensures).0 c.if-not-may.false
 
 pub returns-clause-taken : goal.returns-clause-taken
-returns-clause-taken c = tables_after_tested_step c.self.inside.parts c.args.self.now c.step.new.self c.args.t c.args.r c.args.asked c.may.result
+returns-clause-taken c = tables_of_tested_step c.self.inside.parts c.args.self.now c.step.new.self c.args.t c.args.r c.args.asked c.may.result
     c.self.view_is c.requires.thread c.self.invariant
     (asks c.self.inside.parts c.args.self.now c.args.t c.args.asked c.self.view_is c.requires.asked) c.may.ensures c.if-not-may.false
     c.step.ensures

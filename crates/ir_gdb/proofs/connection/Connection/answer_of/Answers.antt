@@ -1,7 +1,7 @@
 use Rattle.std.proofs.Common.{◌≡◌, ◌∙◌, ◌++◌, List, ℕ, ap}
 use Rattle.ir_packet.specs.Requests.{console_line}
 use Rattle.ir_gdb.specs.Connection.{Connecting}
-use Rattle.ir_gdb.proofs.Lines.{line_does_not_quit_if_text_does_not, responds_kept_text_if_kept_from_empty}
+use Rattle.ir_gdb.proofs.Lines.{line_does_not_quit, responds_kept_text}
 use Rattle.ir_gdb.proofs.connection.Connection.answer_of.Goals as goal
 
 pub returns-clause-answer : goal.returns-clause-answer
@@ -9,11 +9,11 @@ returns-clause-answer g c =
     let line : c.put_line.new.out.items ≡ console_line c.args.self.now.reading.payload = c.put_line.ensures.line
     ∙ ap (λ (xs : List ℕ). xs ++ console_line c.payload.result.now) c.clear.ensures.items
     ∙ ap console_line (c.payload.ensures ∙ ap (λ (x : Connecting). x.reading.payload) c.self.view_is) in (
-      line_does_not_quit_if_text_does_not (console_line c.args.self.now.reading.payload) c.as_slice.result.now c.quits.result c.quits.ensures
+      line_does_not_quit (console_line c.args.self.now.reading.payload) c.as_slice.result.now c.quits.result c.quits.ensures
           (c.as_slice.ensures.value ∙ line) c.if-quits.false,
       (
         c.respond.new.self.stub,
-        responds_kept_text_if_kept_from_empty c.self.inside.remote.stub c.args.self.now.link.stub c.as_slice-line.result.now
+        responds_kept_text c.self.inside.remote.stub c.args.self.now.link.stub c.as_slice-line.result.now
             (console_line c.args.self.now.reading.payload) c.respond.new.self.stub c.in-Ok.answered.bytes.items
             c.respond.new.writer.bytes.items (ap (λ (x : Connecting). x.link.stub) c.self.view_is) (c.as_slice-line.ensures.value ∙ line)
             c.in-Ok.ensures.bytes c.in-Ok-respond.ensures.ok,

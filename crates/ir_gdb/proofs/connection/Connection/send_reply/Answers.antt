@@ -2,12 +2,12 @@ use Rattle.std.proofs.Common.{◌≡◌, ◌∙◌, ◌++◌, arith, ap, subst, 
 use Rattle.ir_stream.specs.Writing.{WritesText}
 use Rattle.ir_packet.specs.Packets.{packet_of}
 use Rattle.ir_packet.specs.Replies.{reply_text}
-use Rattle.ir_gdb.proofs.Written.{reply_text_has_at_most_30_bytes}
+use Rattle.ir_gdb.proofs.Written.{reply_text_is_short}
 use Rattle.ir_gdb.proofs.connection.Connection.send_reply.Goals as goal
 
 pub put_text-requires : goal.put_text-requires
 put_text-requires g c =
-    let short = reply_text_has_at_most_30_bytes c.args.reply in
+    let short = reply_text_is_short c.args.reply in
     let text = ap (λ (xs : List ℕ). length xs) c.reply_text.ensures in
     let room = c.self.invariant.0 in
     let kept = c.clear.ensures.capacity in

@@ -5,7 +5,7 @@ use Rattle.ir_stream.specs.declared.serving.Flow.TheVariants.{Quits}
 use Rattle.ir_packet.specs.Reading.{Reading, item_found, items_found}
 use Rattle.ir_packet.specs.Stream as stream
 use Rattle.ir_gdb.specs.Connection.{Connecting, item_ends}
-use Rattle.ir_gdb.proofs.Items.{AfterBytes, found_payload_within_limit, after_bytes_at_start, at_byte, at_item, quit_ended, quit_known, write_failed}
+use Rattle.ir_gdb.proofs.Items.{AfterBytes, found_payload_within, after_bytes_at_start, at_byte, at_item, quit_ended, quit_known, write_failed}
 use Rattle.ir_gdb.proofs.connection.Connection.serve.Goals as goal
 
 goes : (f : Flow) (b : Bool) → f ≡ flow_after b → (f ≡ Quits → ⊥) → b ≡ false
@@ -45,7 +45,7 @@ loop-taken-preserved-in_default g c =
 
 pub take-requires-in-loop-taken-after_bounds : goal.take-requires-in-loop-taken-after_bounds
 take-requires-in-loop-taken-after_bounds g c κs within = λ is.
-    found_payload_within_limit c.in-Some.found c.self.inside.reader.place c.in-Byte.byte c.take.new.self.payload c.in-Some.ensures.found is
+    found_payload_within c.in-Some.found c.self.inside.reader.place c.in-Byte.byte c.take.new.self.payload c.in-Some.ensures.found is
 
 pub returns-in_err-take-clause-write : goal.returns-in_err-take-clause-write
 returns-in_err-take-clause-write g c =
@@ -116,7 +116,13 @@ loop-taken-preserved g c =
           c.in-Some.ensures.found
           c.take-in-loop-taken.new.self.link (g.W.Sink.written c.take-in-loop-taken.new.writer) c.take-in-loop-taken.new.self.reading.place
           (ap (λ (r : Reading). r.place) c.in_ok-take.ensures.reading ∙ c.in-Some.ensures.place)
-          (goes c.in_ok-take.field-0 (item_ends (record { stub = c.self.inside.remote.stub; acknowledges = c.self.inside.acknowledges; is_owed = c.self.inside.is_owed; last = c.self.inside.packet.items })
+          (goes c.in_ok-take.field-0
+          (item_ends (record {
+            stub = c.self.inside.remote.stub;
+            acknowledges = c.self.inside.acknowledges;
+            is_owed = c.self.inside.is_owed;
+            last = c.self.inside.packet.items;
+          })
           (item_found c.in-Some.found c.take.new.self.payload)) c.in_ok-take.ensures.flow c.in_default-2.not-Quits) c.in_ok-take.ensures.writes.ok;
       reads = c.in-Byte.ensures.broken ∙ c.loop-taken.invariant.reads;
       writes = c.in_ok-take.ensures.writes.stays ∙ c.loop-taken.invariant.writes;

@@ -5,7 +5,7 @@ use Rattle.ir_cut.specs.Positions.{IsConsistentCut, cut_of, threads_of}
 use Rattle.ir_timeline.specs.Hand.{IsCutOf}
 use Rattle.ir_gdb.specs.Serving.{Serving}
 use Rattle.ir_gdb.specs.Stops.{position_of}
-use Rattle.ir_gdb.proofs.There.{greatest_cut_to_position_behind_is_exactly_there, if_ok_of_both_facts}
+use Rattle.ir_gdb.proofs.There.{greatest_behind_exact, if_ok_of_both_facts}
 use Rattle.ir_gdb.proofs.remote.Remote.cut_behind.Goals as goal
 
 pub returns-clause-cut : goal.returns-clause-cut
@@ -19,5 +19,5 @@ returns-clause-there c =
     let d = c.self.inside.debugger.desk in
     let low = subst (λ (s : Serving). c.args.position ≤ position_of s.stub c.args.thread) (sym c.self.view_is) c.requires.within.0 in
     IfOk-weaker c.cut_with.result _ (λ cut. cut_of cut c.args.thread ≡ c.args.position)
-    (λ cut so. greatest_cut_to_position_behind_is_exactly_there c.greatest_exact.ensures d.fitted d.at cut c.args.thread c.args.position c.fitted.ensures.desk.run c.fitted.ensures.desk.at low so)
+    (λ cut so. greatest_behind_exact c.greatest_exact.ensures d.fitted d.at cut c.args.thread c.args.position c.fitted.ensures.desk.run c.fitted.ensures.desk.at low so)
     c.cut_with.ensures.stops

@@ -1,14 +1,14 @@
 use Rattle.std.proofs.Common.{◌∙◌, ℕ, List, length, sym, ap, arith}
 use Rattle.std.proofs.lemmas.Result.{on_ok_weaker}
 use Rattle.ir_packet.specs.declared.reply.Reply.TheVariants as reply
-use Rattle.ir_gdb.proofs.Written.{reply_text_has_at_most_30_bytes}
+use Rattle.ir_gdb.proofs.Written.{reply_text_is_short}
 use Rattle.ir_gdb.proofs.Moving.{replies_to_move}
 use Rattle.ir_gdb.proofs.remote.Remote.make_move.Goals as goal
 
 pub put_text-requires : goal.put_text-requires
 put_text-requires g c =
     let text = ap (λ (xs : List ℕ). length xs) c.reply_text.ensures in
-    let short = reply_text_has_at_most_30_bytes reply.NotPermitted in
+    let short = reply_text_is_short reply.NotPermitted in
     let room = c.requires in
     omega (arith, text, short, room)
 

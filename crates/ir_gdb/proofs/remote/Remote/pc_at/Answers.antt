@@ -2,7 +2,7 @@ use Rattle.std.proofs.Common.{◌≡◌, ◌≤◌, ◌∙◌, ℕ, List, sym, a
 use Rattle.std.proofs.lemmas.Result.{IfOk-weaker}
 use Rattle.ir_cut.specs.Positions.{EachRun, cut_of, last_of, thread_at}
 use Rattle.ir_gdb.specs.Stub.{Stub}
-use Rattle.ir_gdb.proofs.Ranging.{pc_in_cut_is_pc_at_position}
+use Rattle.ir_gdb.proofs.Ranging.{pc_in_cut_is_run_pc}
 use Rattle.ir_gdb.proofs.remote.Remote.pc_at.Goals as goal
 
 pub cut_on-requires-clause-within : goal.cut_on-requires-clause-within
@@ -19,4 +19,4 @@ returns-clause-pc g c =
     let t = c.args.thread in
     let p = c.args.position in
     IfOk-weaker c.pc_in.result _ (λ pc. EachRun s.desk.fitted (λ run. pc ≡ (thread_at s.desk.fitted run t p).core.pc))
-    (λ pc is. pc_in_cut_is_pc_at_position s c.speak.new.self.stub t p pc c.in_ok-cut.cut c.speak.ensures c.in_ok-cut.ensures.there is) c.pc_in.ensures.pc
+    (λ pc is. pc_in_cut_is_run_pc s c.speak.new.self.stub t p pc c.in_ok-cut.cut c.speak.ensures c.in_ok-cut.ensures.there is) c.pc_in.ensures.pc

@@ -1,25 +1,27 @@
 use Rattle.std.proofs.Common.{ℕ, List, length, refl, ap, arith, inl, inr}
 use Rattle.ir_packet.specs.declared.request.Request.TheVariants as request
 use Rattle.ir_gdb.proofs.Answering.{on_ok_of_implied, on_err_of_implied}
-use Rattle.ir_gdb.proofs.Replying.{requests_without_plain_reply_are_listed, supported_put, description_put, threads_put, reason_put, registers_put, register_put, memory_put, move_put, restart_put, restart_at_put, lacks_if_request_may_lack_and_nothing_is_put, lacks_if_reading_fails, length_of_supported_text_is_137, length_of_description_text_is_1939}
+use Rattle.ir_gdb.proofs.Replying.{unreplied_are_listed, supported_put, description_put, threads_put, reason_put, registers_put}
+use Rattle.ir_gdb.proofs.Replying.{register_put, memory_put, move_put, restart_put, restart_at_put, lacks_if_nothing_put}
+use Rattle.ir_gdb.proofs.Replying.{lacks_if_reading_fails, length-supported_text, length-description_text}
 use Rattle.ir_gdb.proofs.remote.Remote.put_read.Goals as goal
 
 pub put_text-requires : goal.put_text-requires
 put_text-requires g c =
     let text = ap (λ (xs : List ℕ). length xs) c.supported.ensures in
-    let short = length_of_supported_text_is_137 in
+    let short = length-supported_text in
     let room = c.requires.room in
     omega (arith, text, short, room)
 
 pub put_piece-requires : goal.put_piece-requires
 put_piece-requires g c =
     let text = ap (λ (xs : List ℕ). length xs) c.description.ensures in
-    let short = length_of_description_text_is_1939 in
+    let short = length-description_text in
     let room = c.requires.room in
     omega (arith, text, short, room)
 
 pub unreachable-requires : goal.unreachable-requires
-unreachable-requires g c = requests_without_plain_reply_are_listed c.args.self.now.stub c.args.request c.requires.replies c.requires.reads c.in_default.not-Supported
+unreachable-requires g c = unreplied_are_listed c.args.self.now.stub c.args.request c.requires.replies c.requires.reads c.in_default.not-Supported
     c.in_default.not-Description c.in_default.not-Threads c.in_default.not-Reason c.in_default.not-Registers c.in_default.not-Register
     c.in_default.not-Memory c.in_default.not-Move c.in_default.not-Restart c.in_default.not-RestartAt
 
@@ -37,7 +39,7 @@ returns-in-Threads-clause-ok g c = on_ok_of_implied c.threads.result _ _ (thread
     c.args.out.now.items c.threads.new.out.items c.in-Threads.from c.in-Threads.most c.in-Threads.is refl) c.threads.ensures.ok
 
 pub returns-in-Threads-clause-err : goal.returns-in-Threads-clause-err
-returns-in-Threads-clause-err g c = on_err_of_implied c.threads.result _ _ (lacks_if_request_may_lack_and_nothing_is_put c.args.self.now.stub c.args.request
+returns-in-Threads-clause-err g c = on_err_of_implied c.threads.result _ _ (lacks_if_nothing_put c.args.self.now.stub c.args.request
     (request.Threads c.in-Threads.from c.in-Threads.most) c.args.self.now.stub c.args.out.now.items c.threads.new.out.items c.in-Threads.is refl
     (inl refl)) c.threads.ensures.err
 
@@ -84,7 +86,7 @@ returns-in-Move-clause-ok g c = on_ok_of_implied c.make_move.result _ _ (move_pu
     c.args.out.now.items c.make_move.new.out.items c.in-Move.motion c.in-Move.mover c.in-Move.is) c.make_move.ensures.ok
 
 pub returns-in-Move-clause-err : goal.returns-in-Move-clause-err
-returns-in-Move-clause-err g c = on_err_of_implied c.make_move.result _ _ (λ e. lacks_if_request_may_lack_and_nothing_is_put c.args.self.now.stub c.args.request
+returns-in-Move-clause-err g c = on_err_of_implied c.make_move.result _ _ (λ e. lacks_if_nothing_put c.args.self.now.stub c.args.request
     (request.Move c.in-Move.motion c.in-Move.mover) c.make_move.new.self.stub c.args.out.now.items c.make_move.new.out.items c.in-Move.is refl
     (inr e.0) e.1) c.make_move.ensures.err
 
@@ -93,7 +95,7 @@ returns-in-Restart-clause-ok g c = on_ok_of_implied c.restart.result _ _ (restar
     c.args.out.now.items c.restart.new.out.items c.in-Restart.is) c.restart.ensures.ok
 
 pub returns-in-Restart-clause-err : goal.returns-in-Restart-clause-err
-returns-in-Restart-clause-err g c = on_err_of_implied c.restart.result _ _ (λ e. lacks_if_request_may_lack_and_nothing_is_put c.args.self.now.stub c.args.request request.Restart
+returns-in-Restart-clause-err g c = on_err_of_implied c.restart.result _ _ (λ e. lacks_if_nothing_put c.args.self.now.stub c.args.request request.Restart
     c.restart.new.self.stub c.args.out.now.items c.restart.new.out.items c.in-Restart.is refl (inr e.0) e.1) c.restart.ensures.err
 
 pub returns-in-RestartAt-clause-ok : goal.returns-in-RestartAt-clause-ok
@@ -102,6 +104,6 @@ returns-in-RestartAt-clause-ok g c = on_ok_of_implied c.restart-in-RestartAt.res
     c.restart-in-RestartAt.ensures.ok
 
 pub returns-in-RestartAt-clause-err : goal.returns-in-RestartAt-clause-err
-returns-in-RestartAt-clause-err g c = on_err_of_implied c.restart-in-RestartAt.result _ _ (λ e. lacks_if_request_may_lack_and_nothing_is_put c.args.self.now.stub c.args.request
+returns-in-RestartAt-clause-err g c = on_err_of_implied c.restart-in-RestartAt.result _ _ (λ e. lacks_if_nothing_put c.args.self.now.stub c.args.request
     (request.RestartAt c.in-RestartAt.number) c.restart-in-RestartAt.new.self.stub c.args.out.now.items c.restart-in-RestartAt.new.out.items
     c.in-RestartAt.is refl (inr e.0) e.1) c.restart-in-RestartAt.ensures.err

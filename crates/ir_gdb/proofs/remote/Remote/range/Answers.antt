@@ -10,9 +10,9 @@ use Rattle.ir_gdb.specs.declared.stopped.Stopped.{Stopped}
 use Rattle.ir_gdb.specs.Serving.{Serving}
 use Rattle.ir_gdb.specs.Stub.{Stub, stub_spoken}
 use Rattle.ir_gdb.specs.Stops.{watches_if, stop_above, ranged}
-use Rattle.ir_gdb.proofs.Bounds.{stop_above_is_within_last_if_hit_is}
-use Rattle.ir_gdb.proofs.Stopping.{serving_seen, watches_if_ignores_spoken_and_desk}
-use Rattle.ir_gdb.proofs.Ranging.{after_range_ignores_spoken, after_range_position_between_own_and_last, ranges_to_found_stop, next_hit_within_target}
+use Rattle.ir_gdb.proofs.Bounds.{stop_above_within_last}
+use Rattle.ir_gdb.proofs.Stopping.{serving_seen, watches_if_ignores_both}
+use Rattle.ir_gdb.proofs.Ranging.{after_range_ignores_spoken, after_range_between, ranges_to_found_stop, next_hit_within_target}
 use Rattle.ir_gdb.proofs.remote.Remote.range.Goals as goal
 
 pub search_up_to-requires-clause-cut : goal.search_up_to-requires-clause-cut
@@ -30,7 +30,7 @@ search_up_to-requires-clause-within g c κs within =
     let v = c.leaves.new.self.stub in
     let said = c.leaves.ensures.stub in
     let is = after_range_ignores_spoken s v t c.last-last.result left e said c.last-last.ensures c.after_range-end.ensures in
-    let fits = after_range_position_between_own_and_last s v t c.args.low c.args.high left c.in_ok-here.here e said
+    let fits = after_range_between s v t c.args.low c.args.high left c.in_ok-here.here e said
     (subst (λ (x : Serving). HasRun x.stub.desk.fitted) c.self.view_is c.fitted.ensures.desk.run)
     (subst (λ (n : ℕ). n ≤ last_of v.desk.fitted t) c.position.ensures.value c.position.ensures.within) c.in_ok-left.ensures.leaves
     c.in_ok-here.ensures.value is in
@@ -49,7 +49,7 @@ returns-in-Some-clause-stops g c =
     let is = after_range_ignores_spoken s v t c.last-last.result left e said c.last-last.ensures c.after_range-end.ensures in
     let h = c.in-Some.hit in
     let w = c.args.watched in
-    let mine = c.watches_if.ensures.value ∙ watches_if_ignores_spoken_and_desk s u c.search_up_to.new.self.desk w same in
+    let mine = c.watches_if.ensures.value ∙ watches_if_ignores_both s u c.search_up_to.new.self.desk w same in
     let breaks = c.as_slice.ensures ∙ ap (λ (x : Stub). x.breaks) same in
     let ends = c.stop_above.ensures ∙ ap (λ (x : List Watched). stop_above x c.as_slice.result.now h) mine
     ∙ ap (λ (x : List Breakpoint). stop_above (watches_if s w) x h) breaks ∙ ap (λ (x : Option Hit). ranged s t w left x) (sym c.in-Some.is) in
@@ -70,7 +70,7 @@ returns-in-Some-clause-within g c =
     let said = c.leaves.ensures.stub in
     let is = after_range_ignores_spoken s v t c.last-last.result left e said c.last-last.ensures c.after_range-end.ensures in
     let h = c.in-Some.hit in
-    let fits = after_range_position_between_own_and_last s v t c.args.low c.args.high left c.in_ok-here.here e said
+    let fits = after_range_between s v t c.args.low c.args.high left c.in_ok-here.here e said
     (subst (λ (x : Serving). HasRun x.stub.desk.fitted) c.self.view_is c.fitted.ensures.desk.run)
     (subst (λ (n : ℕ). n ≤ last_of v.desk.fitted t) c.position.ensures.value c.position.ensures.within) c.in_ok-left.ensures.leaves
     c.in_ok-here.ensures.value is in
@@ -79,7 +79,7 @@ returns-in-Some-clause-within g c =
     (subst (λ (x : Serving). EachRun x.stub.desk.fitted (λ run. IsNextHit x.stub.desk.fitted run c.as_slice-points.result.now t (cut_of c.in_ok-here.here t) e.position c.in_ok-hit.hit))
     c.self.view_is c.in_ok-hit.ensures.finds) c.in-Some.is in
     let most : h.position ≤ last_of v.desk.fitted t = omega (arith, high, fits.1) in
-    let low = stop_above_is_within_last_if_hit_is c.watches_if.result.now c.as_slice.result.now h (last_of v.desk.fitted t) most in
+    let low = stop_above_within_last c.watches_if.result.now c.as_slice.result.now h (last_of v.desk.fitted t) most in
     subst (λ (x : Stub). c.stop_above.result.position ≤ last_of x.desk.fitted t) said
     (subst (λ (x : Stopped). x.position ≤ last_of v.desk.fitted t) (sym c.stop_above.ensures) low)
 
@@ -112,7 +112,7 @@ returns-clause-within g c =
     let v = c.leaves.new.self.stub in
     let said = c.leaves.ensures.stub in
     let is = after_range_ignores_spoken s v t c.last-last.result left e said c.last-last.ensures c.after_range-end.ensures in
-    let fits = after_range_position_between_own_and_last s v t c.args.low c.args.high left c.in_ok-here.here e said
+    let fits = after_range_between s v t c.args.low c.args.high left c.in_ok-here.here e said
     (subst (λ (x : Serving). HasRun x.stub.desk.fitted) c.self.view_is c.fitted.ensures.desk.run)
     (subst (λ (n : ℕ). n ≤ last_of v.desk.fitted t) c.position.ensures.value c.position.ensures.within) c.in_ok-left.ensures.leaves
     c.in_ok-here.ensures.value is in

@@ -1,14 +1,14 @@
 use Rattle.std.proofs.Common.{rules, ◌≡◌, ◌∙◌, ℕ, List, true, length, sym, ap, arith}
 use Rattle.ir_packet.specs.declared.reply.Reply.TheVariants.{NotPermitted}
 use Rattle.ir_gdb.specs.Serving.{Serving}
-use Rattle.ir_gdb.proofs.Written.{reply_text_has_at_most_30_bytes}
+use Rattle.ir_gdb.proofs.Written.{reply_text_is_short}
 use Rattle.ir_gdb.proofs.Restarting.{restart_put_at}
 use Rattle.ir_gdb.proofs.remote.Remote.restart.Goals as goal
 
 pub put_text-requires : goal.put_text-requires
 put_text-requires g c =
     let text = ap (λ (xs : List ℕ). length xs) c.reply_text.ensures in
-    let short = reply_text_has_at_most_30_bytes NotPermitted in
+    let short = reply_text_is_short NotPermitted in
     let room = c.requires in
     omega (arith, text, short, room)
 

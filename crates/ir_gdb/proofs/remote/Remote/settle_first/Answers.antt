@@ -7,7 +7,7 @@ use Rattle.ir_gdb.specs.declared.stopped.Stopped.{Stopped}
 use Rattle.ir_gdb.specs.Stub.{Stub}
 use Rattle.ir_gdb.specs.Stops.{stopped}
 use Rattle.ir_gdb.specs.Together.{halt, AreStops, halt_or, first_met}
-use Rattle.ir_gdb.proofs.Moving.{stop_of_met_thread_ignores_default, met_by_first_and_settles}
+use Rattle.ir_gdb.proofs.Moving.{met_stop_ignores_default, met_first_settles}
 use Rattle.ir_gdb.proofs.remote.Remote.settle_first.Goals as goal
 
 pub settle-requires-in-None-clause-cut : goal.settle-requires-in-None-clause-cut
@@ -24,12 +24,12 @@ returns-in-Some-clause-ok g c =
     let own = halt t c.args.cut c.args.reason in
     let first : Stopped = slice_index_or each c.in-Some.other (stopped 0 reason.Step) in
     let h = halt c.in-Some.other c.in-Some.own first.reason in
-    let same = stop_of_met_thread_ignores_default s u each c.in_ok-each.each.items c.in_ok-other.field-0 c.in-Some.other c.in-Some.own (stopped 0 reason.Step) c.stops.ensures.stub
+    let same = met_stop_ignores_default s u each c.in_ok-each.each.items c.in_ok-other.field-0 c.in-Some.other c.in-Some.own (stopped 0 reason.Step) c.stops.ensures.stub
     c.as_slice-each.ensures.value c.in_ok-each.ensures.within c.in-Some.is c.in_ok-other.ensures.threads in
     let is = ap (λ (x : Stopped). halt c.in-Some.other c.in-Some.own x.reason) same in
     let stops = subst (λ (ys : List Stopped). EachRun s.desk.fitted (λ run. AreStops run s d t ys)) (sym c.as_slice-each.ensures.value) c.in_ok-each.ensures.stops in
     on_ok_weaker c.settle.result
-    (met_by_first_and_settles s u c.settle.new.self.stub d t c.args.cut c.args.reason each c.in_ok-other.field-0 h c.stops.ensures.stub stops
+    (met_first_settles s u c.settle.new.self.stub d t c.args.cut c.args.reason each c.in_ok-other.field-0 h c.stops.ensures.stub stops
     c.in_ok-other.ensures.met (is ∙ sym (ap (λ (x : Option (ℕ × List ℕ)). halt_or (first_met each x) own) c.in-Some.is)))
     c.settle.ensures.ok
 
@@ -43,6 +43,6 @@ returns-in-None-clause-ok g c =
     let own = halt t c.args.cut c.args.reason in
     let stops = subst (λ (ys : List Stopped). EachRun s.desk.fitted (λ run. AreStops run s d t ys)) (sym c.as_slice-each.ensures.value) c.in_ok-each.ensures.stops in
     on_ok_weaker c.settle-in-None.result
-    (met_by_first_and_settles s u c.settle-in-None.new.self.stub d t c.args.cut c.args.reason each c.in_ok-other.field-0 own c.stops.ensures.stub stops
+    (met_first_settles s u c.settle-in-None.new.self.stub d t c.args.cut c.args.reason each c.in_ok-other.field-0 own c.stops.ensures.stub stops
     c.in_ok-other.ensures.met (sym (ap (λ (x : Option (ℕ × List ℕ)). halt_or (first_met each x) own) c.in-None.is)))
     c.settle-in-None.ensures.ok

@@ -1,6 +1,6 @@
 use Rattle.std.proofs.Common.{◌∙◌, ap, refl}
 use Rattle.ir_gdb.specs.Stub.{Stub, stub_spoken}
-use Rattle.ir_gdb.proofs.Moving.{length_after_push_by_count, stops_are_own_stops_after_push, stops_within_last_after_push}
+use Rattle.ir_gdb.proofs.Moving.{length_push_by_count, own_stops_push, stops_within_last_push}
 use Rattle.ir_gdb.proofs.remote.Remote.stops.Goals as goal
 
 pub threads-preserved : goal.threads-preserved
@@ -14,11 +14,11 @@ threads-preserved g c =
     let same = c.threads.invariant.stub in
     record {
       stub = c.continued.ensures.stub ∙ ap (λ (y : Stub). stub_spoken y) same;
-      len = length_after_push_by_count xs ys x n c.threads.invariant.len c.in_ok-push.ensures.items;
+      len = length_push_by_count xs ys x n c.threads.invariant.len c.in_ok-push.ensures.items;
       own =
-          stops_are_own_stops_after_push s u c.args.direction c.args.mover n _ xs ys x same c.threads.invariant.len refl c.in_ok-push.ensures.items
+          own_stops_push s u c.args.direction c.args.mover n _ xs ys x same c.threads.invariant.len refl c.in_ok-push.ensures.items
           c.in_ok-stopped.ensures.stops c.threads.invariant.own;
       within =
-          stops_within_last_after_push s u n xs ys x same c.threads.invariant.len c.in_ok-push.ensures.items c.in_ok-stopped.ensures.within
+          stops_within_last_push s u n xs ys x same c.threads.invariant.len c.in_ok-push.ensures.items c.in_ok-stopped.ensures.within
           c.threads.invariant.within;
     }

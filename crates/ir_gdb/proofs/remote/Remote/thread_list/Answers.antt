@@ -1,5 +1,5 @@
 use Rattle.std.proofs.Common.{codes, arith}
-use Rattle.ir_gdb.proofs.Threads.{first_threads_text_put_at_start, first_threads_text_put_step}
+use Rattle.ir_gdb.proofs.Threads.{text_put_start, text_put_step}
 use Rattle.ir_gdb.proofs.remote.Remote.thread_list.Goals as goal
 
 pub threads-init : goal.threads-init
@@ -9,7 +9,7 @@ threads-init c =
     let room = c.in_ok-list.ensures.capacity in
     let kept = c.put_text.ensures.capacity in
     record {
-      text = first_threads_text_put_at_start c.args.self.now.stub c.in_ok-list.list.items c.put_text.new.out.items
+      text = text_put_start c.args.self.now.stub c.in_ok-list.list.items c.put_text.new.out.items
           (codes "<?xml version=\"1.0\"?><threads>") c.in_ok-list.ensures.items c.put_text.ensures.bytes;
       len = omega (arith, len, none);
       room = omega (arith, room, kept);
@@ -22,7 +22,7 @@ threads-preserved c =
     let before = c.threads.invariant.len in
     let room = c.threads.invariant.room in
     record {
-      text = first_threads_text_put_step c.args.self.now.stub c.threads.thread c.threads.list.items c.put_thread.new.out.items
+      text = text_put_step c.args.self.now.stub c.threads.thread c.threads.list.items c.put_thread.new.out.items
           (codes "<?xml version=\"1.0\"?><threads>") c.threads.invariant.text c.put_thread.ensures.bytes;
       len = omega (arith, len, before);
       room = omega (arith, room, kept);

@@ -6,7 +6,7 @@ use Rattle.ir_gdb.specs.declared.point.Watched.{Watched}
 use Rattle.ir_gdb.specs.Points.{watch_points}
 use Rattle.ir_gdb.specs.Serving.{Serving}
 use Rattle.ir_gdb.specs.Stub.{Stub, stub_spoken}
-use Rattle.ir_gdb.proofs.Stopping.{serving_seen, watches_if_ignores_spoken_and_desk, watches_if_ignores_spoken, watch_next_is_reason_of_found_hit}
+use Rattle.ir_gdb.proofs.Stopping.{serving_seen, watches_if_ignores_both, watches_if_ignores_spoken, watch_next_of_hit}
 use Rattle.ir_gdb.proofs.remote.Remote.watch_next.Goals as goal
 
 pub search_up_to-requires-clause-cut : goal.search_up_to-requires-clause-cut
@@ -24,7 +24,7 @@ returns-clause-watch g c =
     let before = watches_if_ignores_spoken s c.speak.new.self.stub w c.speak.ensures in
     let are = c.as_slice-points.ensures.value ∙ c.in_ok-points.ensures.points
     ∙ ap (λ (x : List Watched). watch_points t 0 x) (c.watches_if.ensures.value ∙ before) in
-    let first = c.watches_if-2.ensures.value ∙ watches_if_ignores_spoken_and_desk s u c.search_up_to.new.self.desk w same in
-    watch_next_is_reason_of_found_hit c.self.inside.debugger.desk.fitted s t (cut_of c.args.from.now t) (c.position-to.result + 1) w c.as_slice-points.result.now
+    let first = c.watches_if-2.ensures.value ∙ watches_if_ignores_both s u c.search_up_to.new.self.desk w same in
+    watch_next_of_hit c.self.inside.debugger.desk.fitted s t (cut_of c.args.from.now t) (c.position-to.result + 1) w c.as_slice-points.result.now
     c.in_ok-hit.hit c.watches_if-2.result.now c.reason_of_hit.result (ap (λ (x : Stub). x.desk.fitted) same) are first
     (ap (λ (n : ℕ). n + 1) c.position-to.ensures) c.in_ok-hit.ensures.finds c.reason_of_hit.ensures

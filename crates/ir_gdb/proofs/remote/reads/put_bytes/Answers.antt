@@ -3,7 +3,7 @@ use Rattle.hex.specs.Hex.{encode_lower}
 use Rattle.ir_packet.specs.Replies.{reply_text}
 use Rattle.ir_packet.specs.declared.reply.Reply.TheVariants.{BadAddress}
 use Rattle.ir_gdb.specs.Reads.{bytes_text}
-use Rattle.ir_gdb.proofs.Written.{reply_text_has_at_most_30_bytes}
+use Rattle.ir_gdb.proofs.Written.{reply_text_is_short}
 use Rattle.ir_gdb.proofs.remote.reads.put_bytes.Goals as goal
 
 no_bytes : (xs : List ℕ) → length xs ≡ 0 → bytes_text xs ≡ reply_text BadAddress
@@ -17,7 +17,7 @@ some_bytes (b ∷ xs) some = refl
 pub put_text-requires : goal.put_text-requires
 put_text-requires c =
     let text = ap (λ (xs : List ℕ). length xs) c.reply_text.ensures in
-    let short = reply_text_has_at_most_30_bytes BadAddress in
+    let short = reply_text_is_short BadAddress in
     let room = c.requires.room in
     omega (arith, text, short, room)
 

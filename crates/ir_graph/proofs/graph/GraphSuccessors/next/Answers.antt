@@ -2,20 +2,20 @@ use Rattle.std.proofs.Common.{◌≡◌, ◌⊎◌, ℕ, Bool, Some, length, sym
 use Rattle.std.proofs.lemmas.List.{with_items_is}
 use Rattle.ir_graph.specs.Ahead.{AreTurns}
 use Rattle.ir_graph.specs.Notes.{noted_by}
-use Rattle.ir_graph.proofs.Grown.{is_graph_after_nodes_added, is_graph_after_nodes_and_one_note_added, is_graph_of_equal_rows, thread_exists_if_nothing_is_noted, code_of_node_is_guest_code}
-use Rattle.ir_graph.proofs.Timed.{knows_times_after_nodes_added, knows_times_after_note, knows_times_of_equal_rows}
+use Rattle.ir_graph.proofs.Grown.{graph_after_nodes, graph_after_both, is_graph_of_equal_rows, unnoted_thread_exists, node_code_is_guest_code}
+use Rattle.ir_graph.proofs.Timed.{knows_times_nodes_added, knows_times_after_note, knows_times_equal_rows}
 use Rattle.ir_graph.proofs.graph.GraphSuccessors.next.Goals as goal
 
 pub successor-requires-clause-thread : goal.successor-requires-clause-thread
 successor-requires-clause-thread c = λ f is.
     let g = c.args.self.now in
-    thread_exists_if_nothing_is_noted g.setup g.flats.items (noted_by g.rows.items g.refused_rows.items) (length g.rows.items) c.args.thread
+    unnoted_thread_exists g.setup g.flats.items (noted_by g.rows.items g.refused_rows.items) (length g.rows.items) c.args.thread
     c.args.refused c.args.node c.args.node f c.requires.sound.0 (sym c.known.ensures ∙ c.in_default.is) is
 
 pub successor-requires-clause-code : goal.successor-requires-clause-code
 successor-requires-clause-code c = λ f is.
     let g = c.args.self.now in
-    code_of_node_is_guest_code g.setup g.flats.items (noted_by g.rows.items g.refused_rows.items) (length g.rows.items) c.args.node f
+    node_code_is_guest_code g.setup g.flats.items (noted_by g.rows.items g.refused_rows.items) (length g.rows.items) c.args.node f
     c.requires.sound.0 is
     ∙ sym c.code-code.ensures
 
@@ -30,10 +30,10 @@ pub returns-in_err-next-clause-sound : goal.returns-in_err-next-clause-sound
 returns-in_err-next-clause-sound c =
     let g = c.args.self.now in
     let grown = c.successor.ensures in
-    let known = knows_times_after_nodes_added g.setup g.flats.items c.successor.new.flats.items (noted_by g.rows.items g.refused_rows.items)
+    let known = knows_times_nodes_added g.setup g.flats.items c.successor.new.flats.items (noted_by g.rows.items g.refused_rows.items)
     (length g.rows.items) g.timed c.successor.new.timed c.requires.sound.0 c.requires.sound.3 grown.stay
     (grown.has g.setup c.requires.sound.0.reached c.requires.sound.3.has) grown.were in (
-      is_graph_after_nodes_added g.setup g.flats.items c.successor.new.flats.items (noted_by g.rows.items g.refused_rows.items)
+      graph_after_nodes g.setup g.flats.items c.successor.new.flats.items (noted_by g.rows.items g.refused_rows.items)
           (length g.rows.items) c.requires.sound.0 grown.stay grown.nodes (grown.reached g.setup c.requires.sound.0.reached) grown.grown,
       subst (λ z. AreTurns z c.successor.new.flats.shared c.successor.new.ahead) c.code-code.ensures grown.turns,
       grown.store ∙ c.requires.sound.2,
@@ -58,14 +58,14 @@ returns-in_err-note_way-clause-sound c =
     (subst (λ z. (t : ℕ) (refused : Bool) (v : ℕ) → (noted_by new tries t refused v ≡ noted_by c.deref_mut.result.now z t refused v)
     ⊎ ((t ≡ c.args.thread) × (refused ≡ c.args.refused) × (v ≡ c.args.node) × (noted_by new tries t refused v ≡ Some c.in_ok-next.next))) values
     c.note_way.ensures.only) in
-    let noted = is_graph_after_nodes_and_one_note_added g.setup g.flats.items flats g.rows.items g.refused_rows.items new tries c.args.thread
+    let noted = graph_after_both g.setup g.flats.items flats g.rows.items g.refused_rows.items new tries c.args.thread
     c.args.refused c.args.node c.in_ok-next.next c.requires.sound.0 grown.stay grown.nodes
     (grown.reached g.setup c.requires.sound.0.reached) grown.grown only threads (sym c.known.ensures ∙ c.in_default.is)
     c.requires.node c.in_ok-next.ensures.within c.in_ok-next.ensures.leads in
-    let known = knows_times_of_equal_rows g.setup flats c.successor.new.timed new tries same also
+    let known = knows_times_equal_rows g.setup flats c.successor.new.timed new tries same also
     (knows_times_after_note g.setup flats (noted_by g.rows.items g.refused_rows.items) (noted_by new tries) c.successor.new.timed c.args.thread c.args.refused
     c.args.node c.in_ok-next.next
-    (knows_times_after_nodes_added g.setup g.flats.items flats (noted_by g.rows.items g.refused_rows.items) (length g.rows.items) g.timed
+    (knows_times_nodes_added g.setup g.flats.items flats (noted_by g.rows.items g.refused_rows.items) (length g.rows.items) g.timed
     c.successor.new.timed c.requires.sound.0 c.requires.sound.3 grown.stay
     (grown.has g.setup c.requires.sound.0.reached c.requires.sound.3.has) grown.were) only c.in_ok-next.ensures.tickless) in (
       is_graph_of_equal_rows g.setup flats new tries same also noted,
@@ -92,14 +92,14 @@ returns-clause-sound c =
     (subst (λ z. (t : ℕ) (refused : Bool) (v : ℕ) → (noted_by new tries t refused v ≡ noted_by c.deref_mut.result.now z t refused v)
     ⊎ ((t ≡ c.args.thread) × (refused ≡ c.args.refused) × (v ≡ c.args.node) × (noted_by new tries t refused v ≡ Some c.in_ok-next.next))) values
     c.note_way.ensures.only) in
-    let noted = is_graph_after_nodes_and_one_note_added g.setup g.flats.items flats g.rows.items g.refused_rows.items new tries c.args.thread
+    let noted = graph_after_both g.setup g.flats.items flats g.rows.items g.refused_rows.items new tries c.args.thread
     c.args.refused c.args.node c.in_ok-next.next c.requires.sound.0 grown.stay grown.nodes
     (grown.reached g.setup c.requires.sound.0.reached) grown.grown only threads (sym c.known.ensures ∙ c.in_default.is)
     c.requires.node c.in_ok-next.ensures.within c.in_ok-next.ensures.leads in
-    let known = knows_times_of_equal_rows g.setup flats c.successor.new.timed new tries same also
+    let known = knows_times_equal_rows g.setup flats c.successor.new.timed new tries same also
     (knows_times_after_note g.setup flats (noted_by g.rows.items g.refused_rows.items) (noted_by new tries) c.successor.new.timed c.args.thread c.args.refused
     c.args.node c.in_ok-next.next
-    (knows_times_after_nodes_added g.setup g.flats.items flats (noted_by g.rows.items g.refused_rows.items) (length g.rows.items) g.timed
+    (knows_times_nodes_added g.setup g.flats.items flats (noted_by g.rows.items g.refused_rows.items) (length g.rows.items) g.timed
     c.successor.new.timed c.requires.sound.0 c.requires.sound.3 grown.stay
     (grown.has g.setup c.requires.sound.0.reached c.requires.sound.3.has) grown.were) only c.in_ok-next.ensures.tickless) in (
       is_graph_of_equal_rows g.setup flats new tries same also noted,

@@ -1,6 +1,6 @@
 use Rattle.std.proofs.Common.{length}
 use Rattle.ir_search.specs.Levels.{rows}
-use Rattle.ir_search.proofs.CallerLemmas.{all_are_asked_if_next_level_is_empty}
+use Rattle.ir_search.proofs.CallerLemmas.{empty_level_all_asked}
 use Rattle.ir_graph.specs.Notes.{noted_by}
 use Rattle.ir_graph.proofs.Searched.{marked_by, if_ok_of_implied}
 use Rattle.ir_graph.proofs.states.States.marks.Goals as goal
@@ -10,7 +10,7 @@ returns c =
     let graph = c.args.self.now.graph in
     let search = c.args.self.now.search in
     let between = c.requires.between in
-    let asked = all_are_asked_if_next_level_is_empty (noted_by graph.rows.items graph.refused_rows.items) (length graph.flats.items) search.found.nodes.items
+    let asked = empty_level_all_asked (noted_by graph.rows.items graph.refused_rows.items) (length graph.flats.items) search.found.nodes.items
     search.found.refusals.items (rows search.opened.items) search.level between
     c.requires.over in
     if_ok_of_implied c.mark_states.result (λ marks ways. marked_by graph.setup graph.flats.items graph.rows.items graph.refused_rows.items

@@ -5,7 +5,7 @@ use Rattle.ir_log.specs.declared.event.Event.{Event}
 use Rattle.ir_picture.specs.declared.placed_box.Point.{Point}
 use Rattle.ir_holds.specs.Needing.{place_in, with_read, with_write}
 use Rattle.ir_holds.proofs.Defaults.{no_box, no_event}
-use Rattle.ir_holds.proofs.Needs.{holds_to_first_event, holds_to_next_event, holds_to_next_box}
+use Rattle.ir_holds.proofs.Needs.{ends_hold_to_first_event, ends_hold_to_next_event, ends_hold_to_next_box}
 use Rattle.ir_holds.proofs.needing.Ends.note_box.Goals as goal
 
 pub events_of-events-requires : goal.events_of-events-requires
@@ -23,7 +23,7 @@ pub loop-event-init : goal.loop-event-init
 loop-event-init c = record {
   made = c.requires.made;
   left = c.requires.left;
-  holds = holds_to_first_event c.args.trace.now c.args.boxes.now c.args.number (get_or c.args.boxes.now c.args.number no_box) c.args.self.now
+  holds = ends_hold_to_first_event c.args.trace.now c.args.boxes.now c.args.number (get_or c.args.boxes.now c.args.number no_box) c.args.self.now
       (slice_get-get_or c.args.boxes.now c.args.number no_box c.requires.number) c.requires.holds;
 }
 
@@ -71,7 +71,7 @@ loop-event-preserved c =
     record {
       made = c.in_ok-note.ensures.made_objects ∙ c.loop-event.invariant.made;
       left = c.in_ok-note.ensures.left_objects ∙ c.loop-event.invariant.left;
-      holds = holds_to_next_event c.args.trace.now c.args.boxes.now c.args.number c.loop-event.event (get_or c.args.boxes.now c.args.number no_box) what c.loop-event.self
+      holds = ends_hold_to_next_event c.args.trace.now c.args.boxes.now c.args.number c.loop-event.event (get_or c.args.boxes.now c.args.number no_box) what c.loop-event.self
           c.note.new.self there
           (record { thread = refl; from = omega (arith, from); below = omega (arith, below, end) })
           (subst (λ (es : List Event). slice_get es c.loop-event.event ≡ Some what) c.events_of-events.ensures.events
@@ -85,6 +85,6 @@ pub returns-clause-holds : goal.returns-clause-holds
 returns-clause-holds c =
     let past = c.loop-event-test.false in
     let end = c.loop-event.auto.event-end in
-    holds_to_next_box c.args.trace.now c.args.boxes.now c.args.number c.loop-event.event (get_or c.args.boxes.now c.args.number no_box)
+    ends_hold_to_next_box c.args.trace.now c.args.boxes.now c.args.number c.loop-event.event (get_or c.args.boxes.now c.args.number no_box)
     c.loop-event.self
     (slice_get-get_or c.args.boxes.now c.args.number no_box c.requires.number) (omega (arith, past, end)) c.loop-event.invariant.holds

@@ -3,11 +3,11 @@ use Rattle.std.specs.Prelude.{slice_get}
 use Rattle.std.specs.List.{slice_index_or}
 use Rattle.std.proofs.lemmas.Option.{slice_get-get_or}
 use Rattle.ir_search.specs.Origins.{first_origin, BeginsAt}
-use Rattle.ir_search.proofs.CallerLemmas.{index_of_element_is_below_length}
-use Rattle.ir_store.specs.Nodes.{SourcedFlat}
+use Rattle.ir_search.proofs.CallerLemmas.{slice_get_some_below}
+use Rattle.ir_state_store.specs.Nodes.{SourcedFlat}
 use Rattle.ir_graph.specs.Setup.{setup_start}
 use Rattle.ir_graph.specs.Standing.{NeedsSwitches}
-use Rattle.ir_graph.proofs.CallerLemmas.{needs_as_many_switches_as_its_level}
+use Rattle.ir_graph.proofs.CallerLemmas.{needs_level_switches}
 use Rattle.ir_outcomes.proofs.Listed.{all_outcomes}
 use Rattle.ir_outcomes.proofs.exploring.Exploring.end.Goals as goal
 
@@ -27,7 +27,7 @@ returns-clause-explored c =
           let going = is.going f.0 in
           let over = f.1 in
           let until = going.between.until in
-          let some = index_of_element_is_below_length s.search.found.nodes.items 0 first_origin going.between.has.first in
+          let some = slice_get_some_below s.search.found.nodes.items 0 first_origin going.between.has.first in
           let later : 0 < level.first = omega (arith, over, until, some) in
           all_outcomes s.graph.setup s.graph.flats.items s.search.found.nodes.items level.number e.list.seen e.list.listed.items e.list.outcomes.items
           (going.searched later) going.few going.has (going.seen later) f.2.all f.2.nodes;
@@ -64,7 +64,7 @@ returns-clause-explored c =
                   u,
                   at,
                   subst (NeedsSwitches s.graph.setup u) n.2
-                      (needs_as_many_switches_as_its_level s.graph.setup flats s.search.found.nodes.items level.number (going.searched later) v u n.0 at n.1 low),
+                      (needs_level_switches s.graph.setup flats s.search.found.nodes.items level.number (going.searched later) v u n.0 at n.1 low),
                 )
           ];
       stopped = c.ending-ended.ensures.stopped;

@@ -7,7 +7,7 @@ use Rattle.ir_graph.specs.Stops.{MayStop}
 use Rattle.ir_thread.specs.State.{IsAllowed}
 use Rattle.ir_outcomes.specs.Exploring.{HasShown}
 use Rattle.ir_outcomes.proofs.Listed.{shown_among}
-use Rattle.ir_outcomes.proofs.Steps.{ok_fact_if_no_error, error_fact_of_known_error, property_carries_from_old_to_new_if_error_keeps_old}
+use Rattle.ir_outcomes.proofs.Steps.{ok_fact_if_no_error, known_error_fact, error_keeps_property}
 use Rattle.ir_outcomes.proofs.exploring.Exploring.go_over.Goals as goal
 
 pub show_new-shown-requires-clause-allowed : goal.show_new-shown-requires-clause-allowed
@@ -17,7 +17,7 @@ show_new-shown-requires-clause-allowed g c =
 pub show_new-shown-requires-clause-searched : goal.show_new-shown-requires-clause-searched
 show_new-shown-requires-clause-searched g c =
     let s = c.go_over-searched.new.self in
-    property_carries_from_old_to_new_if_error_keeps_old (λ (l : Level). AreSearched s.graph.setup s.graph.flats.items s.search.found.nodes.items l.number) c.go_over-searched.result s.search.level
+    error_keeps_property (λ (l : Level). AreSearched s.graph.setup s.graph.flats.items s.search.found.nodes.items l.number) c.go_over-searched.result s.search.level
     c.args.self.now.states.search.level c.go_over-searched.ensures.searched c.go_over-searched.ensures.level c.go_over-searched.ensures.part
 
 pub show_new-shown-requires-clause-few : goal.show_new-shown-requires-clause-few
@@ -47,7 +47,7 @@ returns-clause-is g c =
     record {
       search = searched.ensures.is;
       explored = shown.ensures.explored;
-      wanted = property_carries_from_old_to_new_if_error_keeps_old (λ (l : Level). l.number ≤ suc most) searched.result s.search.level c.args.self.now.states.search.level
+      wanted = error_keeps_property (λ (l : Level). l.number ≤ suc most) searched.result s.search.level c.args.self.now.states.search.level
           (on_ok_of_implied searched.result (λ next. let a = c.requires.wanted in omega (arith, a, next)) searched.ensures.next) searched.ensures.level
           (let a = c.requires.wanted in omega (arith, a));
       going = λ none.
@@ -61,8 +61,8 @@ returns-clause-is g c =
             levels = ok_fact_if_no_error shown.result n.0 shown.ensures.levels;
           };
       stopped = λ why is. elim (c.first_stop-self.ensures.some why is) [
-        | inl e ↦ error_fact_of_known_error may shown.result why e shown.ensures.refused
-        | inr e ↦ error_fact_of_known_error may searched.result why e searched.ensures.stopped
+        | inl e ↦ known_error_fact may shown.result why e shown.ensures.refused
+        | inr e ↦ known_error_fact may searched.result why e searched.ensures.stopped
       ];
     }
 

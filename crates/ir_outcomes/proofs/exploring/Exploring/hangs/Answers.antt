@@ -1,8 +1,8 @@
 use Rattle.std.proofs.Common.{◌≡◌, ℕ, ◌<◌, Some, None, length, sym, ap, ◌∙◌, subst, arith}
-use Rattle.ir_search.specs.Following.{IsOpen}
+use Rattle.ir_search.specs.Following.{IsNodeOpen}
 use Rattle.ir_search.specs.Ways.{shut}
 use Rattle.ir_outcomes.specs.Explored.{AreHangs}
-use Rattle.ir_outcomes.specs.Hang.{IsFirst}
+use Rattle.ir_outcomes.specs.Hang.{IsFirstHang}
 use Rattle.ir_outcomes.specs.declared.shown.Shown.{Shown}
 use Rattle.ir_outcomes.proofs.Lost.{are_hangs}
 use Rattle.ir_outcomes.proofs.exploring.Exploring.hangs.Goals as goal
@@ -16,8 +16,8 @@ returns-in-Ok-clause-hangs c =
     let marks = c.in_ok-marks.marks.items in
     let hang = c.in-Ok.hang in
     let between = (c.requires.is.going c.requires.stop).between in
-    let none = subst (λ z. hang ≡ None → (v : ℕ) → v < length z → IsOpen z v) c.as_slice-2.ensures.value c.in-Ok.ensures.none in
-    let first = subst (λ z. (x : Shown) → hang ≡ Some x → IsFirst z x.node) c.as_slice-2.ensures.value c.in-Ok.ensures.first in
+    let none = subst (λ z. hang ≡ None → (v : ℕ) → v < length z → IsNodeOpen z v) c.as_slice-2.ensures.value c.in-Ok.ensures.none in
+    let first = subst (λ z. (x : Shown) → hang ≡ Some x → IsFirstHang z x.node) c.as_slice-2.ensures.value c.in-Ok.ensures.first in
     subst (λ n. AreHangs setup flats n hang) (sym (c.count_lost-lost.ensures ∙ ap shut c.as_slice.ensures.value))
     (are_hangs setup flats origins marks c.in_ok-marks.ensures c.requires.whole.stand between.has.rising
     (let a = between.all in omega (arith, a)) hang none first c.in-Ok.ensures.level c.in-Ok.ensures.shown)

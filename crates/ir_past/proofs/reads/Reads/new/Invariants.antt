@@ -1,5 +1,5 @@
 use Rattle.std.proofs.Common.{◌≡◌, ℕ, [], vec_len}
-use Rattle.ir_past.specs.Tables.{read_at}
+use Rattle.ir_past.specs.Tables.{read_at_row}
 use Rattle.ir_past.specs.declared.reads.ObjectReads.{ObjectReads}
 use Rattle.std.specs.Option.{option_map_or}
 use Rattle.std.specs.Prelude.{slice_get}
@@ -9,5 +9,5 @@ use Rattle.ir_past.proofs.reads.Reads.new.Given as goal
 abbrev pub invariant-loop : goal.invariant-loop
 invariant-loop l = record {
   objects : vec_len l.all ≡ l.counter;
-  none : (o v : ℕ) → option_map_or (λ (x : ObjectReads). read_at x v) (slice_get l.all.items o) [] ≡ [];
+  none : (o v : ℕ) → option_map_or (λ (x : ObjectReads). read_at_row x v) (slice_get l.all.items o) [] ≡ [];
 }

@@ -1,11 +1,11 @@
 use Rattle.std.proofs.Common.{◌<◌, length, refl, rules, arith}
-use Rattle.ir_picture.specs.Placing.{unknown}
-use Rattle.ir_picture.proofs.Lists.{get_or_is_unchanged_after_growth_by_default}
+use Rattle.ir_picture.specs.Placing.{unknown_version}
+use Rattle.ir_picture.proofs.Lists.{get_or_default_growth}
 use Rattle.ir_picture.proofs.table.Versions.reserve.Goals as goal
 
 pub returns-clause-same : goal.returns-clause-same
 returns-clause-same c = λ v.
     let longer : length c.args.self.now.all.items < c.args.versions = search rules in
-    get_or_is_unchanged_after_growth_by_default c.args.self.now.all.items c.resize.new.self.items c.args.versions unknown longer (search rules)
+    get_or_default_growth c.args.self.now.all.items c.resize.new.self.items c.args.versions unknown_version longer (search rules)
     (λ k d inside within. c.in_ok-resize.ensures.by_index.0 k d inside (omega (arith, within, c.args.self.now.all.ok.0)))
     (λ k d past inside. c.in_ok-resize.ensures.by_index.1 k d refl (omega (arith, past, c.args.self.now.all.ok.0)) inside) v

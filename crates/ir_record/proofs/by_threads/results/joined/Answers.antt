@@ -3,7 +3,7 @@ use Rattle.std.specs.List.{AllByRecursion}
 use Rattle.std.specs.Prelude.{option_to_list}
 use Rattle.ir_lemmas.proofs.CallerLemmas.{all_splits_off_last}
 use Rattle.ir_record.specs.Threads.{IsSeatOf, views_of}
-use Rattle.ir_record.proofs.Manning.{views_with_seat_added, views_stay_whole_after_seat_joined}
+use Rattle.ir_record.proofs.Manning.{views_with_seat_added, views_join_whole}
 use Rattle.ir_record.proofs.by_threads.results.joined.Goals as goal
 
 pub loop-seat-init : goal.loop-seat-init
@@ -26,7 +26,7 @@ loop-seat-preserved c =
     (subst (AllByRecursion (IsSeatOf c.args.crew.now.table.shared.table_id)) c.in-Some.ensures.items c.loop-seat.invariant.seats) in
     record {
       all = record { table = c.join-all.ensures.0 ∙ h.1.table; empty = ap (λ z. z.1) c.join-all.ensures.1 };
-      views = views_stay_whole_after_seat_joined c.loop-seat.seats.items c.pop-in-loop-seat.new.self.items c.in-Some.seat c.loop-seat.all c.join-all.result
+      views = views_join_whole c.loop-seat.seats.items c.pop-in-loop-seat.new.self.items c.in-Some.seat c.loop-seat.all c.join-all.result
           (views_of c.args.seats.items) c.loop-seat.invariant.views c.in-Some.ensures.items c.join-all.ensures.1;
       seats = h.0;
     }

@@ -1,5 +1,6 @@
 use Rattle.std.proofs.Common.{◌≡◌, ◌<◌, ◌∙◌, ℕ, length, sym, refl, subst, arith, false}
-use Rattle.ir_schedule.proofs.Runs.{ran_reflexive, ran_transitive, ran_by_thread_under_way, others_rest_transitive, took_some_of_sum, lower_threads_rest_if_others_rest, rests_is_rest_of_ask, all_left_falls_if_took_some_of_one, took_some_of_one_is_took_some_of_zero}
+use Rattle.ir_schedule.proofs.Runs.{ran_reflexive, ran_transitive, ran_by_thread_under_way, others_rest_transitive, took_some_of_sum}
+use Rattle.ir_schedule.proofs.Runs.{lower_rest_if_others, rests_is_rest_of_ask, took_one_lowers_left, took_one_is_took_zero}
 use Rattle.ir_schedule.specs.Choices.{before_rounds}
 use Rattle.ir_schedule.specs.Moments.{IsAtRest, TookSome, moment_of}
 use Rattle.ir_schedule.specs.Schedules.{rests}
@@ -39,12 +40,12 @@ went g c = took_some_of_sum 0 1 c.steps.self.flat c.run_to_ask.new.self.flat c.s
     c.in_ok-step.ensures.fewer
 
 pub steps-smaller : goal.steps-smaller
-steps-smaller g c = all_left_falls_if_took_some_of_one c.steps.self.flat c.step.new.self.flat (c.in_ok-step.ensures.took.gained.threads ∙ still g c) (went g c)
+steps-smaller g c = took_one_lowers_left c.steps.self.flat c.step.new.self.flat (c.in_ok-step.ensures.took.gained.threads ∙ still g c) (went g c)
 
 pub steps-preserved : goal.steps-preserved
 steps-preserved g c =
     let lower : (u : ℕ) → u < c.args.t → IsAtRest c.args.tries c.run_to_ask.new.self.flat u =
-    lower_threads_rest_if_others_rest c.args.tries c.args.t c.steps.self.flat c.run_to_ask.new.self.flat (c.in_ok-asked.ensures.others c.args.tries)
+    lower_rest_if_others c.args.tries c.args.t c.steps.self.flat c.run_to_ask.new.self.flat (c.in_ok-asked.ensures.others c.args.tries)
     c.steps.invariant.lower in
     let under : rests c.args.tries (machine c.run_to_ask.new.self.flat) (tables c.run_to_ask.new.self.flat) c.args.t ≡ false =
     rests_is_rest_of_ask c.args.tries c.run_to_ask.new.self.flat c.args.t c.in_ok-asked.asked false c.in_ok-asked.ensures.asked
@@ -61,11 +62,11 @@ steps-preserved g c =
           c.args.t d (subst (λ n. c.args.t < n) (sym (still g c)) c.steps.invariant.thread) under lower c.in_ok-step.ensures.took);
       ready = c.in_ok-step.ensures.ready;
       thread = subst (λ n. c.args.t < n) (sym (c.in_ok-step.ensures.took.gained.threads ∙ still g c)) c.steps.invariant.thread;
-      lower = lower_threads_rest_if_others_rest c.args.tries c.args.t c.run_to_ask.new.self.flat c.step.new.self.flat (c.in_ok-step.ensures.others c.args.tries) lower;
+      lower = lower_rest_if_others c.args.tries c.args.t c.run_to_ask.new.self.flat c.step.new.self.flat (c.in_ok-step.ensures.others c.args.tries) lower;
       others = others_rest_transitive c.args.tries c.args.t c.args.self.now.flat c.run_to_ask.new.self.flat c.step.new.self.flat
           (others_rest_transitive c.args.tries c.args.t c.args.self.now.flat c.steps.self.flat c.run_to_ask.new.self.flat c.steps.invariant.others
           (c.in_ok-asked.ensures.others c.args.tries)) (c.in_ok-step.ensures.others c.args.tries);
       fewer = took_some_of_sum 0 0 c.args.self.now.flat c.steps.self.flat c.step.new.self.flat c.steps.invariant.threads c.steps.invariant.fewer
-          (took_some_of_one_is_took_some_of_zero c.steps.self.flat c.step.new.self.flat (went g c));
+          (took_one_is_took_zero c.steps.self.flat c.step.new.self.flat (went g c));
       threads = c.in_ok-step.ensures.took.gained.threads ∙ still g c ∙ c.steps.invariant.threads;
     }

@@ -1,8 +1,8 @@
 use Rattle.std.proofs.Common.{rules, ◌<◌, ◌∙◌, List, length, sym, ap, subst}
 use Rattle.std.specs.List.{slice_index_or}
 use Rattle.ir_thread.specs.State as thread
-use Rattle.ir_schedule.proofs.Ready.{each_ready, chosen_ready_thread_has_step, ran_to_end_if_none_ready}
-use Rattle.ir_schedule.proofs.Runs.{ran_transitive, all_left_falls_if_took_some_of_one}
+use Rattle.ir_schedule.proofs.Ready.{each_ready, chosen_ready_has_step, none_ready_ran_to_end}
+use Rattle.ir_schedule.proofs.Runs.{ran_transitive, took_one_lowers_left}
 use Rattle.ir_schedule.specs.Choices.{CanChoose}
 use Rattle.ir_schedule.specs.Moments.{Ran, moment_of}
 use Rattle.ir_schedule.specs.Schedules.{AreReady}
@@ -21,7 +21,7 @@ choices-init g c = record {
 }
 
 pub returns-then-is_empty-clause-ran : goal.returns-then-is_empty-clause-ran
-returns-then-is_empty-clause-ran g c = ran_to_end_if_none_ready c.args.tries (moment_of g.W.World.answers c.args.self.now)
+returns-then-is_empty-clause-ran g c = none_ready_ran_to_end c.args.tries (moment_of g.W.World.answers c.args.self.now)
     (moment_of g.W.World.answers c.choices.self) c.args.chooser.now c.choices.chooser c.ready-ready.result.items c.requires.start
     c.choices.invariant.ran c.ready-ready.ensures.are (search rules)
 
@@ -38,11 +38,11 @@ choose-thread-requires-clause-within g c = λ k d l.
     (listed g c) k d l).0
 
 pub turn-requires-clause-thread : goal.turn-requires-clause-thread
-turn-requires-clause-thread g c = (chosen_ready_thread_has_step c.choices.self.flat c.as_slice.result.now c.ready-ready.result.items c.choose-thread.result
+turn-requires-clause-thread g c = (chosen_ready_has_step c.choices.self.flat c.as_slice.result.now c.ready-ready.result.items c.choose-thread.result
     c.as_slice.ensures.value c.ready-ready.ensures.are c.choose-thread.ensures.member).0
 
 pub turn-requires-clause-can : goal.turn-requires-clause-can
-turn-requires-clause-can g c = (chosen_ready_thread_has_step c.choices.self.flat c.as_slice.result.now c.ready-ready.result.items c.choose-thread.result
+turn-requires-clause-can g c = (chosen_ready_has_step c.choices.self.flat c.as_slice.result.now c.ready-ready.result.items c.choose-thread.result
     c.as_slice.ensures.value c.ready-ready.ensures.are c.choose-thread.ensures.member).1
 
 ran : (g : Over) (c : goal.In_ok-turn g) → Ran c.args.tries (moment_of g.W.World.answers c.choices.self) c.choices.chooser
@@ -68,4 +68,4 @@ choices-preserved g c = record {
 }
 
 pub choices-smaller : goal.choices-smaller
-choices-smaller g c = all_left_falls_if_took_some_of_one c.choices.self.flat c.turn.new.self.flat (ran g c).gained.threads c.in_ok-turn.ensures.fewer
+choices-smaller g c = took_one_lowers_left c.choices.self.flat c.turn.new.self.flat (ran g c).gained.threads c.in_ok-turn.ensures.fewer

@@ -1,5 +1,5 @@
 use Rattle.std.proofs.Common.{refl, ◌≡◌, ◌++◌, sym, subst, arith, append-nil, replicate}
-use Rattle.ir_schedule.proofs.Runs.{ran_by_private_steps, steps_left_do_not_rise_if_went_alone, others_rest_after_private_steps}
+use Rattle.ir_schedule.proofs.Runs.{ran_by_private_steps, alone_keeps_steps_left, others_rest_by_private}
 use Rattle.ir_schedule.specs.Moments.{moment_of}
 use Rattle.ir_record.specs.Recording.{order_of_turns}
 use Rattle.ir_schedule.proofs.runner.Runner.run_to_ask.Goals as goal
@@ -12,20 +12,20 @@ returns-in_ok-note-clause-ran g c = λ tries lower d.
 
 pub returns-in_ok-note-clause-others : goal.returns-in_ok-note-clause-others
 returns-in_ok-note-clause-others g c = λ tries.
-    others_rest_after_private_steps tries c.args.self.now.flat c.run_to_ask-count.new.self c.args.t c.run_to_ask-count.result.0
+    others_rest_by_private tries c.args.self.now.flat c.run_to_ask-count.new.self c.args.t c.run_to_ask-count.result.0
     c.run_to_ask-count.ensures.went
 
 pub returns-in_ok-note-clause-fewer : goal.returns-in_ok-note-clause-fewer
-returns-in_ok-note-clause-fewer g c = steps_left_do_not_rise_if_went_alone c.args.self.now.flat c.run_to_ask-count.new.self c.args.t c.run_to_ask-count.result.0
+returns-in_ok-note-clause-fewer g c = alone_keeps_steps_left c.args.self.now.flat c.run_to_ask-count.new.self c.args.t c.run_to_ask-count.result.0
     c.run_to_ask-count.ensures.flat c.requires.thread c.run_to_ask-count.ensures.went
 
 pub returns-else-count-gt0-clause-others : goal.returns-else-count-gt0-clause-others
 returns-else-count-gt0-clause-others g c = λ tries.
-    others_rest_after_private_steps tries c.args.self.now.flat c.run_to_ask-count.new.self c.args.t c.run_to_ask-count.result.0
+    others_rest_by_private tries c.args.self.now.flat c.run_to_ask-count.new.self c.args.t c.run_to_ask-count.result.0
     c.run_to_ask-count.ensures.went
 
 pub returns-else-count-gt0-clause-fewer : goal.returns-else-count-gt0-clause-fewer
-returns-else-count-gt0-clause-fewer g c = steps_left_do_not_rise_if_went_alone c.args.self.now.flat c.run_to_ask-count.new.self c.args.t c.run_to_ask-count.result.0
+returns-else-count-gt0-clause-fewer g c = alone_keeps_steps_left c.args.self.now.flat c.run_to_ask-count.new.self c.args.t c.run_to_ask-count.result.0
     c.run_to_ask-count.ensures.flat c.requires.thread c.run_to_ask-count.ensures.went
 
 pub returns-else-count-gt0-clause-ran : goal.returns-else-count-gt0-clause-ran

@@ -1,5 +1,5 @@
 use Rattle.std.proofs.Common.{◌∙◌}
-use Rattle.ir_schedule.proofs.Ready.{all_rest_after_thread_rests}
+use Rattle.ir_schedule.proofs.Ready.{all_rest_after_rest}
 use Rattle.ir_schedule.proofs.Runs.{ran_transitive, ran_by_chosen_thread, others_rest_transitive}
 use Rattle.ir_schedule.specs.Choices.{before_rounds}
 use Rattle.ir_schedule.specs.Moments.{moment_of}
@@ -14,7 +14,7 @@ returns-clause-ran g c = λ d e chosen.
     (c.in_ok-go_on.ensures.ran e)
 
 pub returns-clause-rest : goal.returns-clause-rest
-returns-clause-rest g c = all_rest_after_thread_rests c.args.tries c.args.t c.args.self.now.flat c.go_on.new.self.flat
+returns-clause-rest g c = all_rest_after_rest c.args.tries c.args.t c.args.self.now.flat c.go_on.new.self.flat
     ((c.in_ok-go_on.ensures.ran before_rounds).gained.threads ∙ c.in_ok-step.ensures.took.gained.threads) c.requires.rest
     (others_rest_transitive c.args.tries c.args.t c.args.self.now.flat c.step.new.self.flat c.go_on.new.self.flat
     (c.in_ok-step.ensures.others c.args.tries) c.in_ok-go_on.ensures.others) c.in_ok-go_on.ensures.rests

@@ -19,7 +19,8 @@ returns-in_err-take_level-clause-has g c =
     let many : length (rows c.take_level.new.opened) ≡ length (rows v.items) =
     length_of_rows c.take_level.new.opened ∙ c.take_level.ensures.threads ∙ ap length c.deref_mut.ensures.value ∙ sym (length_of_rows v.items) in
     subst (λ z. HasGone more (length (rows z)) size new c.take_level.new.found.refusals.items level.number) (sym same)
-    (has_part noted more (g.S.Successors.size c.args.graph.now) c.args.self.now.found.nodes.items new c.args.self.now.found.refusals.items c.take_level.new.found.refusals.items (rows v.items) level c.requires.between
+    (has_part noted more (g.S.Successors.size c.args.graph.now) c.args.self.now.found.nodes.items new c.args.self.now.found.refusals.items
+    c.take_level.new.found.refusals.items (rows v.items) level c.requires.between
     c.take_level.ensures.kept c.take_level.ensures.adds c.take_level.ensures.reached (length (rows c.take_level.new.opened)) size many
     c.take_level.ensures.few)
 
@@ -35,7 +36,8 @@ returns-clause-has g c =
     let many : length (rows c.take_level.new.opened) ≡ length (rows v.items) =
     length_of_rows c.take_level.new.opened ∙ c.take_level.ensures.threads ∙ ap length c.deref_mut.ensures.value ∙ sym (length_of_rows v.items) in
     subst (λ z. HasGone more (length (rows z)) size new c.take_level.new.found.refusals.items level.number) (sym same)
-    (has_part noted more (g.S.Successors.size c.args.graph.now) c.args.self.now.found.nodes.items new c.args.self.now.found.refusals.items c.take_level.new.found.refusals.items (rows v.items) level c.requires.between
+    (has_part noted more (g.S.Successors.size c.args.graph.now) c.args.self.now.found.nodes.items new c.args.self.now.found.refusals.items
+    c.take_level.new.found.refusals.items (rows v.items) level c.requires.between
     c.take_level.ensures.kept c.take_level.ensures.adds c.take_level.ensures.reached (length (rows c.take_level.new.opened)) size many
     c.take_level.ensures.few)
 
@@ -53,7 +55,8 @@ returns-clause-between g c =
     length_of_rows c.take_level.new.opened ∙ c.take_level.ensures.threads ∙ wide in
     let next : Level = record { number = level.number + 1; first = level.until; until = c.len.result } in
     subst (λ z. IsBetween more size new c.take_level.new.found.refusals.items (rows z) next) (sym same)
-    (between_more noted more (g.S.Successors.size c.args.graph.now) c.args.self.now.found.nodes.items new c.args.self.now.found.refusals.items c.take_level.new.found.refusals.items (rows v.items) level c.requires.between
+    (between_more noted more (g.S.Successors.size c.args.graph.now) c.args.self.now.found.nodes.items new
+    c.args.self.now.found.refusals.items c.take_level.new.found.refusals.items (rows v.items) level c.requires.between
     c.take_level.ensures.kept c.take_level.ensures.adds c.take_level.ensures.reached size (rows c.take_level.new.opened) next
     c.in_ok-take_level.ensures.followed
     (subst (AllOpen (rows c.take_level.new.opened) 0 level.until) wide c.in_ok-take_level.ensures.opens) c.in_ok-take_level.ensures.rows

@@ -1,7 +1,7 @@
 use Rattle.std.proofs.Common.{◌≡◌, ◌+◌, ◌≤◌, None, sym, subst, arith}
 use Rattle.ir_thread.specs.State.{ThreadState}
 use Rattle.ir_thread.specs.Private.{PrivateSteps}
-use Rattle.ir_thread.proofs.PrivateRuns.{thread_after_private_steps, private_steps_of_machine_steps}
+use Rattle.ir_thread.proofs.PrivateRuns.{thread_after_private_steps, private_of_machine_steps}
 use Rattle.ir_thread.proofs.thread.Thread.run_within.Goals as goal
 
 pub returns-clause-steps : goal.returns-clause-steps
@@ -26,5 +26,5 @@ returns-clause-steps c =
     let P : ThreadState → Type 0 = λ old. PrivateSteps c.args.code.now c.run_on-taken.result.0 old
     (thread_after_private_steps s c.run_on-taken.new.self c.run_on-taken.result.0) in
     subst P c.self.view_is
-    (private_steps_of_machine_steps c.args.code.now s c.run_on-taken.result.0 c.run_on-taken.new.self none
+    (private_of_machine_steps c.args.code.now s c.run_on-taken.result.0 c.run_on-taken.new.self none
     (omega (arith, le, c.run_on-taken.ensures.within)) c.run_on-taken.ensures.steps)

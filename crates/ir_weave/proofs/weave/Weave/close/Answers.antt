@@ -2,7 +2,7 @@ use Rattle.std.proofs.Common.{◌∙◌, ◌<◌, length, ap, sym, arith}
 use Rattle.std.specs.Slots.{slots_items}
 use Rattle.ir_object.specs.Layout.{table_length}
 use Rattle.ir_weave.specs.Woven.{IsEnd}
-use Rattle.ir_weave.proofs.Opening.{final_table_is_end, end_cell_count_is_guest_object_count, are_objects_at_zero, are_objects_step, objects_are_closed_if_count_reaches_length}
+use Rattle.ir_weave.proofs.Opening.{final_table_is_end, end_cells_count_objects, are_objects_at_zero, are_objects_step, all_objects_closed}
 use Rattle.ir_weave.proofs.weave.Weave.close.Goals as goal
 use Rattle.ir_weave.proofs.weave.Weave.close.Goals.{After-close_with-closed}
 
@@ -15,7 +15,7 @@ object_at-requires-clause-table c =
     let e : IsEnd c.args.self.table.shared.key c.args.seat.me.0 (slots_items c.close_with-closed.result.words) =
     final_table_is_end c.args.self.table.shared.key c.args.seat.id c.args.seat.me.0 (slots_items c.close_with-closed.result.words) _
     c.close_with-closed.ensures.values.2 in
-    let count = end_cell_count_is_guest_object_count c.args.self.table.shared.key c.args.seat.me.0 (slots_items c.close_with-closed.result.words) e in (
+    let count = end_cells_count_objects c.args.self.table.shared.key c.args.seat.me.0 (slots_items c.close_with-closed.result.words) e in (
       c.args.self.table.shared.key,
       c.args.seat.me.0,
       e,
@@ -38,5 +38,5 @@ returns c =
     let e : IsEnd c.args.self.table.shared.key c.args.seat.me.0 (slots_items c.close_with-closed.result.words) =
     final_table_is_end c.args.self.table.shared.key c.args.seat.id c.args.seat.me.0 (slots_items c.close_with-closed.result.words) _
     c.close_with-closed.ensures.values.2 in
-    objects_are_closed_if_count_reaches_length c.args.self.table.shared.key c.args.seat.me.0 (slots_items c.close_with-closed.result.words) e c.loop-o.objects c.loop-o.o
+    all_objects_closed c.args.self.table.shared.key c.args.seat.me.0 (slots_items c.close_with-closed.result.words) e c.loop-o.objects c.loop-o.o
     (c.loop-o.invariant e) (let size = c.loop-o.auto.objects in let l = c.loop-o-test.false in omega (arith, size, l))

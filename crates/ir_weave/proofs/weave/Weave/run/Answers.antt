@@ -2,7 +2,7 @@ use Rattle.std.proofs.Common.{◌≡◌, ◌+◌, ◌<◌, ◌≤◌, ◌∙◌,
 use Rattle.ir_thread.specs.State.{ask_of}
 use Rattle.ir_cut.specs.Positions.{cut_of}
 use Rattle.ir_weave.specs.Woven.{HasRunOn}
-use Rattle.ir_weave.proofs.Steps.{has_run_on_by_private_steps}
+use Rattle.ir_weave.proofs.Steps.{has_run_on_by_private}
 use Rattle.ir_weave.proofs.weave.Weave.run.Goals as goal
 use Rattle.ir_weave.proofs.weave.Weave.run.Goals.{After-run}
 
@@ -12,7 +12,7 @@ room c = let at : c.position.result ≡ cut_of c.args.target.now c.args.thread.n
     let few = c.run.ensures.within in let m = c.min.ensures in let now = c.steps.ensures.value in let below = c.requires.below in omega (arith, at, few, m, now, below)
 
 ran : (c : After-run) → HasRunOn c.args.self.now.table.shared.key c.args.seat.now.me.0 c.args.thread.now c.run.new.self c.run.result.0
-ran c = has_run_on_by_private_steps c.args.self.now.table.shared.key c.args.fitted.now c.code.result.now c.args.seat.now.me.0
+ran c = has_run_on_by_private c.args.self.now.table.shared.key c.args.fitted.now c.code.result.now c.args.seat.now.me.0
     c.args.thread.now c.run.new.self c.run.result.0 c.requires.table (c.code.ensures.value ∙ ap (λ g. g.code) c.image.ensures.value)
     c.requires.thread c.run.ensures.steps
 

@@ -1,12 +1,12 @@
 use Rattle.std.proofs.Common.{◌∙◌, ap}
 use Rattle.ir_weave.specs.Woven.{met_of}
 use Rattle.ir_thread.specs.declared.ask.Ask.TheVariants.{Leave}
-use Rattle.ir_weave.proofs.Steps.{stepped_by_object_step_without_value, rises_is_reflexive}
+use Rattle.ir_weave.proofs.Steps.{stepped_without_value, rises_is_reflexive}
 use Rattle.ir_weave.proofs.weave.Weave.step_out.Goals as goal
 
 pub returns-clause-stepped : goal.returns-clause-stepped
 returns-clause-stepped c =
-    stepped_by_object_step_without_value c.args.self.now.table.shared.key c.args.fitted.now c.code.result.now c.args.seat.now.me c.leave.new.seat.me
+    stepped_without_value c.args.self.now.table.shared.key c.args.fitted.now c.code.result.now c.args.seat.now.me c.leave.new.seat.me
     c.args.thread.now c.take_asked.new.self (Leave c.args.object c.args.access) c.requires.table
     (c.code.ensures.value ∙ ap (λ g. g.code) c.image.ensures.value) c.requires.thread c.requires.asking tt tt c.take_asked.ensures
     (met_of c.args.seat.now.me.0) (rises_is_reflexive (met_of c.args.seat.now.me.0)) c.leave.ensures.left

@@ -1,5 +1,5 @@
 use Rattle.std.proofs.Common.{sym, ◌∙◌}
-use Rattle.ir_weave.proofs.Steps.{seated_thread_not_done_has_step, done_thread_has_waited}
+use Rattle.ir_weave.proofs.Steps.{seated_has_step, done_thread_has_waited}
 use Rattle.ir_weave.proofs.weave.Weave.try_asked.Goals as goal
 use Rattle.ir_weave.proofs.weave.Weave.try_asked.Goals.{in-Done, in_default}
 
@@ -8,7 +8,7 @@ take-requires-clause-asking c = elim c.match-matches.branch [
   | in-Done w ↦ absurd (cc (w.matches-is, c.if-matches.false))
   | in_default w ↦ record {
     asks = sym c.requires.asked;
-    has = seated_thread_not_done_has_step c.args.self.now.table.shared.key c.args.fitted.now c.args.seat.now.me.0 c.args.thread.now c.requires.table
+    has = seated_has_step c.args.self.now.table.shared.key c.args.fitted.now c.args.seat.now.me.0 c.args.thread.now c.requires.table
         c.requires.thread (λ done. w.in_default.not-Done (c.requires.asked ∙ done));
   }
 ]

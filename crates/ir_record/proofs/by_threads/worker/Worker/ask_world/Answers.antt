@@ -1,7 +1,7 @@
 use Rattle.std.proofs.Common.{Some, None, refl}
 use Rattle.ir_log.specs.declared.event.Event.TheVariants as event
 use Rattle.ir_thread.specs.declared.ask.Ask.TheVariants as ask
-use Rattle.ir_record.proofs.WorkerSteps.{still_works_after_step, answer_room, own_steps_left_fall_after_reply_unless_done}
+use Rattle.ir_record.proofs.WorkerSteps.{still_works_after_step, answer_room, reply_lowers_own_left}
 use Rattle.ir_record.proofs.by_threads.worker.Worker.ask_world.Goals as goal
 
 pub push-requires : goal.push-requires
@@ -25,4 +25,4 @@ returns-in-Err-clause-stopped g c = record {
 }
 
 pub returns-in-Ok-clause-fewer : goal.returns-in-Ok-clause-fewer
-returns-in-Ok-clause-fewer g c = own_steps_left_fall_after_reply_unless_done _ _ _ c.requires.asked (λ done. absurd cc) c.take_asked.ensures
+returns-in-Ok-clause-fewer g c = reply_lowers_own_left _ _ _ c.requires.asked (λ done. absurd cc) c.take_asked.ensures

@@ -4,7 +4,7 @@ use Rattle.ir_crew.specs.declared.deed.Deed.TheVariants.{Enter}
 use Rattle.ir_log.specs.declared.event.Event.TheVariants as event
 use Rattle.ir_runs.specs.declared.access.Access.TheVariants.{Reading}
 use Rattle.ir_thread.specs.declared.ask.Ask.TheVariants as ask
-use Rattle.ir_record.proofs.WorkerSteps.{still_works_after_step, below_enter, enter_room, enter_few, outside, own_steps_left_fall_after_reply_unless_done}
+use Rattle.ir_record.proofs.WorkerSteps.{still_works_after_step, below_enter, enter_room, enter_few, outside, reply_lowers_own_left}
 use Rattle.ir_record.proofs.by_threads.worker.Worker.enter_read.Goals as goal
 
 pub enter_read-version-requires-clause-object : goal.enter_read-version-requires-clause-object
@@ -31,4 +31,4 @@ returns-clause-stays g c =
     }
 
 pub returns-clause-fewer : goal.returns-clause-fewer
-returns-clause-fewer g c = own_steps_left_fall_after_reply_unless_done _ _ _ c.requires.asked (λ done. absurd cc) c.take_asked.ensures
+returns-clause-fewer g c = reply_lowers_own_left _ _ _ c.requires.asked (λ done. absurd cc) c.take_asked.ensures

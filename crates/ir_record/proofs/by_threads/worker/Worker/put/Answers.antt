@@ -2,7 +2,7 @@ use Rattle.std.proofs.Common.{Some, None, refl}
 use Rattle.ir_crew.proofs.CallerLemmas.{step_of_deed}
 use Rattle.ir_crew.specs.declared.deed.Deed.TheVariants.{Put}
 use Rattle.ir_thread.specs.declared.ask.Ask.TheVariants as ask
-use Rattle.ir_record.proofs.WorkerSteps.{still_works_after_step, below_put, inside_put, own_steps_left_fall_after_reply_unless_done}
+use Rattle.ir_record.proofs.WorkerSteps.{still_works_after_step, below_put, inside_put, reply_lowers_own_left}
 use Rattle.ir_record.proofs.by_threads.worker.Worker.put.Goals as goal
 
 pub put-requires-clause-object : goal.put-requires-clause-object
@@ -20,4 +20,4 @@ returns-clause-stays g c = record {
 }
 
 pub returns-clause-fewer : goal.returns-clause-fewer
-returns-clause-fewer g c = own_steps_left_fall_after_reply_unless_done _ _ _ c.requires.asked (λ done. absurd cc) c.take_asked.ensures
+returns-clause-fewer g c = reply_lowers_own_left _ _ _ c.requires.asked (λ done. absurd cc) c.take_asked.ensures

@@ -1,6 +1,6 @@
 use Rattle.std.proofs.Common.{◌≡◌, true, sym, ap, ◌∙◌, subst}
 use Rattle.ir_thread.specs.State.{ask_of}
-use Rattle.ir_record.specs.Working.{work_of, IsOutside}
+use Rattle.ir_record.specs.Working.{work_of_worker, IsOutside}
 use Rattle.ir_record.proofs.WorkerSteps.{seated_on, inside_worker}
 use Rattle.ir_record.proofs.by_threads.worker.Worker.run_to_end.Goals as goal
 
@@ -27,7 +27,7 @@ returns-in-Err g c =
       stays = λ works. absurd (cc (works, failed));
       done = λ works. absurd (cc (works, failed));
       worked = λ _. record {
-        last = work_of g.W.World.answers last;
+        last = work_of_worker g.W.World.answers last;
         still = λ budget profile t before i. c.take_private_steps-asked.ensures.stays.still budget profile t before
             (c.steps.invariant.stays.still budget profile t before i);
         asks = (stopped.asks.0, ap (λ code. ask_of code last.thread) (sym c.requires.seated.same_code) ∙ stopped.asks.1);

@@ -3,7 +3,7 @@ use Rattle.ir_crew.proofs.CallerLemmas.{step_of_deed}
 use Rattle.ir_crew.specs.declared.deed.Deed.TheVariants.{Try}
 use Rattle.ir_log.specs.declared.event.Event.TheVariants as event
 use Rattle.ir_thread.specs.declared.ask.Ask.TheVariants as ask
-use Rattle.ir_record.proofs.WorkerSteps.{still_works_after_step, below_try, try_in_two, try_room, try_few, own_steps_left_fall_after_reply_unless_done}
+use Rattle.ir_record.proofs.WorkerSteps.{still_works_after_step, below_try, try_in_two, try_room, try_few, reply_lowers_own_left}
 use Rattle.ir_record.proofs.by_threads.worker.Worker.try_write.Goals as goal
 
 pub try_write-requires-clause-object : goal.try_write-requires-clause-object
@@ -41,7 +41,7 @@ returns-clause-stays g c =
     }
 
 pub returns-in_default-clause-fewer : goal.returns-in_default-clause-fewer
-returns-in_default-clause-fewer g c = own_steps_left_fall_after_reply_unless_done _ _ _ c.requires.asked (λ done. absurd cc) c.take_asked.ensures
+returns-in_default-clause-fewer g c = reply_lowers_own_left _ _ _ c.requires.asked (λ done. absurd cc) c.take_asked.ensures
 
 pub returns-clause-fewer : goal.returns-clause-fewer
-returns-clause-fewer g c = own_steps_left_fall_after_reply_unless_done _ _ _ c.requires.asked (λ done. absurd cc) c.take_asked-2.ensures
+returns-clause-fewer g c = reply_lowers_own_left _ _ _ c.requires.asked (λ done. absurd cc) c.take_asked-2.ensures

@@ -1,18 +1,18 @@
 use Rattle.std.proofs.Common.{ap, ◌∙◌, refl, [], ◌∷◌, ◌++◌, set}
-use Rattle.ir_lemmas.proofs.CallerLemmas.{ok_fact_if_error_refuted}
+use Rattle.ir_lemmas.proofs.CallerLemmas.{ok_fact_holds}
 use Rattle.ir_flat.specs.Flat.{tables, machine}
 use Rattle.ir_runs.specs.Run.{Can}
 use Rattle.ir_log.specs.Logged.{Logged}
 use Rattle.ir_log.specs.declared.event.Event.TheVariants as event
-use Rattle.ir_record.proofs.Logs.{log_has_room_if_event_count_is_below_limit, looked_up_log_is_log_at}
-use Rattle.ir_record.proofs.Answering.{AnswerLogged, environment_call_can_step, event_count_is_below_limit_at_call, has_logs_after_answer, turn_taken_by_answer}
+use Rattle.ir_record.proofs.Logs.{log_has_room, looked_up_log_is_log_at}
+use Rattle.ir_record.proofs.Answering.{AnswerLogged, call_can_step, call_events_below_limit, has_logs_after_answer, turn_taken_by_answer}
 use Rattle.ir_record.proofs.in_order.logged_guest.LoggedGuest.answer.Goals as goal
 
 pub push-requires : goal.push-requires
-push-requires c = log_has_room_if_event_count_is_below_limit c.args.self.now.flat c.args.self.now.logs.items c.args.t c.index_mut.result.now c.requires.has_logs c.requires.thread
+push-requires c = log_has_room c.args.self.now.flat c.args.self.now.logs.items c.args.t c.index_mut.result.now c.requires.has_logs c.requires.thread
     (looked_up_log_is_log_at c.args.self.now.flat c.args.self.now.logs.items c.args.t c.index_mut.result.now c.requires.has_logs c.requires.thread
     c.index_mut.ensures.value)
-    (event_count_is_below_limit_at_call c.args.self.now.flat c.args.t c.args.kind c.requires.asked)
+    (call_events_below_limit c.args.self.now.flat c.args.t c.args.kind c.requires.asked)
 
 answering : (c : goal.After-self-1) → AnswerLogged c.args.self.now.flat c.take.new.self c.args.self.now.logs.items
     (set c.args.self.now.logs.items c.args.t c.push.new.self) c.args.t c.args.value c.args.kind
@@ -22,8 +22,8 @@ answering c = record {
   below = c.requires.thread;
   asked = c.requires.asked;
   fits = c.requires.fits;
-  taken = ok_fact_if_error_refuted c.take.result (Can (machine c.args.self.now.flat) (tables c.args.self.now.flat) (c.args.t, c.args.value)) _
-      (environment_call_can_step c.args.self.now.flat c.args.t c.args.value c.args.kind c.requires.asked c.requires.fits) c.take.ensures.refused
+  taken = ok_fact_holds c.take.result (Can (machine c.args.self.now.flat) (tables c.args.self.now.flat) (c.args.t, c.args.value)) _
+      (call_can_step c.args.self.now.flat c.args.t c.args.value c.args.kind c.requires.asked c.requires.fits) c.take.ensures.refused
       c.take.ensures.taken;
   code = c.take.ensures.code;
   threads = c.take.ensures.threads;

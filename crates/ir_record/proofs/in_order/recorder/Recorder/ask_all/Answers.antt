@@ -1,5 +1,5 @@
 use Rattle.std.proofs.Common.{◌≡◌, ◌<◌, length, ap, ◌∙◌, arith, length-set}
-use Rattle.ir_record.proofs.Kept.{kept_asks_are_of_threads_step}
+use Rattle.ir_record.proofs.Kept.{kept_asks_step}
 use Rattle.ir_record.proofs.in_order.recorder.Recorder.ask_all.Goals as goal
 
 pub loop-number-init : goal.loop-number-init
@@ -11,7 +11,7 @@ loop-number-preserved g c =
     let below : c.loop-number.number < length c.loop-number.asks.items = omega (arith, e, c.loop-number-test.true, c.loop-number.auto.number-end, c.loop-number.invariant.places) in
     record {
       places = length-set c.loop-number.asks.items c.loop-number.number _ ∙ c.loop-number.invariant.places;
-      asked = kept_asks_are_of_threads_step c.loop-number.asks.items c.args.self.now.guest.flat c.loop-number.number c.ask.result below c.ask.ensures.value
+      asked = kept_asks_step c.loop-number.asks.items c.args.self.now.guest.flat c.loop-number.number c.ask.result below c.ask.ensures.value
           c.loop-number.invariant.asked;
     }
 

@@ -1,14 +1,14 @@
 use Rattle.std.proofs.Common.{◌≡◌, ◌<◌, ◌+◌, ◌-◌, ℕ, List, [], ◌∷◌, ◌++◌, arith, length, ap, sym, subst, refl, ◌∙◌}
 use Rattle.std.specs.List.{range_with_len}
-use Rattle.ir_record.specs.Ahead.{lead, CanSkip, WentIf}
+use Rattle.ir_record.specs.Ahead.{lead_of_thread, CanSkip, WentIf}
 use Rattle.ir_flat.specs.Flat.{tables, machine}
 use Rattle.ir_record.specs.RoundResults.{Noted}
 use Rattle.ir_record.specs.Progress.{Progress}
 use Rattle.ir_record.specs.Recorders.{progress_of}
-use Rattle.ir_record.proofs.Going.{lead_is_looked_up_element, went_without_step_by_no_turns, reached, ahead_of_reached_state}
-use Rattle.ir_record.proofs.RoundResults.{round_after_no_turns, round_after_turns_step, went_part_of_round_with_noted_turn_added}
-use Rattle.ir_record.proofs.Stopped.{if_err_holds_if_holds_of_its_error, range_splits_at_number, stopped_in_longer_order, stopped_after_turns_ahead}
-use Rattle.ir_record.proofs.Ready.{stays_ready_if_error_names_first_failed_world}
+use Rattle.ir_record.proofs.Going.{lead_is_element, went_no_turns, reached, ahead_of_reached_state}
+use Rattle.ir_record.proofs.RoundResults.{round_after_no_turns, round_after_turns_step, went_noted_turn}
+use Rattle.ir_record.proofs.Stopped.{if_err_of_its_error, range_splits_at_number, stopped_in_longer_order, stopped_past_turns}
+use Rattle.ir_record.proofs.Ready.{stays_ready_first_failed}
 use Rattle.ir_record.proofs.in_order.recorder.Recorder.round.Goals as goal
 
 pub loop-t-init : goal.loop-t-init
@@ -16,7 +16,7 @@ loop-t-init g c = record {
   went = λ s h. subst (λ z. WentIf z [] s (progress_of g.W.World.answers c.args.self.now)
       c.args.ahead.now.items (progress_of g.W.World.answers c.args.self.now) c.args.ahead.now.items)
       (sym c.new-round.ensures.moved)
-      (went_without_step_by_no_turns s (progress_of g.W.World.answers c.args.self.now) c.args.ahead.now.items h);
+      (went_no_turns s (progress_of g.W.World.answers c.args.self.now) c.args.ahead.now.items h);
   so_far = round_after_no_turns c.new-round.result c.args.ahead.now.items c.args.self.now.guest.flat;
   places = c.requires.places;
   threads = refl;
@@ -34,7 +34,7 @@ loop-t-preserved g c = record {
       c.loop-t.invariant.went s h in
       let q = c.in_ok-outcome.ensures.went (reached p.went)
       (ahead_of_reached_state (range_with_len 0 c.loop-t.t) s a b c.args.ahead.now.items c.loop-t.ahead.items p.went) in
-      went_part_of_round_with_noted_turn_added c.in_ok-outcome.outcome c.loop-t.t c.index.result.now c.loop-t.round c.note.new.self s a b e c.args.ahead.now.items
+      went_noted_turn c.in_ok-outcome.outcome c.loop-t.t c.index.result.now c.loop-t.round c.note.new.self s a b e c.args.ahead.now.items
       c.loop-t.ahead.items c.turn_ahead.new.ahead.items p q c.note.ensures;
   so_far =
       let d : List ℕ = c.turn_ahead.new.ahead.items in
@@ -49,7 +49,7 @@ loop-t-preserved g c = record {
         c.in_ok-outcome.ensures.turn.threads,
         c.loop-t.invariant.threads,
       )) in
-      let here : lead d c.loop-t.t ≡ c.index.result.now = lead_is_looked_up_element d c.loop-t.t c.index.result.now below c.index.ensures in
+      let here : lead_of_thread d c.loop-t.t ≡ c.index.result.now = lead_is_element d c.loop-t.t c.index.result.now below c.index.ensures in
       round_after_turns_step c.in_ok-outcome.outcome c.loop-t.t c.loop-t.round c.note.new.self c.loop-t.ahead.items d c.loop-t.self.guest.flat
       c.turn_ahead.new.self.guest.flat c.loop-t.invariant.so_far
       c.in_ok-outcome.ensures.turn
@@ -78,7 +78,7 @@ returns-clause-free g c =
     c.loop-t.invariant.so_far.each
 
 pub returns-in_err-outcome-clause-stopped : goal.returns-in_err-outcome-clause-stopped
-returns-in_err-outcome-clause-stopped g c = if_err_holds_if_holds_of_its_error _ c.from_residual.result c.in_err-outcome.field-0.0 c.from_residual.ensures.1 (
+returns-in_err-outcome-clause-stopped g c = if_err_of_its_error _ c.from_residual.result c.in_err-outcome.field-0.0 c.from_residual.ensures.1 (
     λ s h.
     let a : Progress = progress_of g.W.World.answers c.args.self.now in
     let b : Progress = progress_of g.W.World.answers c.loop-t.self in
@@ -89,7 +89,7 @@ returns-in_err-outcome-clause-stopped g c = if_err_holds_if_holds_of_its_error _
     c.loop-t.invariant.went s h in
     stopped_in_longer_order (range_with_len 0 c.loop-t.t ++ c.loop-t.t ∷ []) (range_with_len (c.loop-t.t + 1) (n - (c.loop-t.t + 1)))
     (range_with_len 0 n) s a _ _ (range_splits_at_number c.loop-t.t n below)
-    (stopped_after_turns_ahead (range_with_len 0 c.loop-t.t) (c.loop-t.t ∷ []) s a b c.args.ahead.now.items c.loop-t.ahead.items _ _ p.went
+    (stopped_past_turns (range_with_len 0 c.loop-t.t) (c.loop-t.t ∷ []) s a b c.args.ahead.now.items c.loop-t.ahead.items _ _ p.went
     (c.in_err-outcome.ensures.stopped (reached p.went)
     (ahead_of_reached_state (range_with_len 0 c.loop-t.t) s a b c.args.ahead.now.items c.loop-t.ahead.items p.went)))
     )
@@ -98,6 +98,6 @@ pub returns-clause-stays : goal.returns-clause-stays
 returns-clause-stays g c = record { ready = c.loop-t.invariant.ready; failed = tt; same_worlds = c.loop-t.invariant.kept }
 
 pub returns-in_err-outcome-clause-stays : goal.returns-in_err-outcome-clause-stays
-returns-in_err-outcome-clause-stays g c = stays_ready_if_error_names_first_failed_world g.W.World.answers g.W.World.broken g.W.World.origin
+returns-in_err-outcome-clause-stays g c = stays_ready_first_failed g.W.World.answers g.W.World.broken g.W.World.origin
     c.args.self.now c.turn_ahead.new.self c.from_residual.result c.in_err-outcome.field-0.0 c.from_residual.ensures.1 c.in_err-outcome.ensures.stays.failed
     (c.turn_ahead.ensures.stays.same_worlds ∙ c.loop-t.invariant.kept)

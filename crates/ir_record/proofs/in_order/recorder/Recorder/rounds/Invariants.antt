@@ -1,6 +1,6 @@
 use Rattle.std.proofs.Common.{◌≡◌, ◌+◌, length}
 use Rattle.ir_flat.specs.Flat.{tables}
-use Rattle.ir_record.specs.Ahead.{all_ahead, HasPlaces}
+use Rattle.ir_record.specs.Ahead.{all_threads_ahead, HasPlaces}
 use Rattle.ir_record.specs.Progress.{all_left}
 use Rattle.ir_record.specs.Recorders.{progress_of, CanContinue}
 use Rattle.ir_record.specs.Worlds.{AreSameWorlds}
@@ -17,4 +17,4 @@ invariant-rounds g l = record {
 }
 
 abbrev pub decreases-rounds : goal.decreases-rounds
-decreases-rounds g l = all_left (length l.self.guest.flat.threads) (tables l.self.guest.flat).now + all_ahead l.ahead.items
+decreases-rounds g l = all_left (length l.self.guest.flat.threads) (tables l.self.guest.flat).now + all_threads_ahead l.ahead.items

@@ -1,30 +1,30 @@
 use Rattle.std.proofs.Common.{◌≡◌, ◌<◌, ◌-◌, ℕ, suc, List, [], ◌∷◌, length, map, set, sym, ap, ◌∙◌, subst, arith, length-set, true, refl, replicate, get_or-set_other}
 use Rattle.ir_flat.specs.Flat.{machine, tables}
-use Rattle.ir_record.specs.Ahead.{alone, lead, AreAsks, WentIf}
+use Rattle.ir_record.specs.Ahead.{alone, lead_of_thread, AreAsks, WentIf}
 use Rattle.ir_record.specs.Progress.{Progress, progress, TookIf}
 use Rattle.ir_record.specs.Recorders.{progress_of}
-use Rattle.ir_record.proofs.Going.{lead_is_looked_up_element, no_step_after_passed_turn, turn_of_thread_ahead_lowers_lead, went_without_step_in_passed_turn, went_by_turn_and_private_steps}
-use Rattle.ir_record.proofs.Kept.{get_or_done_is_element_below_length, are_asks_after_turn_and_private_steps}
+use Rattle.ir_record.proofs.Going.{lead_is_element, passed_leaves_no_step, ahead_turn_lowers_lead, went_passed_turn, went_turn_and_private}
+use Rattle.ir_record.proofs.Kept.{get_or_done_element, asks_after_turn}
 use Rattle.ir_record.proofs.Joining.{ready_after_took_order}
-use Rattle.ir_record.proofs.Stopped.{if_err_holds_if_holds_of_its_error, stopped_at_turn_of_unanswered_thread}
-use Rattle.ir_record.proofs.Ready.{stays_ready_if_error_names_first_failed_world}
+use Rattle.ir_record.proofs.Stopped.{if_err_of_its_error, stopped_at_unanswered}
+use Rattle.ir_record.proofs.Ready.{stays_ready_first_failed}
 use Rattle.ir_record.proofs.in_order.recorder.Recorder.turn_ahead.Goals as goal
 
 pub returns-then-lead-gt0-clause-went : goal.returns-then-lead-gt0-clause-went
 returns-then-lead-gt0-clause-went g c = λ s h.
     let a : Progress = progress_of g.W.World.answers c.args.self.now in
     let l : c.args.t < length c.args.ahead.now.items = omega (arith, c.requires.places.leads, c.requires.thread) in
-    let here : lead c.args.ahead.now.items c.args.t ≡ c.index-lead.result.now =
-    lead_is_looked_up_element c.args.ahead.now.items c.args.t c.index-lead.result.now l c.index-lead.ensures in
-    turn_of_thread_ahead_lowers_lead s a c.args.ahead.now.items c.args.t (c.index-lead.result.now - 1) l
-    (here ∙ (let e : c.index-lead.result.now ≡ suc (c.index-lead.result.now - 1) = omega (arith, c.if-lead-gt0.true) in e)) h
+    let here : lead_of_thread c.args.ahead.now.items c.args.t ≡ c.index-lead_of_thread.result.now =
+    lead_is_element c.args.ahead.now.items c.args.t c.index-lead_of_thread.result.now l c.index-lead_of_thread.ensures in
+    ahead_turn_lowers_lead s a c.args.ahead.now.items c.args.t (c.index-lead_of_thread.result.now - 1) l
+    (here ∙ (let e : c.index-lead_of_thread.result.now ≡ suc (c.index-lead_of_thread.result.now - 1) = omega (arith, c.if-lead-gt0.true) in e)) h
 
 pub returns-then-not-branch-clause-went : goal.returns-then-not-branch-clause-went
 returns-then-not-branch-clause-went g c = λ s h.
     let l : c.args.t < length c.args.ahead.now.items = omega (arith, c.requires.places.leads, c.requires.thread) in
-    let here : lead c.args.ahead.now.items c.args.t ≡ c.index-lead.result.now =
-    lead_is_looked_up_element c.args.ahead.now.items c.args.t c.index-lead.result.now l c.index-lead.ensures in
-    went_without_step_in_passed_turn s (progress_of g.W.World.answers c.args.self.now)
+    let here : lead_of_thread c.args.ahead.now.items c.args.t ≡ c.index-lead_of_thread.result.now =
+    lead_is_element c.args.ahead.now.items c.args.t c.index-lead_of_thread.result.now l c.index-lead_of_thread.ensures in
+    went_passed_turn s (progress_of g.W.World.answers c.args.self.now)
     (progress_of g.W.World.answers c.turn_asked.new.self) c.args.ahead.now.items c.args.t
     c.in_ok-turn_asked.field-0 c.if-not-branch.true
     (omega (arith, here, c.if-lead-gt0.false)) h c.in_ok-turn_asked.ensures.took
@@ -35,28 +35,28 @@ returns-clause-went g c = λ s h.
     let b : Progress = progress_of g.W.World.answers c.turn_asked.new.self in
     let ahead : List ℕ = c.args.ahead.now.items in
     let l : c.args.t < length ahead = omega (arith, c.requires.places.leads, c.requires.thread) in
-    let here : lead ahead c.args.t ≡ c.index-lead.result.now = lead_is_looked_up_element ahead c.args.t c.index-lead.result.now l c.index-lead.ensures in
+    let here : lead_of_thread ahead c.args.t ≡ c.index-lead_of_thread.result.now = lead_is_element ahead c.args.t c.index-lead_of_thread.result.now l c.index-lead_of_thread.ensures in
     let took : TookIf true (c.args.t ∷ []) a b =
     subst (λ z. TookIf z (c.args.t ∷ []) a b) c.if-not-branch.false c.in_ok-turn_asked.ensures.took in
     subst (λ ls. WentIf true (c.args.t ∷ []) s a ahead (record b { flat = c.run-ran.new.self.flat; logs = ls.items })
     (set ahead c.args.t c.run-ran.result.0)) (sym c.run-ran.ensures.logs)
-    (went_by_turn_and_private_steps s a b c.run-ran.new.self.flat ahead c.args.t c.run-ran.result.0 l c.requires.thread c.run-ran.ensures.flat
+    (went_turn_and_private s a b c.run-ran.new.self.flat ahead c.args.t c.run-ran.result.0 l c.requires.thread c.run-ran.ensures.flat
     (omega (arith, here, c.if-lead-gt0.false)) h took c.run-ran.ensures.alone)
 
 pub turn_asked-requires-clause-asked : goal.turn_asked-requires-clause-asked
 turn_asked-requires-clause-asked g c =
     let l : c.args.t < length c.args.asks.now.items = omega (arith, c.requires.places.asks.places, c.requires.thread) in
-    sym (get_or_done_is_element_below_length c.args.asks.now.items c.args.t c.index.result.now l c.index.ensures) ∙ c.requires.places.asks.asked c.args.t c.requires.thread
+    sym (get_or_done_element c.args.asks.now.items c.args.t c.index.result.now l c.index.ensures) ∙ c.requires.places.asks.asked c.args.t c.requires.thread
 
 pub returns-in_err-turn_asked-clause-stopped : goal.returns-in_err-turn_asked-clause-stopped
-returns-in_err-turn_asked-clause-stopped g c = if_err_holds_if_holds_of_its_error _ c.from_residual.result c.in_err-turn_asked.field-0.0 c.from_residual.ensures.1 (
+returns-in_err-turn_asked-clause-stopped g c = if_err_of_its_error _ c.from_residual.result c.in_err-turn_asked.field-0.0 c.from_residual.ensures.1 (
     λ s h.
     let a : Progress = progress_of g.W.World.answers c.args.self.now in
     let l : c.args.t < length c.args.ahead.now.items = omega (arith, c.requires.places.leads, c.requires.thread) in
-    let here : lead c.args.ahead.now.items c.args.t ≡ c.index-lead.result.now =
-    lead_is_looked_up_element c.args.ahead.now.items c.args.t c.index-lead.result.now l c.index-lead.ensures in
-    let level : lead c.args.ahead.now.items c.args.t ≡ 0 = omega (arith, here, c.if-lead-gt0.false) in
-    stopped_at_turn_of_unanswered_thread c.args.t s a _ _ (map g.W.World.broken c.args.self.now.worlds.items) c.requires.ready
+    let here : lead_of_thread c.args.ahead.now.items c.args.t ≡ c.index-lead_of_thread.result.now =
+    lead_is_element c.args.ahead.now.items c.args.t c.index-lead_of_thread.result.now l c.index-lead_of_thread.ensures in
+    let level : lead_of_thread c.args.ahead.now.items c.args.t ≡ 0 = omega (arith, here, c.if-lead-gt0.false) in
+    stopped_at_unanswered c.args.t s a _ _ (map g.W.World.broken c.args.self.now.worlds.items) c.requires.ready
     (sym (h.threads c.args.t ∙ ap (λ k. alone (machine a.flat) k (s.now c.args.t)) level)) c.in_err-turn_asked.ensures.stopped
     )
 
@@ -76,7 +76,7 @@ pub returns-clause-places : goal.returns-clause-places
 returns-clause-places g c = record {
   leads = length-set c.args.ahead.now.items c.args.t _ ∙ c.requires.places.leads
       ∙ sym (c.run-ran.ensures.alone.threads ∙ c.in_ok-turn_asked.ensures.took.took.threads);
-  asks = are_asks_after_turn_and_private_steps c.args.asks.now.items (progress_of g.W.World.answers c.args.self.now)
+  asks = asks_after_turn c.args.asks.now.items (progress_of g.W.World.answers c.args.self.now)
       (progress_of g.W.World.answers c.turn_asked.new.self) c.run-ran.new.self.flat c.args.t c.run-ran.result.0 c.run-ran.result.1
       c.in_ok-turn_asked.field-0 c.requires.thread c.requires.places.asks c.run-ran.ensures.still_flat c.in_ok-turn_asked.ensures.took
       c.run-ran.ensures.alone c.run-ran.ensures.asked;
@@ -100,7 +100,7 @@ returns-then-not-branch-clause-turn g c = record {
   waits = λ is.
       let a : Progress = progress_of g.W.World.answers c.args.self.now in
       let b : Progress = progress_of g.W.World.answers c.turn_asked.new.self in
-      no_step_after_passed_turn a b c.args.t c.in_ok-turn_asked.field-0 c.if-not-branch.true c.in_ok-turn_asked.ensures.took;
+      passed_leaves_no_step a b c.args.t c.in_ok-turn_asked.field-0 c.if-not-branch.true c.in_ok-turn_asked.ensures.took;
 }
 
 pub returns-clause-turn : goal.returns-clause-turn
@@ -130,6 +130,6 @@ returns-clause-stays g c = record {
 }
 
 pub returns-in_err-turn_asked-clause-stays : goal.returns-in_err-turn_asked-clause-stays
-returns-in_err-turn_asked-clause-stays g c = stays_ready_if_error_names_first_failed_world g.W.World.answers g.W.World.broken g.W.World.origin
+returns-in_err-turn_asked-clause-stays g c = stays_ready_first_failed g.W.World.answers g.W.World.broken g.W.World.origin
     c.args.self.now c.turn_asked.new.self c.from_residual.result c.in_err-turn_asked.field-0.0 c.from_residual.ensures.1 c.in_err-turn_asked.ensures.stays.failed
     c.turn_asked.ensures.stays.same_worlds

@@ -2,7 +2,7 @@ use Rattle.std.proofs.Common.{true, [], ◌∷◌, refl, ap, ◌∙◌, arith, l
 use Rattle.ir_record.specs.Progress.{progress, TookIf}
 use Rattle.ir_record.specs.Recorders.{progress_of}
 use Rattle.ir_record.proofs.in_order.recorder.Recorder.turn_asked.Given.{Over}
-use Rattle.ir_record.proofs.Ready.{ready_after_turn, stays_ready_if_error_names_first_failed_world}
+use Rattle.ir_record.proofs.Ready.{ready_after_turn, stays_ready_first_failed}
 use Rattle.ir_record.proofs.in_order.recorder.Recorder.turn_asked.Goals as goal
 
 took : (g : Over) (c : goal.After-answer g) → TookIf true (c.args.t ∷ [])
@@ -74,6 +74,6 @@ pub returns-in-Try-clause-took : goal.returns-in-Try-clause-took
 returns-in-Try-clause-took g c = c.try_to_enter.ensures.took (map g.W.World.answers c.args.self.now.worlds.items)
 
 pub returns-in_err-value-in-Env-clause-stays : goal.returns-in_err-value-in-Env-clause-stays
-returns-in_err-value-in-Env-clause-stays g c = stays_ready_if_error_names_first_failed_world g.W.World.answers g.W.World.broken g.W.World.origin
+returns-in_err-value-in-Env-clause-stays g c = stays_ready_first_failed g.W.World.answers g.W.World.broken g.W.World.origin
     c.args.self.now (record c.args.self.now { worlds = c.answer_to.new.worlds }) c.from_residual.result c.in_err-value-in-Env.field-0.0 c.from_residual.ensures.1 c.in_err-value-in-Env.ensures.failed
     c.answer_to.ensures.kept

@@ -3,12 +3,12 @@ use Rattle.ir_flat.specs.Flat.{tables}
 use Rattle.ir_record.specs.Failures.{StoppedAt}
 use Rattle.ir_record.specs.Progress.{Progress, progress}
 use Rattle.ir_record.specs.Recorders.{progress_of}
-use Rattle.ir_record.proofs.Single.{took_turns_with_private_steps_and_turn_added, replicate_with_one_more, all_left_falls_after_moved_turn_of_only_thread}
+use Rattle.ir_record.proofs.Single.{took_private_then_turn, replicate_with_one_more, only_thread_lowers_left}
 use Rattle.ir_record.proofs.Steps.{took_no_turns}
 use Rattle.ir_record.proofs.Joining.{ready_after_took_order}
-use Rattle.ir_record.proofs.Following.{no_step_after_passed_turn, turns_of_thread_add_up}
-use Rattle.ir_record.proofs.Stopped.{if_err_holds_if_holds_of_its_error, stopped_at_turn_of_unanswered_thread, stopped_after_turns}
-use Rattle.ir_record.proofs.Ready.{stays_ready_if_error_names_first_failed_world}
+use Rattle.ir_record.proofs.Following.{passed_turn_leaves_none, turns_of_thread_add_up}
+use Rattle.ir_record.proofs.Stopped.{if_err_of_its_error, stopped_at_unanswered, stopped_after_turns}
+use Rattle.ir_record.proofs.Ready.{stays_ready_first_failed}
 use Rattle.ir_record.proofs.in_order.recorder.Recorder.turns_alone.Goals as goal
 
 pub turns-init : goal.turns-init
@@ -36,14 +36,14 @@ returns-then-not-branch-clause-took g c =
     let before : Progress = progress_of g.W.World.answers c.turns.self in
     let ran : Progress = progress c.run-ran.new.self (map g.W.World.answers c.turns.self.worlds.items) in (
       c.turns.invariant.took.0 + c.run-ran.result.0 + 1,
-      took_turns_with_private_steps_and_turn_added 0 c.turns.invariant.took.0 c.run-ran.result.0 (progress_of g.W.World.answers c.args.self.now) before ran
+      took_private_then_turn 0 c.turns.invariant.took.0 c.run-ran.result.0 (progress_of g.W.World.answers c.args.self.now) before ran
           (progress_of g.W.World.answers c.turn_by_ask.new.self) c.in_ok-turn_by_ask.field-0 c.turns.invariant.took.1
           (c.run-ran.ensures.took (map g.W.World.answers c.turns.self.worlds.items)) c.in_ok-turn_by_ask.ensures.took,
     )
 
 pub returns-then-not-branch-clause-over : goal.returns-then-not-branch-clause-over
 returns-then-not-branch-clause-over g c =
-    no_step_after_passed_turn 0 (progress c.run-ran.new.self (map g.W.World.answers c.turns.self.worlds.items))
+    passed_turn_leaves_none 0 (progress c.run-ran.new.self (map g.W.World.answers c.turns.self.worlds.items))
     (progress_of g.W.World.answers c.turn_by_ask.new.self) c.in_ok-turn_by_ask.field-0 c.if-not-branch.true c.in_ok-turn_by_ask.ensures.took
 
 pub turns-preserved : goal.turns-preserved
@@ -54,7 +54,7 @@ turns-preserved g c =
     record {
       took = (
         c.turns.invariant.took.0 + c.run-ran.result.0 + 1,
-        took_turns_with_private_steps_and_turn_added 0 c.turns.invariant.took.0 c.run-ran.result.0 (progress_of g.W.World.answers c.args.self.now) before ran
+        took_private_then_turn 0 c.turns.invariant.took.0 c.run-ran.result.0 (progress_of g.W.World.answers c.args.self.now) before ran
             (progress_of g.W.World.answers c.turn_by_ask.new.self) c.in_ok-turn_by_ask.field-0 c.turns.invariant.took.1 took
             c.in_ok-turn_by_ask.ensures.took,
       );
@@ -65,13 +65,13 @@ turns-preserved g c =
 
 pub turns-smaller : goal.turns-smaller
 turns-smaller g c =
-    all_left_falls_after_moved_turn_of_only_thread c.run-ran.result.0 (progress_of g.W.World.answers c.turns.self)
+    only_thread_lowers_left c.run-ran.result.0 (progress_of g.W.World.answers c.turns.self)
     (progress c.run-ran.new.self (map g.W.World.answers c.turns.self.worlds.items)) (progress_of g.W.World.answers c.turn_by_ask.new.self)
     c.in_ok-turn_by_ask.field-0 c.if-not-branch.false c.turns.invariant.one
     (c.run-ran.ensures.took (map g.W.World.answers c.turns.self.worlds.items)) c.in_ok-turn_by_ask.ensures.took
 
 pub returns-in_err-turn_by_ask-clause-stopped : goal.returns-in_err-turn_by_ask-clause-stopped
-returns-in_err-turn_by_ask-clause-stopped g c = if_err_holds_if_holds_of_its_error _ c.from_residual.result c.in_err-turn_by_ask.field-0.0 c.from_residual.ensures.1 (
+returns-in_err-turn_by_ask-clause-stopped g c = if_err_of_its_error _ c.from_residual.result c.in_err-turn_by_ask.field-0.0 c.from_residual.ensures.1 (
     let entry : Progress = progress_of g.W.World.answers c.args.self.now in
     let before : Progress = progress_of g.W.World.answers c.turns.self in
     let ran : Progress = progress c.run-ran.new.self (map g.W.World.answers c.turns.self.worlds.items) in
@@ -84,7 +84,7 @@ returns-in_err-turn_by_ask-clause-stopped g c = if_err_holds_if_holds_of_its_err
       subst (λ order. StoppedAt order (tables entry.flat) entry named answers) (replicate_with_one_more 0 taken)
           (stopped_after_turns (replicate taken 0) (0 ∷ []) entry ran named answers
           (turns_of_thread_add_up 0 c.turns.invariant.took.0 c.run-ran.result.0 taken entry before ran refl c.turns.invariant.took.1 took)
-          (stopped_at_turn_of_unanswered_thread 0 (tables ran.flat) ran named answers failed
+          (stopped_at_unanswered 0 (tables ran.flat) ran named answers failed
           (ready_after_took_order (replicate c.run-ran.result.0 0) before ran failed c.turns.invariant.ready took c.run-ran.ensures.has_logs refl)
           refl c.in_err-turn_by_ask.ensures.stopped)),
     )
@@ -94,6 +94,6 @@ pub returns-then-not-branch-clause-stays : goal.returns-then-not-branch-clause-s
 returns-then-not-branch-clause-stays g c = record { ready = c.in_ok-turn_by_ask.ensures.stays.ready; failed = tt; same_worlds = c.turn_by_ask.ensures.stays.same_worlds ∙ c.turns.invariant.kept }
 
 pub returns-in_err-turn_by_ask-clause-stays : goal.returns-in_err-turn_by_ask-clause-stays
-returns-in_err-turn_by_ask-clause-stays g c = stays_ready_if_error_names_first_failed_world g.W.World.answers g.W.World.broken g.W.World.origin
+returns-in_err-turn_by_ask-clause-stays g c = stays_ready_first_failed g.W.World.answers g.W.World.broken g.W.World.origin
     c.args.self.now c.turn_by_ask.new.self c.from_residual.result c.in_err-turn_by_ask.field-0.0 c.from_residual.ensures.1 c.in_err-turn_by_ask.ensures.stays.failed
     (c.turn_by_ask.ensures.stays.same_worlds ∙ c.turns.invariant.kept)

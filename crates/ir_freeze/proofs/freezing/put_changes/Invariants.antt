@@ -1,8 +1,0 @@
-use Rattle.std.proofs.Common.{◌≡◌, ◌*◌, ◌++◌, drop}
-use Rattle.ir_freeze.specs.Frozen.{changes}
-use Rattle.ir_freeze.proofs.freezing.put_changes.Given as goal
-
-abbrev pub invariant-loop-i : goal.invariant-loop-i
-invariant-loop-i l =
-    l.out.items ++ changes (4096 * l.i) (drop (4096 * l.i) l.start) (drop (4096 * l.i) l.thread.core.memory)
-    ≡ l.fn.out.items ++ changes 0 l.start l.thread.core.memory

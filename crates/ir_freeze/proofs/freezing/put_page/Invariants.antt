@@ -1,7 +1,0 @@
-use Rattle.std.proofs.Common.{◌≡◌, ◌+◌, ◌++◌, drop}
-use Rattle.ir_freeze.specs.Frozen.{changes}
-use Rattle.ir_freeze.proofs.freezing.put_page.Given as goal
-
-abbrev pub invariant-loop-i : goal.invariant-loop-i
-invariant-loop-i l =
-    l.out.items ++ changes (l.first + l.i) (drop l.i l.old) (drop l.i l.new) ≡ l.fn.out.items ++ changes l.first l.old l.new

@@ -1,6 +1,0 @@
--- What callers' proofs cite.
--- threads that differ in dead registers alone ask the same, and differ so again after the same result
-pub use Rattle.ir_live.proofs.Threads.{differ_in_dead_lasts}
-pub use Rattle.ir_live.proofs.Agreement.{at_same_point, differ_in_dead_is_symmetric, differ_in_dead_is_transitive}
--- the number of a call that a7 asks for
-pub use Rattle.ir_live.proofs.Steps.{call_number_below_limit}

@@ -1,5 +1,0 @@
-use Rattle.ir_live.proofs.Threads.{differ_in_dead_lasts}
-use Rattle.ir_live.proofs.laws.agreement_lasts.Goals as goal
-
-pub returns : goal.returns
-returns c = differ_in_dead_lasts

@@ -1,7 +1,0 @@
-use Rattle.std.proofs.Common.{◌≡◌, ◌<◌, ℕ, true}
-use Rattle.ir_live.specs.Table.{is_marked}
-use Rattle.ir_live.specs.Ways.{LeadsTo}
-use Rattle.ir_live.proofs.sweep.is_marked_by_any.Given as goal
-
-abbrev pub invariant-loop-number : goal.invariant-loop-number
-invariant-loop-number l = (number next : ℕ) → number < l.number → LeadsTo l.way next → is_marked l.marks (record { pc = next; number = number }) l.register ≡ true → ⊥

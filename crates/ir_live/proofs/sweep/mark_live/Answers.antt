@@ -1,8 +1,0 @@
-use Rattle.std.proofs.Common.{length, ap}
-use Rattle.ir_live.proofs.Swept.{marks_are_table_after_sweep_without_change}
-use Rattle.ir_live.proofs.sweep.mark_live.Goals as goal
-
-pub returns-then-not-sweep : goal.returns-then-not-sweep
-returns-then-not-sweep c =
-    marks_are_table_after_sweep_without_change c.args.code.now c.sweeps.marks c.sweep.new.marks c.sweep.result (length c.words-words.result.now)
-    c.if-not-sweep.true (ap length c.words-words.ensures) c.sweeps.invariant.live c.sweep.ensures.swept

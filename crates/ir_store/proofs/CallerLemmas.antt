@@ -1,4 +1,0 @@
--- What callers may cite of the store.
--- what is so of each element of a list, and what keeps its number while a table grows
-pub use Rattle.ir_lemmas.proofs.CallerLemmas.{all_by_recursion_after_push, slice_get_element_satisfies_all_by_recursion}
-pub use Rattle.ir_store.proofs.Lists.{all_by_recursion_weaker, kept_element_is_equal, index_below_length_kept_if_elements_kept}

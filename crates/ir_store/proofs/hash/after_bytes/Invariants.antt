@@ -1,6 +1,0 @@
-use Rattle.std.proofs.Common.{◌≡◌, drop}
-use Rattle.ir_store.specs.Hashes.{after_numbers}
-use Rattle.ir_store.proofs.hash.after_bytes.Given as goal
-
-abbrev pub invariant-loop-byte : goal.invariant-loop-byte
-invariant-loop-byte l = after_numbers l.hash (drop l.byte-index l.bytes) ≡ after_numbers l.fn.hash l.bytes

@@ -1,9 +1,0 @@
-use Rattle.std.proofs.Common.{◌≡◌, ◌≢◌, ◌<◌, ℕ, None}
-use Rattle.ir_store.specs.Hashes.{place_of, number_at}
-use Rattle.ir_store.proofs.index.Index.note.Given as goal
-
-abbrev pub invariant-loop-steps : goal.invariant-loop-steps
-invariant-loop-steps l = record {
-  same : l.self ≡ l.fn.self;
-  taken : (k : ℕ) → k < l.steps → number_at l.fn.self (place_of l.fn.hash k) ≢ None;
-}

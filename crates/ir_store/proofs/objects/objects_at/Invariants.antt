@@ -1,6 +1,0 @@
-use Rattle.std.proofs.Common.{◌≡◌, take}
-use Rattle.ir_store.specs.Nodes.{cells_at}
-use Rattle.ir_store.proofs.objects.objects_at.Given as goal
-
-abbrev pub invariant-loop-spot : goal.invariant-loop-spot
-invariant-loop-spot l = l.objects.items ≡ cells_at l.words (take l.spot-index l.spots)

@@ -1,0 +1,4 @@
+mod Compared
+mod Lines
+mod Meaning
+mod Rows

@@ -1,0 +1,32 @@
+-- Tables whose rows are compared one by one.
+use Rattle.std.proofs.Common.{◌≡◌, ℕ, suc, zero, ◌+◌, ◌<◌, Bool, true, false, refl, take, List, [], ◌∷◌, ◌++◌, ◌∙◌, length, map, get_or, ap, arith}
+use Rattle.std.proofs.lemmas.List.{take_more}
+use Rattle.ir_within.specs.Within.{outside_count}
+
+-- rows of equal tables are equal
+pub rows_equal : {X Y : Type 0} (f : X → Y) (xs ys : List X) (i : ℕ) (d e : X) → i < length xs → i < length ys → map f xs ≡ map f ys
+    → f (get_or xs i d) ≡ f (get_or ys i e)
+rows_equal f [] ys i d e less within same = absurd (omega (arith, less))
+rows_equal f (x ∷ xs) [] i d e less within same = absurd (omega (arith, within))
+rows_equal f (x ∷ xs) (y ∷ ys) zero d e less within same = cc same
+rows_equal f (x ∷ xs) (y ∷ ys) (suc i) d e less within same = rows_equal f xs ys i d e (omega (arith, less)) (omega (arith, within)) (cc same)
+
+-- ---- marks
+
+outside_count_append : (xs ys : List Bool) → outside_count (xs ++ ys) ≡ outside_count xs + outside_count ys
+outside_count_append [] ys = omega arith
+outside_count_append (true ∷ xs) ys = let e = outside_count_append xs ys in omega (arith, e)
+outside_count_append (false ∷ xs) ys = outside_count_append xs ys
+
+-- one mark more
+pub outside_count_more : (xs : List Bool) (i : ℕ) (d : Bool) → i < length xs
+    → outside_count (take (i + 1) xs) ≡ outside_count (take i xs) + outside_count (get_or xs i d ∷ [])
+outside_count_more xs i d less = ap outside_count (take_more xs i d less) ∙ outside_count_append (take i xs) (get_or xs i d ∷ [])
+
+pub outside_count_of_marked : (b : Bool) → b ≡ true → outside_count (b ∷ []) ≡ 1
+outside_count_of_marked true e = refl
+outside_count_of_marked false e = absurd (cc e)
+
+pub outside_count_of_unmarked : (b : Bool) → b ≡ false → outside_count (b ∷ []) ≡ 0
+outside_count_of_unmarked true e = absurd (cc e)
+outside_count_of_unmarked false e = refl

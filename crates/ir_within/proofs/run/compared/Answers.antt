@@ -1,0 +1,43 @@
+use Rattle.std.proofs.Common.{◌≡◌, ◌++◌, length, sym, ap, ◌∙◌, subst, inr}
+use Rattle.std.specs.Prelude.{codes}
+use Rattle.ir_explore.specs.Texts.{Objects, objects_of, known_of}
+use Rattle.ir_within.specs.Within.{AreOutsideTexts, outside_count, verdict_of, verdict_line}
+use Rattle.ir_within.proofs.run.compared.Goals as goal
+
+pub outside_text-requires-clause-objects : goal.outside_text-requires-clause-objects
+outside_text-requires-clause-objects c = λ v s is.
+    (c.requires.known.reached v s is).like.objects
+    ∙ sym (ap length c.objects.ensures.value ∙ ap (λ z. length z.objects) c.in_ok-start.ensures)
+
+pub returns : goal.returns
+returns c = λ guest known.
+    let image = c.args.image.now in
+    let k = known_of c.args.found.now in
+    let outside = c.in_ok-outside.outside.items in
+    let lines = c.in_ok-text.text.items in
+    let verdict = c.of-verdict.result in
+    let own : Objects = record { words = c.object_words.result; first = c.objects.result.now } in
+    let first : own ≡ objects_of image =
+    λ i. record {
+      words = c.object_words.ensures.value i;
+      first = (c.objects.ensures.value ∙ ap (λ z. z.objects) c.in_ok-start.ensures) i;
+    } in
+    inr (inr (record {
+      known = k;
+      are = c.requires.known;
+      other_known = known_of c.args.other.now;
+      other_are = known;
+      finished = c.requires.finished;
+      outside = outside;
+      judged = c.in_ok-outside.ensures image guest c.args.plan.now c.requires.known known;
+      lines = lines;
+      texts = subst (λ z. AreOutsideTexts z k outside (length k.outcomes) lines) first
+          (subst (λ z. AreOutsideTexts own k z (length k.outcomes) lines) c.as_slice.ensures.value c.in_ok-text.ensures);
+      found = c.of-verdict.ensures ∙ ap (verdict_of k.ended) (c.outside_count.ensures ∙ ap outside_count c.as_slice-2.ensures.value);
+      whole = c.in_ok-extend_from_slice.ensures.items ∙ ap (λ z. lines ++ z) (
+          c.as_bytes.ensures.value ∙ c.in_ok-last.ensures
+          ∙ λ i. codes "image " ++ ((c.as_str.ensures.value ∙ c.in_ok-image_line.ensures) i ++ (codes "other " ++ (
+          (c.as_str-2.ensures.value ∙ c.in_ok-other_line.ensures) i ++ verdict_line verdict
+          )))
+          );
+    }))

@@ -1,0 +1,204 @@
+//! What counts of what a run came to.
+
+ghost use Rattle.std.specs.Prelude.{◌≡◌, ◌≢◌, ◌++◌, [], List, map, true, false, IfOk, option_map};
+ghost use Rattle.std.specs.List.{slice_index_or};
+ghost use Rattle.ir_schedule.specs.Conditions.{end_state};
+ghost use Rattle.ir_within.specs.Plans.{aspects_of};
+ghost use Rattle.ir_within.specs.Aspects.{what_counts, counted_words};
+ghost use Rattle.ir_within.specs.Seen.{value_of};
+
+use crate::aspects::Aspects;
+use ir_flat::Flat;
+use ir_object::Object;
+use ir_thread::{End, Thread};
+use std::alloc::{AllocError, Global};
+
+/// What counts of what a run came to: nothing is in the lists that don't count.
+#[derive(Drop)]
+pub struct Seen {
+    ends: Vec<Option<End>>,
+    outputs: Vec<Vec<u8>>,
+    words: Vec<Vec<u32>>,
+}
+
+// How each thread ended.
+fn ends_of(alloc: Global, threads: &[Thread]) -> Result<Vec<Option<End>>, AllocError>
+    ensures { IfOk result (λ v. v.items ≡ map (λ x. x.ended) threads.now) }
+{
+    let mut ends = Vec::new(alloc);
+    for thread in threads {
+        ends.push(thread.ended())?;
+    }
+    Ok(ends)
+}
+
+// What each thread printed.
+fn outputs_of(alloc: Global, threads: &[Thread]) -> Result<Vec<Vec<u8>>, AllocError>
+    ensures { IfOk result (λ v. map (λ w. w.items) v.items ≡ map (λ x. x.output) threads.now) }
+{
+    let mut outputs = Vec::new(alloc);
+    for thread in threads {
+        let bytes = Vec::from_slice(alloc, thread.output())?;
+        outputs.push(bytes)?;
+    }
+    Ok(outputs)
+}
+
+// The words of each object.
+fn all_words(alloc: Global, objects: &[Object]) -> Result<Vec<Vec<u32>>, AllocError>
+    ensures { IfOk result (λ v. map (λ w. w.items) v.items ≡ map (λ c. c.words) objects.now) }
+{
+    let mut words = Vec::new(alloc);
+    for object in objects {
+        let each = Vec::from_slice(alloc, object.contents())?;
+        words.push(each)?;
+    }
+    Ok(words)
+}
+
+// The words of an object, none if there is no such object.
+fn words_at(objects: &[Object], number: u8) -> &[u32]
+    ensures { result.now ≡ slice_index_or (map (λ c. c.words) objects.now) number [] }
+{
+    match objects.get(number as usize) {
+        Some(object) => object.contents(),
+        None => &[],
+    }
+}
+
+// The words of these objects.
+fn words_of(alloc: Global, objects: &[Object], chosen: &[u8]) -> Result<Vec<Vec<u32>>, AllocError>
+    ensures { IfOk result (λ v. map (λ w. w.items) v.items ≡ map (λ o. slice_index_or (map (λ c. c.words) objects.now) o []) chosen.now) }
+{
+    let mut words = Vec::new(alloc);
+    for number in chosen {
+        let each = Vec::from_slice(alloc, words_at(objects, *number))?;
+        words.push(each)?;
+    }
+    Ok(words)
+}
+
+// The words of objects that count.
+fn counted_words(
+    alloc: Global,
+    objects: &[Object],
+    chosen: Option<&[u8]>,
+) -> Result<Vec<Vec<u32>>, AllocError>
+    ensures { IfOk result (λ v. map (λ w. w.items) v.items ≡ counted_words (option_map (λ o. o.now) chosen.entry) (map (λ c. c.words) objects.now)) }
+{
+    match chosen {
+        None => all_words(alloc, objects),
+        Some(chosen) => words_of(alloc, objects, chosen),
+    }
+}
+
+/// What counts of what threads and objects came to.
+///
+/// # Errors
+/// Out of memory.
+pub fn seen_of(alloc: Global, aspects: Aspects<'_>, flat: &Flat<'_>) -> Result<Seen, AllocError>
+    ensures { IfOk result (λ s. value_of s ≡ what_counts (aspects_of aspects.entry) (end_state flat.now)) }
+{
+    let mut ends = Vec::new(alloc);
+    if aspects.ends {
+        ends = ends_of(alloc, flat.threads())?;
+    }
+    let mut outputs = Vec::new(alloc);
+    if aspects.outputs {
+        outputs = outputs_of(alloc, flat.threads())?;
+    }
+    let words = counted_words(alloc, flat.objects(), aspects.objects)?;
+    Ok(Seen {
+        ends,
+        outputs,
+        words,
+    })
+}
+
+// Whether two threads ended alike.
+fn same_end(one: Option<End>, other: Option<End>) -> bool
+    ensures same { result ≡ true → one ≡ other }
+    ensures different { result ≡ false → one ≢ other }
+{
+    one == other
+}
+
+// Whether all threads ended alike.
+fn same_ends(one: &[Option<End>], other: &[Option<End>]) -> bool
+    ensures same { result ≡ true → one.now ≡ other.now }
+    ensures different { result ≡ false → one.now ≢ other.now }
+{
+    if one.len() != other.len() {
+        return false;
+    }
+    for i in 0..one.len() {
+        if !same_end(one[i], other[i]) {
+            return false;
+        }
+    }
+    true
+}
+
+// Whether two rows of bytes are the same.
+fn same_row(one: &[u8], other: &[u8]) -> bool
+    ensures same { result ≡ true → one.now ≡ other.now }
+    ensures different { result ≡ false → one.now ≢ other.now }
+{
+    one == other
+}
+
+// Whether the rows of two tables of bytes are the same.
+fn same_bytes(one: &[Vec<u8>], other: &[Vec<u8>]) -> bool
+    ensures same { result ≡ true → map (λ v. v.items) one.now ≡ map (λ v. v.items) other.now }
+    ensures different { result ≡ false → map (λ v. v.items) one.now ≢ map (λ v. v.items) other.now }
+{
+    if one.len() != other.len() {
+        return false;
+    }
+    for i in 0..one.len() {
+        if !same_row(one[i].as_slice(), other[i].as_slice()) {
+            return false;
+        }
+    }
+    true
+}
+
+// Whether two objects' words are the same.
+fn same_object(one: &[u32], other: &[u32]) -> bool
+    ensures same { result ≡ true → one.now ≡ other.now }
+    ensures different { result ≡ false → one.now ≢ other.now }
+{
+    one == other
+}
+
+// Whether the words of all objects are the same.
+fn same_words(one: &[Vec<u32>], other: &[Vec<u32>]) -> bool
+    ensures same { result ≡ true → map (λ v. v.items) one.now ≡ map (λ v. v.items) other.now }
+    ensures different { result ≡ false → map (λ v. v.items) one.now ≢ map (λ v. v.items) other.now }
+{
+    if one.len() != other.len() {
+        return false;
+    }
+    for i in 0..one.len() {
+        if !same_object(one[i].as_slice(), other[i].as_slice()) {
+            return false;
+        }
+    }
+    true
+}
+
+impl Seen {
+    /// Whether the same counts of two outcomes.
+    pub fn is_same(&self, other: &Seen) -> bool
+        ensures same { result ≡ true → value_of self.now ≡ value_of other.now }
+        ensures different { result ≡ false → value_of self.now ≢ value_of other.now }
+    {
+        if !same_ends(self.ends.as_slice(), other.ends.as_slice()) {
+            return false;
+        }
+        if !same_bytes(self.outputs.as_slice(), other.outputs.as_slice()) {
+            return false;
+        }
+        same_words(self.words.as_slice(), other.words.as_slice())
+    }
+}

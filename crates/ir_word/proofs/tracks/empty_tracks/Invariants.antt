@@ -1,9 +1,0 @@
-use Rattle.std.proofs.Common.{◌≡◌, length}
-use Rattle.ir_word.specs.Track.{AreBuilt}
-use Rattle.ir_word.proofs.tracks.empty_tracks.Given as goal
-
-abbrev pub invariant-loop : goal.invariant-loop
-invariant-loop l = record {
-  size : length l.tracks.items ≡ l.counter;
-  built : AreBuilt l.guide.route.fitted.now l.guide.rows.now l.guide.word 0 l.tracks.items;
-}

@@ -1,9 +1,0 @@
-use Rattle.std.proofs.Common.{◌≡◌, length}
-use Rattle.ir_word.specs.Track.{AreBuilt}
-use Rattle.ir_word.proofs.tracks.tracks.Given as goal
-
-abbrev pub invariant-loop-row : goal.invariant-loop-row
-invariant-loop-row l = record {
-  size : length l.tracks.items ≡ length l.guide.route.fitted.now.guest.entries;
-  built : AreBuilt l.guide.route.fitted.now l.guide.rows.now l.guide.word l.row l.tracks.items;
-}
