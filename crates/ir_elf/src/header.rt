@@ -111,7 +111,7 @@ pub fn headers_place(file: &[u8]) -> Result<HeadersPlace, Refusal>
 }
 
 /// A program header, and the bytes after it.
-#[tactic(auto, unfolding(crate::specs::Header::header_at))]
+#[tactic(auto, unfolding(crate::specs::Header::elf_header_at))]
 pub fn next_header(rest: &[u8]) -> Result<(Header, &[u8]), Refusal>
     ensures { IsRead (λ x. (x.0, x.1.now)) result (elf_header_at rest.now) }
 {

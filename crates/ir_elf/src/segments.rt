@@ -80,7 +80,7 @@ fn part_of(header: Header) -> Result<Part, Refusal>
 }
 
 // `count` bytes from a place of the file on.
-#[tactic(auto, unfolding(crate::specs::Segments::bytes_from))]
+#[tactic(auto, unfolding(crate::specs::Segments::segment_bytes_from))]
 fn bytes_from(place: u32, count: u32, file: &[u8]) -> Result<&[u8], Refusal>
     ensures exact { IsRead (λ x. x.now) result (segment_bytes_from place count file.now) }
     ensures count { IfOk result (λ x. length x.now ≡ count) }

@@ -7,3 +7,4 @@ pub mod Conditions
 pub mod Until
 pub mod Recorded
 pub mod Hang
+pub mod Stopping

@@ -1,17 +1,15 @@
 //! `ir explore --until hang`: a run that hangs is recorded.
 
-ghost use Rattle.std.specs.Prelude.{◌≡◌, ◌≤◌, ◌⊎◌, ◌++◌, ℕ, List, false, true, Ok, Err, IfOk, IfErr, OnOk};
+ghost use Rattle.std.specs.Prelude.{◌≡◌, ◌≤◌, ◌++◌, ℕ, List, false, true, Ok, Err, IfOk, IfErr, OnOk};
 ghost use Rattle.std.specs.Io.KnownBytes.{Appends};
 ghost use Rattle.ir_files.specs.Outputs.{output_writer_of, TookEach};
-ghost use Rattle.ir_files.specs.Writers.{writer_of, Reports, fault_text};
-ghost use Rattle.ir_record_command.specs.Faults as recorded;
-ghost use Rattle.ir_record_command.specs.Faults.{StopsRecord, IsReported, unwritten_of};
+ghost use Rattle.ir_files.specs.Writers.{writer_of};
 ghost use Rattle.ir_record_command.specs.Recording.{recording_lines};
-ghost use Rattle.ir_record_command.specs.declared.record_fault.RecordFault.{RecordFault};
+ghost use Rattle.ir_record_command.specs.Stopping.{telling, tellings, devices};
 ghost use Rattle.ir_thread.specs.State.{IsAllowed, most_budget};
 ghost use Rattle.ir_trace.specs.Encoding.{encoding};
-ghost use Rattle.ir_explore.specs.Faults.{explore_fault_status, explore_fault_words};
 ghost use Rattle.ir_explore.specs.Hang.{with_steps, budget_from, hang_plan, unhung_status_of, FindsHang, LeadsToHang, IsHangTold, IsHangAnswer, IsHangRecorded, HasNoHangAnswer};
+ghost use Rattle.ir_explore.specs.Stopping.{StopsHang};
 ghost use Rattle.ir_explore.specs.Texts.{AreKnown, known_of};
 ghost use Rattle.ir_explore.specs.declared.fault.ExploreFault.{ExploreFault};
 ghost use Rattle.ir_explore.specs.declared.hang_order.HangOrder.{HangOrder};
@@ -213,23 +211,9 @@ where
     ensures whole { OnOk result (W.whole files.new.trace ≡ true) }
     ensures quiet { OnOk result (faults.new ≡ faults.old) }
     // Else no hang is known, and all that was found out was written and nothing else; or nothing is, or that failed; or the recording stopped.
-    ensures stopped { IfErr result (λ status. ((files.new.trace ≡ files.old.trace) × (files.new.outputs ≡ files.old.outputs) × (faults.new ≡ faults.old)
-        × ((text : List ℕ) × IsHangAnswer plan.now.image.now plan.now.explore (Err status) text × Appends (O.written out.old) (O.written out.new) text))
-        ⊎ (((e : ExploreFault) × (status ≡ explore_fault_status e) × (files.new.trace ≡ files.old.trace) × (files.new.outputs ≡ files.old.outputs)
-        × HasNoHangAnswer e plan.now.image.now plan.now.explore (writer_of (O.written out.old) (O.written out.new) (O.broken out.new))
-        × Reports (writer_of (E.written faults.old) (E.written faults.new) (E.broken faults.new)) (fault_text (explore_fault_words e)))
-        ⊎ ((e : RecordFault) × (status ≡ recorded.fault_status e) × (order : HangOrder) × (text : List ℕ) × (said : O)
-        × IsHangAnswer plan.now.image.now plan.now.explore (Ok order) text
-        × Appends (O.written out.old) (O.written said) text
-        × IsReported e plan.now.image.now (hang_plan plan.now.explore order)
-        (unwritten_of (W.called files.new.trace) (W.cause files.new.trace))
-        (unwritten_of (P.called files.new.outputs) (P.cause files.new.outputs))
-        (writer_of (E.written faults.old) (E.written faults.new) (E.broken faults.new))
-        × StopsRecord e plan.now.image.now (hang_plan plan.now.explore order)
-        (writer_of (W.written files.old.trace) (W.written files.new.trace) (W.broken files.new.trace))
-        (output_writer_of (P.taken files.old.outputs) (P.taken files.new.outputs) (P.broken files.new.outputs))
-        (writer_of (O.written said) (O.written out.new) (O.broken out.new))
-        ((files.new.trace ≡ files.old.trace) × (files.new.outputs ≡ files.old.outputs) × (out.new ≡ said)) ((files.new.outputs ≡ files.old.outputs) × (out.new ≡ said)) (out.new ≡ said)))) }
+    ensures stopped { IfErr result (λ status. StopsHang (tellings (telling W.written W.broken W.called W.cause) (telling P.taken P.broken P.called P.cause) O.written O.broken)
+        status plan.now.image.now plan.now.explore (devices files.old.trace files.old.outputs out.old) (devices files.new.trace files.new.outputs out.new)
+        (writer_of (E.written faults.old) (E.written faults.new) (E.broken faults.new)) (faults.new ≡ faults.old)) }
 {
     let order = match tell_hang(rt.alloc(), plan, out) {
         Ok(Ok(order)) => order,

@@ -1,18 +1,19 @@
 //! `ir explore --until`: the first outcome that fulfils conditions is recorded.
 
-ghost use Rattle.std.specs.Prelude.{◌≡◌, ◌⊎◌, ◌++◌, ℕ, List, [], false, true, map, Some, None, Ok, Err, option_map, IfOk, IfErr, OnOk};
+ghost use Rattle.std.specs.Prelude.{◌≡◌, ◌++◌, ℕ, List, [], false, true, map, Some, None, Ok, Err, option_map, IfOk, IfErr, OnOk};
 ghost use Rattle.std.specs.Io.KnownBytes.{Appends};
 ghost use Rattle.ir_schedule.specs.Conditions.{as_condition};
 ghost use Rattle.ir_files.specs.Outputs.{output_writer_of, TookEach};
-ghost use Rattle.ir_files.specs.Writers.{Writer, Took, writer_of, Reports, fault_text};
-ghost use Rattle.ir_record_command.specs.Faults as recorded;
-ghost use Rattle.ir_record_command.specs.Faults.{RefusesRecord, StopsRecord, IsReported, unwritten_of};
+ghost use Rattle.ir_files.specs.Writers.{Writer, Took, writer_of};
+ghost use Rattle.ir_record_command.specs.Faults.{RefusesRecord};
 ghost use Rattle.ir_record_command.specs.Recording.{recording_lines};
+ghost use Rattle.ir_record_command.specs.Stopping.{telling, tellings, devices};
 ghost use Rattle.ir_record_command.specs.declared.record_fault.RecordFault.{RecordFault};
 ghost use Rattle.ir_image.specs.Guest.{guest_at};
 ghost use Rattle.ir_thread.specs.State.{IsAllowed};
 ghost use Rattle.ir_trace.specs.Encoding.{encoding};
-ghost use Rattle.ir_explore.specs.Faults.{HasNoGuest, explore_fault_status, explore_fault_words};
+ghost use Rattle.ir_explore.specs.Faults.{HasNoGuest};
+ghost use Rattle.ir_explore.specs.Stopping.{StopsUntil};
 ghost use Rattle.ir_explore.specs.Texts.{known_of};
 ghost use Rattle.ir_explore.specs.Until.{recording, found_bytes, IsSought, IsUntilText, IsUntil, IsOutcomeFinding, HasNoAnswer};
 ghost use Rattle.ir_explore.specs.declared.fault.ExploreFault.{ExploreFault};
@@ -191,23 +192,10 @@ where
     ensures whole { OnOk result (W.whole files.new.trace ≡ true) }
     ensures quiet { OnOk result (faults.new ≡ faults.old) }
     // Else there is none, which is written and nothing else; or nothing is, or that failed; or what was found is told, and its recording stopped.
-    ensures stopped { IfErr result (λ status. ((files.new.trace ≡ files.old.trace) × (files.new.outputs ≡ files.old.outputs) × (faults.new ≡ faults.old)
-        × ((text : List ℕ) × IsUntil plan.now.image.now plan.now.explore (map as_condition plan.now.conditions.now) (Err status) text × Appends (O.written out.old) (O.written out.new) text))
-        ⊎ (((e : ExploreFault) × (status ≡ explore_fault_status e) × (files.new.trace ≡ files.old.trace) × (files.new.outputs ≡ files.old.outputs)
-        × HasNoAnswer e plan.now.image.now plan.now.explore (map as_condition plan.now.conditions.now) (writer_of (O.written out.old) (O.written out.new) (O.broken out.new))
-        × Reports (writer_of (E.written faults.old) (E.written faults.new) (E.broken faults.new)) (fault_text (explore_fault_words e)))
-        ⊎ ((e : RecordFault) × (status ≡ recorded.fault_status e) × (text list : List ℕ) × (said : O)
-        × IsUntil plan.now.image.now plan.now.explore (map as_condition plan.now.conditions.now) (Ok list) text
-        × Appends (O.written out.old) (O.written said) text
-        × IsReported e plan.now.image.now (recording plan.now.explore (Some list))
-        (unwritten_of (W.called files.new.trace) (W.cause files.new.trace))
-        (unwritten_of (P.called files.new.outputs) (P.cause files.new.outputs))
-        (writer_of (E.written faults.old) (E.written faults.new) (E.broken faults.new))
-        × StopsRecord e plan.now.image.now (recording plan.now.explore (Some list))
-        (writer_of (W.written files.old.trace) (W.written files.new.trace) (W.broken files.new.trace))
-        (output_writer_of (P.taken files.old.outputs) (P.taken files.new.outputs) (P.broken files.new.outputs))
-        (writer_of (O.written said) (O.written out.new) (O.broken out.new))
-        ((files.new.trace ≡ files.old.trace) × (files.new.outputs ≡ files.old.outputs) × (out.new ≡ said)) ((files.new.outputs ≡ files.old.outputs) × (out.new ≡ said)) (out.new ≡ said)))) }
+    ensures stopped { IfErr result (λ status. StopsUntil (tellings (telling W.written W.broken W.called W.cause) (telling P.taken P.broken P.called P.cause) O.written O.broken)
+        status plan.now.image.now plan.now.explore (map as_condition plan.now.conditions.now)
+        (devices files.old.trace files.old.outputs out.old) (devices files.new.trace files.new.outputs out.new)
+        (writer_of (E.written faults.old) (E.written faults.new) (E.broken faults.new)) (faults.new ≡ faults.old)) }
 {
     let list = match tell_sought(rt.alloc(), plan, out) {
         Ok(Ok(list)) => list,

@@ -1,19 +1,16 @@
 //! A hunt, and the recording of what it finds.
 
-ghost use Rattle.std.specs.Prelude.{◌≡◌, ◌<◌, ◌++◌, ◌⊎◌, nat_lt, ℕ, List, false, true, IfOk, IfErr, IfSome, MatchOption, None, OnOk};
+ghost use Rattle.std.specs.Prelude.{◌≡◌, ◌<◌, ℕ, false, true, IfOk, IfErr, IfSome, MatchOption, None, OnOk};
 ghost use Rattle.std.specs.String.{string_bytes};
-ghost use Rattle.std.specs.Io.KnownBytes.{Appends};
-ghost use Rattle.ir_trace.specs.Encoding.{encoding};
-ghost use Rattle.ir_files.specs.Outputs.{output_writer_of, TookEach};
-ghost use Rattle.ir_files.specs.Writers.{writer_of, Failed, Reports};
-ghost use Rattle.ir_record_command.specs.Faults.{fault_status, StopsRecord, IsReported, unwritten_of};
-ghost use Rattle.ir_record_command.specs.Recording.{recording_lines};
+ghost use Rattle.ir_files.specs.Writers.{writer_of};
+ghost use Rattle.ir_record_command.specs.Faults.{fault_status};
+ghost use Rattle.ir_record_command.specs.Stopping.{telling, tellings, devices};
 ghost use Rattle.ir_record_command.specs.declared.record_fault.RecordFault.{RecordFault};
 ghost use Rattle.ir_record_command.specs.declared.record_fault.RecordFault.TheVariants.{Lines};
 ghost use Rattle.ir_hunt.specs.Finding.{IsOrderOfSeed, by_list};
-ghost use Rattle.ir_hunt.specs.Hunted.{IsFoundIn, IsNoneIn, IsFinding};
+ghost use Rattle.ir_hunt.specs.Hunted.{IsFoundIn, IsNoneIn};
 ghost use Rattle.ir_hunt.specs.Lines.{found_line, left_out_words, none_lines};
-ghost use Rattle.ir_hunt.specs.Stopping.{RefusesHunt, IsTold, IsHuntLine, TellsLeftOut, none_status};
+ghost use Rattle.ir_hunt.specs.Stopping.{RefusesHunt, IsTold, TellsLeftOut, none_status, RecordsFound, StopsHunt};
 
 use crate::plan::HuntPlan;
 use crate::report::{found_line, left_out_words, none_lines};
@@ -212,34 +209,15 @@ where
     requires reports { E.broken faults.old ≡ false }
     // Of the lowest seed that is found, whose run fulfils each condition: the run's trace was written, what its threads printed, and the lines
     // with the list. If seeds were left out, it is reported how many.
-    ensures done { IfOk result (λ recorded. (left_out seed : ℕ) × (list : List ℕ) × (printed : List (List ℕ)) × IsFinding image.now plan.now left_out seed list recorded printed
-        × Appends (W.written files.old.trace) (W.written files.new.trace) (encoding recorded)
-        × TookEach (output_writer_of (P.taken files.old.outputs) (P.taken files.new.outputs) (P.broken files.new.outputs)) printed
-        × Appends (O.written out.old) (O.written out.new) (found_line seed list ++ recording_lines recorded)
-        × TellsLeftOut left_out (writer_of (E.written faults.old) (E.written faults.new) (E.broken faults.new)) (faults.new ≡ faults.old)) }
+    ensures done { IfOk result (λ recorded. RecordsFound (tellings (telling W.written W.broken W.called W.cause) (telling P.taken P.broken P.called P.cause) O.written O.broken)
+        recorded image.now plan.now (devices files.old.trace files.old.outputs out.old) (devices files.new.trace files.new.outputs out.new)
+        (writer_of (E.written faults.old) (E.written faults.new) (E.broken faults.new)) (faults.new ≡ faults.old)) }
     ensures whole { OnOk result (W.whole files.new.trace ≡ true) }
     // Else each seed was tried, or where the time is bounded each up to one, and none is found, which was written, and it is reported how many were
     // left out, if some were; or nothing was written; or the lines failed; or what was found is said, and its recording stopped.
-    ensures stopped { IfErr result (λ status. ((last left_out : ℕ) × (status ≡ none_status (nat_lt last plan.now.seeds.last) left_out) × IsNoneIn image.now plan.now last left_out
-        × (files.new.trace ≡ files.old.trace) × (files.new.outputs ≡ files.old.outputs) × Appends (O.written out.old) (O.written out.new) (none_lines plan.now.seeds.first last plan.now.seeds.last)
-        × TellsLeftOut left_out (writer_of (E.written faults.old) (E.written faults.new) (E.broken faults.new)) (faults.new ≡ faults.old))
-        ⊎ ((e : RecordFault) × (status ≡ fault_status e) × (
-        (RefusesHunt e image.now plan.now.record × (files.new.trace ≡ files.old.trace) × (files.new.outputs ≡ files.old.outputs) × (out.new ≡ out.old)
-        × IsTold e (writer_of (E.written faults.old) (E.written faults.new) (E.broken faults.new)))
-        ⊎ (((line : List ℕ) × (e ≡ Lines) × IsHuntLine image.now plan.now line
-        × Failed (writer_of (O.written out.old) (O.written out.new) (O.broken out.new)) line × (files.new.trace ≡ files.old.trace) × (files.new.outputs ≡ files.old.outputs)
-        × IsTold e (writer_of (E.written faults.old) (E.written faults.new) (E.broken faults.new)))
-        ⊎ ((left_out seed : ℕ) × (list : List ℕ) × (said : O)
-        × IsFoundIn image.now plan.now left_out seed list
-        × Appends (O.written out.old) (O.written said) (found_line seed list)
-        × IsReported e image.now (by_list plan.now.record list) (unwritten_of (W.called files.new.trace) (W.cause files.new.trace))
-        (unwritten_of (P.called files.new.outputs) (P.cause files.new.outputs))
-        (writer_of (E.written faults.old) (E.written faults.new) (E.broken faults.new))
-        × StopsRecord e image.now (by_list plan.now.record list)
-        (writer_of (W.written files.old.trace) (W.written files.new.trace) (W.broken files.new.trace))
-        (output_writer_of (P.taken files.old.outputs) (P.taken files.new.outputs) (P.broken files.new.outputs))
-        (writer_of (O.written said) (O.written out.new) (O.broken out.new))
-        ((files.new.trace ≡ files.old.trace) × (files.new.outputs ≡ files.old.outputs) × (out.new ≡ said)) ((files.new.outputs ≡ files.old.outputs) × (out.new ≡ said)) (out.new ≡ said)))))) }
+    ensures stopped { IfErr result (λ status. StopsHunt (tellings (telling W.written W.broken W.called W.cause) (telling P.taken P.broken P.called P.cause) O.written O.broken)
+        status image.now plan.now (devices files.old.trace files.old.outputs out.old) (devices files.new.trace files.new.outputs out.new)
+        (writer_of (E.written faults.old) (E.written faults.new) (E.broken faults.new)) (faults.new ≡ faults.old)) }
 {
     let alloc = rt.alloc();
     let sought = match hunted(rt, alloc, image, plan) {

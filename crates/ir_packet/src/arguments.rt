@@ -45,7 +45,7 @@ pub fn plain(asked: Request, rest: &[u8]) -> Request
 }
 
 /// A number.
-#[tactic(auto, unfolding(crate::specs::Requests::one))]
+#[tactic(auto, unfolding(crate::specs::Requests::one_argument))]
 pub fn one(rest: &[u8]) -> Option<u32>
     ensures { MatchOption result
         ((makes : ℕ → Request) → requests.one_argument makes rest.now ≡ Malformed)

@@ -83,7 +83,7 @@ pub fn decimal_number(digits: &[u8]) -> Option<u32>
 }
 
 /// How many bytes are before the first of these.
-#[tactic(auto, unfolding(crate::specs::Numbers::index_of))]
+#[tactic(auto, unfolding(crate::specs::Numbers::digit_index_of))]
 pub fn index_of(mark: u8, bytes: &[u8]) -> usize
     ensures value { result ≡ digit_index_of mark bytes.now }
     ensures within { result ≤ length bytes.now }

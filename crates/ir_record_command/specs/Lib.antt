@@ -4,3 +4,4 @@ pub mod Numerals
 pub mod Order
 pub mod Plan
 pub mod Recording
+pub mod Stopping

@@ -1,17 +1,17 @@
 //! An image in, the trace of a run of its guest, what each thread printed and a line for each thread out.
 
-ghost use Rattle.std.specs.Prelude.{◌≡◌, ◌≢◌, ◌<◌, ◌≤◌, ◌+◌, ℕ, List, Some, None, Ok, Err, true, false, IfOk, IfErr, OnOk, OnErr, ◌⊎◌, [], length, map, replicate};
+ghost use Rattle.std.specs.Prelude.{◌≡◌, ◌<◌, ◌≤◌, ◌+◌, ℕ, List, Some, None, Ok, Err, true, false, IfOk, IfErr, OnOk, OnErr, ◌⊎◌, map};
 ghost use Rattle.std.specs.String.{string_bytes};
 ghost use Rattle.std.specs.Io.KnownBytes.{Appends};
 ghost use Rattle.ir_image.specs.Guest.{most_threads};
 ghost use Rattle.ir_record_command.specs.Order.{order_of};
-ghost use Rattle.ir_trace.specs.Recorded.{Recorded};
 ghost use Rattle.ir_trace.specs.Encoding.{encoding};
 ghost use Rattle.ir_record.specs.Recording.{printed_by};
 ghost use Rattle.ir_record_command.specs.Recording.{IsRecordedOf, line_by, recorded_thread_line, recording_lines};
 ghost use Rattle.ir_files.specs.Outputs.{output_writer_of, TookEach, FailedAtOne};
 ghost use Rattle.ir_files.specs.Writers.{writer_of};
-ghost use Rattle.ir_record_command.specs.Faults.{Allows, fault_status, RefusesRecord, WriteFails, StopsRecord, IsItemReported, IsReported, unwritten_of};
+ghost use Rattle.ir_record_command.specs.Faults.{Allows, RefusesRecord, WriteFails, StopsRecord, IsItemReported, IsReported, unwritten_of};
+ghost use Rattle.ir_record_command.specs.Stopping.{telling, tellings, devices, StopsRecording};
 ghost use Rattle.ir_record_command.specs.declared.record_fault.RecordFault.{RecordFault};
 ghost use Rattle.ir_record_command.specs.declared.record_fault.RecordFault.TheVariants.{NoMem, Clock, Order};
 
@@ -319,14 +319,10 @@ fn told<W: WholeSink, P: OutputSink, O: Sink, E: Sink>(
     ensures whole { OnOk result (W.whole files.new.trace ≡ true) }
     ensures allowed { OnOk result (Allows recording.now.image.now recording.now.plan.now) }
     ensures quiet { OnOk result (faults.new ≡ faults.old) }
-    ensures stopped { IfErr result (λ status. (e : RecordFault) × (status ≡ fault_status e)
-        × IsReported e recording.now.image.now recording.now.plan.now (unwritten_of (W.called files.new.trace) (W.cause files.new.trace))
-        (unwritten_of (P.called files.new.outputs) (P.cause files.new.outputs))
-        (writer_of (E.written faults.old) (E.written faults.new) (E.broken faults.new)) × StopsRecord e recording.now.image.now recording.now.plan.now
-        (writer_of (W.written files.old.trace) (W.written files.new.trace) (W.broken files.new.trace))
-        (output_writer_of (P.taken files.old.outputs) (P.taken files.new.outputs) (P.broken files.new.outputs))
-        (writer_of (O.written out.old) (O.written out.new) (O.broken out.new))
-        ((files.new.trace ≡ files.old.trace) × (files.new.outputs ≡ files.old.outputs) × (out.new ≡ out.old)) ((files.new.outputs ≡ files.old.outputs) × (out.new ≡ out.old)) (out.new ≡ out.old)) }
+    ensures stopped { IfErr result (λ status. StopsRecording (tellings (telling W.written W.broken W.called W.cause)
+        (telling P.taken P.broken P.called P.cause) O.written O.broken) status recording.now.image.now recording.now.plan.now
+        (devices files.old.trace files.old.outputs out.old) (devices files.new.trace files.new.outputs out.new)
+        (writer_of (E.written faults.old) (E.written faults.new) (E.broken faults.new))) }
 {
     match kept(alloc, recording, recorded, files, out) {
         Ok(recorded) => Ok(recorded),
@@ -367,14 +363,10 @@ pub fn record_by_list<R: Clock + AllocGlobal, W: WholeSink, P: OutputSink, O: Si
     ensures allowed { OnOk result (Allows recording.now.image.now recording.now.plan.now) }
     ensures quiet { OnOk result (faults.new ≡ faults.old) }
     // Else what stopped it, what that left, and that it is reported.
-    ensures stopped { IfErr result (λ status. (e : RecordFault) × (status ≡ fault_status e)
-        × IsReported e recording.now.image.now recording.now.plan.now (unwritten_of (W.called files.new.trace) (W.cause files.new.trace))
-        (unwritten_of (P.called files.new.outputs) (P.cause files.new.outputs))
-        (writer_of (E.written faults.old) (E.written faults.new) (E.broken faults.new)) × StopsRecord e recording.now.image.now recording.now.plan.now
-        (writer_of (W.written files.old.trace) (W.written files.new.trace) (W.broken files.new.trace))
-        (output_writer_of (P.taken files.old.outputs) (P.taken files.new.outputs) (P.broken files.new.outputs))
-        (writer_of (O.written out.old) (O.written out.new) (O.broken out.new))
-        ((files.new.trace ≡ files.old.trace) × (files.new.outputs ≡ files.old.outputs) × (out.new ≡ out.old)) ((files.new.outputs ≡ files.old.outputs) × (out.new ≡ out.old)) (out.new ≡ out.old)) }
+    ensures stopped { IfErr result (λ status. StopsRecording (tellings (telling W.written W.broken W.called W.cause)
+        (telling P.taken P.broken P.called P.cause) O.written O.broken) status recording.now.image.now recording.now.plan.now
+        (devices files.old.trace files.old.outputs out.old) (devices files.new.trace files.new.outputs out.new)
+        (writer_of (E.written faults.old) (E.written faults.new) (E.broken faults.new))) }
 {
     let alloc = rt.alloc();
     let Recording { image, plan } = *recording;
@@ -425,14 +417,10 @@ pub fn record_run<
     ensures allowed { OnOk result (Allows recording.now.image.now recording.now.plan.now) }
     ensures quiet { OnOk result (faults.new ≡ faults.old) }
     // Else what stopped it, what that left, and that it is reported.
-    ensures stopped { IfErr result (λ status. (e : RecordFault) × (status ≡ fault_status e)
-        × IsReported e recording.now.image.now recording.now.plan.now (unwritten_of (W.called files.new.trace) (W.cause files.new.trace))
-        (unwritten_of (P.called files.new.outputs) (P.cause files.new.outputs))
-        (writer_of (E.written faults.old) (E.written faults.new) (E.broken faults.new)) × StopsRecord e recording.now.image.now recording.now.plan.now
-        (writer_of (W.written files.old.trace) (W.written files.new.trace) (W.broken files.new.trace))
-        (output_writer_of (P.taken files.old.outputs) (P.taken files.new.outputs) (P.broken files.new.outputs))
-        (writer_of (O.written out.old) (O.written out.new) (O.broken out.new))
-        ((files.new.trace ≡ files.old.trace) × (files.new.outputs ≡ files.old.outputs) × (out.new ≡ out.old)) ((files.new.outputs ≡ files.old.outputs) × (out.new ≡ out.old)) (out.new ≡ out.old)) }
+    ensures stopped { IfErr result (λ status. StopsRecording (tellings (telling W.written W.broken W.called W.cause)
+        (telling P.taken P.broken P.called P.cause) O.written O.broken) status recording.now.image.now recording.now.plan.now
+        (devices files.old.trace files.old.outputs out.old) (devices files.new.trace files.new.outputs out.new)
+        (writer_of (E.written faults.old) (E.written faults.new) (E.broken faults.new))) }
 {
     let Recording { image, plan } = *recording;
     match plan.order {

@@ -84,6 +84,11 @@ pub record AddsWords (f : FittedTrace) (rows : List Version) (w : ObjectWord) (o
   pub each : (r : ℕ) (x : Version) → slice_get rows r ≡ Some x → (slice_index_or new r unread ≡ slice_index_or old r unread)
       ⊎ IsWorded f w x (slice_index_or new r unread)
 
+-- what is found of a hold's version is what there is to find, and of the others as it was, or so
+abbrev pub NotesWord : FittedTrace → List Version → ObjectWord → Hold → List Worded → List Worded → Type 0
+NotesWord f rows w hold old new = AddsWords f rows w old new
+    × ((x : Version) → slice_get rows hold.row ≡ Some x → IsWorded f w x (slice_index_or new hold.row unread))
+
 -- the holds of each thread, and what is found of the other versions
 pub record AreTracked (f : FittedTrace) (rows : List Version) (w : ObjectWord) (s : Standing) (tracks : List Track) (words : List Worded) : Type 0 where
   pub each : (t : ℕ) (d : Track) → t < length tracks

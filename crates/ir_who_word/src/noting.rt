@@ -12,7 +12,7 @@ ghost use Rattle.ir_event_walk.specs.declared.exchange.Exchange.{Exchange};
 ghost use Rattle.ir_who_word.specs.declared.hold.Hold.{Hold};
 ghost use Rattle.ir_who_word.specs.declared.object_word.ObjectWord as word;
 ghost use Rattle.ir_who_word.specs.Words.{puts_word, IsPutIn, IsWorded, unread};
-ghost use Rattle.ir_who_word.specs.Track.{IsTrackGuide, IsHoldOf, IsWordTrack, IsTrackPending, NoTrackDue, AddsWords};
+ghost use Rattle.ir_who_word.specs.Track.{IsTrackGuide, IsHoldOf, IsWordTrack, IsTrackPending, NoTrackDue, AddsWords, NotesWord};
 
 use crate::guide::Guide;
 use crate::hold::Hold;
@@ -51,8 +51,7 @@ fn note(guide: Guide<'_, '_>, state: &State, hold: Hold, put: Option<u64>, words
     ensures words { (t from : ℕ) → IsOnWalk guide.entry.route.fitted.now guide.entry.route.ends.now state.now
         → IsHoldOf guide.entry.route.fitted.now guide.entry.rows.now guide.entry.word t hold → hold.leave ≡ positions (flat_in guide.entry.route.fitted.now state.now) t
         → from ≤ hold.entry + 1 → IsPutIn guide.entry.route.fitted.now guide.entry.word t from hold.leave put
-        → AddsWords guide.entry.route.fitted.now guide.entry.rows.now guide.entry.word words.old words.new
-        × ((x : Version) → slice_get guide.entry.rows.now hold.row ≡ Some x → IsWorded guide.entry.route.fitted.now guide.entry.word x (slice_index_or words.new hold.row unread)) }
+        → NotesWord guide.entry.route.fitted.now guide.entry.rows.now guide.entry.word hold words.old words.new }
 {
     let step = put_past(put, hold.entry);
     words[hold.row] = Worded {
