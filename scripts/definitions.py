@@ -83,7 +83,7 @@ CLAIMS = [
         ("ir_explore", "Conditions", "`IsFirst`, `NeverFulfils`"),
         ("ir_explore", "Until", "`IsSought`, `IsVain`"),
         ("ir_explore", "Hang", "`FindsHang`, `IsHangTold`"),
-    ], (411, 267)),
+    ], (521, 320)),
     Claim("Comparing", "`ir explore --within` says whether each outcome of a guest is one of another's.", {
         "ir_within/src/run.rt": ["within_run"],
         "ir_within/src/laws.rt": ["within_is_each", "outside_is_some"],
@@ -99,7 +99,7 @@ CLAIMS = [
         ("ir_hunt", "Tried", "`Fails`, `AreTried`, `IsLowestSeed`, `IsTriedLast`"),
         ("ir_hunt", "Hunted", "`IsNoneIn`, `IsFoundIn`"),
         ("ir_hunt", "Stopping", "`IsHuntLine`: what is printed of it"),
-    ], (1350, 530)),
+    ], (1385, 548)),
     Claim("gdb", "`ir gdb` answers gdb, and its moves are a session's.", {
         "ir_gdb/src/session.rt": ["connect"],
         "ir_gdb/src/laws.rt": ["alone_is_session", "no_hit_is_passed", "none_is_blocked", "each_hit_is_shown_once", "no_bad_end_is_hidden"],

@@ -1,6 +1,10 @@
 //! How the threads of a recording ended, in words.
 
+ghost use Rattle.std.specs.Prelude.{◌≡◌, IfErr, OnOk};
+ghost use Rattle.ir_files.specs.declared.exit_status.ExitStatus.TheVariants as status;
+
 use crate::files::say;
+use ir_files::ExitStatus;
 use ir_stream::Sink;
 use ir_thread::{End, Profile};
 use ir_trace::Trace;
@@ -64,5 +68,26 @@ pub fn tell_ends<E: Sink>(alloc: Global, trace: &Trace, faults: &mut E) {
     }
     if has_unknown_call(trace) {
         say(faults, "TRY_WRITE is a call with --profile 2 only", "", "");
+    }
+}
+
+/// The exit status of a command that records: `Done` if there is a recording, whose other ends are reported if they are asked for.
+pub fn recorded_status<E: Sink>(
+    alloc: Global,
+    recorded: Result<Trace, ExitStatus>,
+    explains: bool,
+    faults: &mut E,
+) -> ExitStatus
+    ensures done { OnOk recorded (result ≡ status.Done) }
+    ensures stopped { IfErr recorded (λ status. result ≡ status) }
+{
+    match recorded {
+        Ok(recorded) => {
+            if explains {
+                tell_ends(alloc, &recorded, faults);
+            }
+            ExitStatus::Done
+        }
+        Err(status) => status,
     }
 }

@@ -1,18 +1,17 @@
 //! `ir hunt`: the first of many seeds whose run fulfils conditions is recorded.
 
-ghost use Rattle.std.specs.Prelude.{◌≡◌, false};
+ghost use Rattle.std.specs.Prelude.{◌≡◌, None, false};
 
 use crate::conditions::conditions_of;
-use crate::ends::tell_ends;
+use crate::ends::recorded_status;
 use crate::files::image_in;
-use crate::recording::{
-    Places, RecordingPaths, input_of, loses_input, output_places, record_files,
-};
+use crate::recording::{Places, RecordingPaths, beside_of, loses_input, record_files};
 use crate::surroundings::Surroundings;
 use ir_arguments::HuntArguments;
 use ir_files::{ExitStatus, Folder};
 use ir_hunt::{HuntPlan, hunt_run};
 use ir_record_command::ParsedImage;
+use ir_schedule::Condition;
 use ir_stream::Sink;
 use ir_trace::Trace;
 use std::thread::Threads;
@@ -26,6 +25,34 @@ fn paths(arguments: &HuntArguments) -> RecordingPaths<'_> {
         input: arguments.options.input.as_ref(),
         list: None,
         output: arguments.options.output.as_ref(),
+    }
+}
+
+// What is hunted, and how: what the arguments say, of a guest that reads these bytes.
+fn plan_of<'a>(
+    arguments: &HuntArguments,
+    conditions: &'a [Condition<'a>],
+    input: &'a [u8],
+    explains: bool,
+) -> HuntPlan<'a>
+    ensures record { result.record ≡ record { order = None; budget = arguments.now.options.budget; random = arguments.now.options.random; input = input.now; profile = arguments.now.options.profile } }
+    ensures way { result.way ≡ arguments.now.way }
+    ensures seeds { result.seeds ≡ arguments.now.seeds }
+    ensures conditions { result.conditions.now ≡ conditions.now }
+    ensures stale { result.stale ≡ arguments.now.stale }
+    ensures jobs { result.jobs ≡ arguments.now.jobs }
+    ensures seconds { result.seconds ≡ arguments.now.seconds }
+    ensures shown { result.is_shown ≡ explains }
+{
+    HuntPlan {
+        record: arguments.options.plan(None, input),
+        way: arguments.way,
+        seeds: arguments.seeds,
+        conditions,
+        stale: arguments.stale,
+        jobs: arguments.jobs,
+        seconds: arguments.seconds,
+        is_shown: explains,
     }
 }
 
@@ -69,47 +96,28 @@ where
 {
     let folder = around.folder;
     let alloc = around.rt.alloc();
-    if loses_input(folder, faults, &paths(arguments)) {
+    let paths = paths(arguments);
+    if loses_input(folder, faults, &paths) {
         return ExitStatus::BadArguments;
     }
-    let image = match image_in(alloc, folder, faults, arguments.image.as_str()) {
+    let image = match image_in(alloc, folder, faults, paths.image) {
         Ok(image) => image,
         Err(status) => return status,
     };
     let image = ParsedImage::new(alloc, image.as_slice());
-    let texts = arguments.until.as_slice();
-    let conditions = match conditions_of(alloc, faults, &image, texts) {
+    let conditions = match conditions_of(alloc, faults, &image, arguments.until.as_slice()) {
         Ok(conditions) => conditions,
         Err(status) => return status,
     };
-    let outputs = match output_places(alloc, folder, faults, &paths(arguments), &image) {
-        Ok(outputs) => outputs,
+    let (outputs, input) = match beside_of(alloc, folder, faults, &paths, &image) {
+        Ok(beside) => beside,
         Err(status) => return status,
     };
-    let Some(input) = input_of(alloc, folder, faults, paths(arguments).input) else {
-        return ExitStatus::Failed;
-    };
-    let plan = HuntPlan {
-        record: arguments.options.plan(None, input.as_slice()),
-        way: arguments.way,
-        seeds: arguments.seeds,
-        conditions: conditions.as_slice(),
-        stale: arguments.stale,
-        jobs: arguments.jobs,
-        seconds: arguments.seconds,
-        is_shown: explains,
-    };
     let places = Places {
-        trace: arguments.trace.as_str(),
+        trace: paths.trace,
         outputs: outputs.as_ref().map(|each| each.as_slice()),
     };
-    match hunted_into(around, places, &image, &plan, out, faults) {
-        Ok(recorded) => {
-            if explains {
-                tell_ends(alloc, &recorded, faults);
-            }
-            ExitStatus::Done
-        }
-        Err(status) => status,
-    }
+    let plan = plan_of(arguments, conditions.as_slice(), input.as_slice(), explains);
+    let found = hunted_into(around, places, &image, &plan, out, faults);
+    recorded_status(alloc, found, explains, faults)
 }

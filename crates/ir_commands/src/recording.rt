@@ -172,3 +172,20 @@ pub fn output_places<D: Folder, E: Sink>(
     }
     Ok(outputs)
 }
+
+/// Where what the threads print goes, if it is asked for, and the bytes that they read. If there are none, the reason is reported.
+pub fn beside_of<D: Folder, E: Sink>(
+    alloc: Global,
+    folder: &D,
+    faults: &mut E,
+    paths: &RecordingPaths<'_>,
+    image: &ParsedImage<'_>,
+) -> Result<(Option<Vec<String>>, Vec<u8>), ExitStatus>
+    ensures kept { OnOk result (faults.new ≡ faults.old) }
+{
+    let outputs = output_places(alloc, folder, faults, paths, image)?;
+    match input_of(alloc, folder, faults, paths.input) {
+        Some(input) => Ok((outputs, input)),
+        None => Err(ExitStatus::Failed),
+    }
+}

@@ -1,14 +1,12 @@
 //! `ir explore --until`: the first outcome that fulfils conditions is recorded.
 
-ghost use Rattle.std.specs.Prelude.{◌≡◌, OnOk, false};
+ghost use Rattle.std.specs.Prelude.{◌≡◌, false};
 
 use crate::conditions::conditions_of;
-use crate::ends::tell_ends;
+use crate::ends::recorded_status;
 use crate::explore::plan_of;
 use crate::files::image_in;
-use crate::recording::{
-    Places, RecordingPaths, input_of, loses_input, output_places, record_files,
-};
+use crate::recording::{Places, RecordingPaths, beside_of, loses_input, record_files};
 use crate::surroundings::Surroundings;
 use ir_arguments::UntilArguments;
 use ir_explore::{HangPlan, UntilPlan, explore_hang, explore_until};
@@ -17,7 +15,6 @@ use ir_record_command::ParsedImage;
 use ir_search::Observer;
 use ir_stream::Sink;
 use ir_trace::Trace;
-use std::alloc::Global;
 use std::time::Clock;
 
 // The files of the recording.
@@ -28,23 +25,6 @@ fn paths(arguments: &UntilArguments) -> RecordingPaths<'_> {
         input: arguments.explore.input.as_ref(),
         list: None,
         output: arguments.output.as_ref(),
-    }
-}
-
-// Where what the threads print goes, if it is asked for, and the bytes that they read. If there are none, the reason is reported.
-fn beside_of<D: Folder, E: Sink>(
-    alloc: Global,
-    folder: &D,
-    faults: &mut E,
-    paths: &RecordingPaths<'_>,
-    image: &ParsedImage<'_>,
-) -> Result<(Option<Vec<String>>, Vec<u8>), ExitStatus>
-    ensures kept { OnOk result (faults.new ≡ faults.old) }
-{
-    let outputs = output_places(alloc, folder, faults, paths, image)?;
-    match input_of(alloc, folder, faults, paths.input) {
-        Some(input) => Ok((outputs, input)),
-        None => Err(ExitStatus::Failed),
     }
 }
 
@@ -149,13 +129,5 @@ where
     } else {
         found_into(around, places, &plan, out, faults)
     };
-    match found {
-        Ok(recorded) => {
-            if explains {
-                tell_ends(alloc, &recorded, faults);
-            }
-            ExitStatus::Done
-        }
-        Err(status) => status,
-    }
+    recorded_status(alloc, found, explains, faults)
 }

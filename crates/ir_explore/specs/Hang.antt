@@ -19,6 +19,11 @@ use Rattle.ir_explore.specs.Faults.{HasNoGuest}
 use Rattle.ir_explore.specs.Plan.{ExplorePlan}
 use Rattle.ir_explore.specs.Texts.{Known, AreKnown, IsKnownText, IsStopped}
 use Rattle.ir_explore.specs.Until.{recording}
+use Rattle.ir_record_command.specs.Faults.{fault_status}
+use Rattle.ir_record_command.specs.Stopping.{Tellings, Devices, devices, LeavesRecording}
+use Rattle.ir_record_command.specs.declared.record_fault.RecordFault.{RecordFault}
+use Rattle.ir_explore.specs.Stopping.{WritesOnly, TellsNoAnswer}
+use Rattle.std.specs.Io.KnownBytes.{Appends}
 use Rattle.ir_explore.specs.declared.fault.ExploreFault.{ExploreFault}
 use Rattle.ir_explore.specs.declared.fault.ExploreFault.TheVariants.{Image, TooLarge, NoMem, Write}
 use Rattle.ir_explore.specs.declared.hang_order.HangOrder.{HangOrder}
@@ -88,3 +93,15 @@ HasNoHangAnswer (Image e) image plan w = HasNoGuest (Image e) image plan w
 HasNoHangAnswer TooLarge image plan w = HasNoGuest TooLarge image plan w
 HasNoHangAnswer NoMem image plan w = HasNoGuest NoMem image plan w
 HasNoHangAnswer Write image plan w = (found : Result HangOrder ExitStatus) × (text : List ℕ) × IsHangAnswer image plan found text × Failed w text
+
+-- a hang is told, and the recording of its run stopped
+abbrev pub StopsAfterHang : {W P O : Type 0} → Tellings W P O → ExitStatus → List ℕ → ExplorePlan → Devices W P O → Devices W P O → Writer → Type 0
+StopsAfterHang {W} {P} {O} d status image plan old new reports = (e : RecordFault) × (status ≡ fault_status e) × (order : HangOrder) × (text : List ℕ) × (said : O)
+    × IsHangAnswer image plan (Ok order) text × Appends (d.took old.lines) (d.took said) text
+    × LeavesRecording d e image (hang_plan plan order) (devices old.trace old.outputs said) new reports
+
+-- a search for a hang ended without a recording, with a status
+abbrev pub StopsHang : {W P O : Type 0} → Tellings W P O → ExitStatus → List ℕ → ExplorePlan → Devices W P O → Devices W P O → Writer → Type 0 → Type 0
+StopsHang d status image plan old new reports same = WritesOnly d (IsHangAnswer image plan (Err status)) old new same
+    ⊎ (TellsNoAnswer d (λ e lines. HasNoHangAnswer e image plan lines) status old new reports
+    ⊎ StopsAfterHang d status image plan old new reports)

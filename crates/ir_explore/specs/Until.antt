@@ -29,6 +29,11 @@ use Rattle.ir_explore.specs.Conditions.{fulfils_each, NeverFulfils, NeverWithin,
 use Rattle.ir_explore.specs.Faults.{HasNoGuest}
 use Rattle.ir_explore.specs.Lines.{outcome_found_line}
 use Rattle.ir_explore.specs.Texts.{Known, AreKnown, IsKnownText, objects_of, AreTexts, IsStopped}
+use Rattle.ir_record_command.specs.Faults.{fault_status}
+use Rattle.ir_record_command.specs.Stopping.{Tellings, Devices, devices, LeavesRecording}
+use Rattle.ir_record_command.specs.declared.record_fault.RecordFault.{RecordFault}
+use Rattle.ir_explore.specs.Stopping.{WritesOnly, TellsNoAnswer}
+use Rattle.std.specs.Io.KnownBytes.{Appends}
 use Rattle.ir_explore.specs.declared.fault.ExploreFault.{ExploreFault}
 use Rattle.ir_explore.specs.declared.fault.ExploreFault.TheVariants.{Image, TooLarge, NoMem, Write}
 use Rattle.ir_explore.specs.Plan.{ExplorePlan, setup_of}
@@ -129,3 +134,15 @@ HasNoAnswer (Image e) image plan conditions w = HasNoGuest (Image e) image plan 
 HasNoAnswer TooLarge image plan conditions w = HasNoGuest TooLarge image plan w
 HasNoAnswer NoMem image plan conditions w = HasNoGuest NoMem image plan w
 HasNoAnswer Write image plan conditions w = (found : Result (List ℕ) ExitStatus) × (text : List ℕ) × IsUntil image plan conditions found text × Failed w text
+
+-- an outcome is told, and the recording of its run stopped
+abbrev pub StopsAfterOutcome : {W P O : Type 0} → Tellings W P O → ExitStatus → List ℕ → ExplorePlan → List Condition → Devices W P O → Devices W P O → Writer → Type 0
+StopsAfterOutcome {W} {P} {O} d status image plan conditions old new reports = (e : RecordFault) × (status ≡ fault_status e) × (text list : List ℕ) × (said : O)
+    × IsUntil image plan conditions (Ok list) text × Appends (d.took old.lines) (d.took said) text
+    × LeavesRecording d e image (recording plan (Some list)) (devices old.trace old.outputs said) new reports
+
+-- a search for an outcome ended without a recording, with a status
+abbrev pub StopsUntil : {W P O : Type 0} → Tellings W P O → ExitStatus → List ℕ → ExplorePlan → List Condition → Devices W P O → Devices W P O → Writer → Type 0 → Type 0
+StopsUntil d status image plan conditions old new reports same = WritesOnly d (IsUntil image plan conditions (Err status)) old new same
+    ⊎ (TellsNoAnswer d (λ e lines. HasNoAnswer e image plan conditions lines) status old new reports
+    ⊎ StopsAfterOutcome d status image plan conditions old new reports)

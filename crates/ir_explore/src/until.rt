@@ -13,9 +13,8 @@ ghost use Rattle.ir_image.specs.Guest.{guest_at};
 ghost use Rattle.ir_thread.specs.State.{IsAllowed};
 ghost use Rattle.ir_trace.specs.Encoding.{encoding};
 ghost use Rattle.ir_explore.specs.Faults.{HasNoGuest};
-ghost use Rattle.ir_explore.specs.Stopping.{StopsUntil};
 ghost use Rattle.ir_explore.specs.Texts.{known_of};
-ghost use Rattle.ir_explore.specs.Until.{recording, found_bytes, IsSought, IsUntilText, IsUntil, IsOutcomeFinding, HasNoAnswer};
+ghost use Rattle.ir_explore.specs.Until.{recording, found_bytes, IsSought, IsUntilText, IsUntil, IsOutcomeFinding, HasNoAnswer, StopsUntil};
 ghost use Rattle.ir_explore.specs.declared.fault.ExploreFault.{ExploreFault};
 ghost use Rattle.ir_explore.specs.Plan.{ExplorePlan};
 
