@@ -84,12 +84,14 @@ CLAIMS = [
         ("ir_explore", "Until", "`IsSought`, `IsVain`"),
         ("ir_explore", "Hang", "`FindsHang`, `IsHangTold`"),
     ], (521, 320)),
-    Claim("Comparing", "`ir explore --within` says whether each outcome of a guest is one of another's.", {
+    Claim("Comparing", "`ir explore --within` says whether each outcome of a guest is one of another's; `--only` lists outcomes by classes.", {
         "ir_within/src/run.rt": ["within_run"],
-        "ir_within/src/laws.rt": ["within_is_each", "outside_is_some"],
+        "ir_within/src/classes.rt": ["classes_run"],
+        "ir_within/src/laws.rt": ["within_is_each", "outside_is_some", "each_class_is_listed", "class_has_fewest"],
     }, [
         ("ir_within", "Aspects", "`Aspects`, `seen`: what of an outcome counts"),
         ("ir_within", "Within", "`IsCompared`, `IsWithinAnswer`: what is printed"),
+        ("ir_within", "Classes", "`AreClasses`, `IsClassesText`: what is printed by classes"),
         ("ir_within", "Laws", "the laws"),
     ], (420, 200)),
     Claim("Hunting", "`ir hunt` says which seeds it tried, and which is the lowest that it found.", {"ir_hunt/src/hunting.rt": ["hunt_run"]}, [

@@ -1,11 +1,11 @@
 #!/usr/bin/env python3
-"""`ir explore --within` against the judge of tests/exploring.py, and its refusals.
+"""`ir explore --within` and `--only` against the judge of tests/exploring.py, and their refusals.
 
 python3 tests/comparing.py IR [--pairs N] [--seed S]
 
 Of two guests the judge says which outcomes each has. What counts of them is cut out here, and compared as sets: so it is known which outcomes of
 the first are outside, and what the last line says. The lines of these outcomes have to be those of `ir explore` without the option, with their
-numbers. Half of the second guests are the first one with an operation changed. The last line is `N passed, M failed`.
+numbers. Half of the second guests are the first one with an operation changed. By classes the first outcome of each has to be printed. The last line is `N passed, M failed`.
 """
 import random
 import subprocess
@@ -39,7 +39,7 @@ def blocks_of(lines):
     for line in lines:
         if line.startswith("outcome "):
             here = blocks.setdefault(int(line.split()[1]), [])
-        elif line.split()[0] in ("hang", "finished", "covered", "stopped", "image", "other", "within", "outside", "unknown"):
+        elif line.split()[0] in ("hang", "finished", "covered", "stopped", "image", "other", "within", "outside", "unknown", "classes"):
             here = None
         (others if here is None else here).append(line)
     return blocks, others
@@ -87,6 +87,19 @@ def check_pair(folder, chance):
     wants(f"outcomes of {where}", printed, {number: blocks[number] for number in outside})
     wants(f"ending of {where}", rest, [f"image {last[-1]}", f"other {blocks_of(other_lines)[1][-1]}", f"outside {len(outside)}" if outside else "within"])
     wants(f"status of {where}", ended.returncode, 5 if outside else 0)
+    check_classes(folder, f"{guest} only {parts}", parts or ["out", "codes", "objects"], objects, (blocks, last, keys))
+
+
+def check_classes(folder, where, parts, objects, known):
+    """A guest's outcomes by classes: of each class the first is printed."""
+    blocks, last, keys = known
+    firsts = {}
+    for number in sorted(keys):
+        firsts.setdefault(counted((keys[number].threads, keys[number].words), parts, objects), number)
+    ended = run(["explore", "guest.img", "--only", ",".join(parts)], folder)
+    printed, rest = blocks_of(ended.stdout.decode().splitlines())
+    wants(f"classes of {where}", printed, {number: blocks[number] for number in firsts.values()})
+    wants(f"ending of {where}", rest, [*last, f"classes {len(firsts)}"])
 
 
 # Arguments, the exit status, the last line of standard output, and what standard error says.
@@ -104,7 +117,13 @@ ROWS = [
     ("lost.img --within checked.img --only", 2, None, "--only"),
     ("lost.img --within checked.img --only none", 2, None, "'none' isn't out, codes, objects or the number of an object up to 63"),
     ("lost.img --within checked.img --only out,,codes", 2, None, "'' isn't out, codes, objects or the number of an object up to 63"),
-    ("lost.img --only out", 2, None, "--within"),
+    ("lost.img --only out", 0, "classes 1", ""),
+    ("lost.img --only 0", 0, "classes 2", ""),
+    ("lost.img --only codes,out,objects --states 2", 6, "classes 0", ""),
+    ("lost.img --only 7", 2, None, "lost.img: the guest has no object 7, which --only names"),
+    ("lost.img --only none", 2, None, "'none' isn't out, codes, objects or the number of an object up to 63"),
+    ("lost.s --only out", 3, None, "the image is refused"),
+    ("lost.img x.trc --until fault --only out", 2, None, "cannot be used with"),
     ("lost.img x.trc --until fault --within checked.img", 2, None, "cannot be used with"),
 ]
 

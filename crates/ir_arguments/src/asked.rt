@@ -14,7 +14,7 @@ use crate::trace::TraceArguments;
 use crate::view::ViewArguments;
 use crate::who::WhoArguments;
 use crate::why::WhyArguments;
-use crate::within::WithinArguments;
+use crate::within::{ClassesArguments, WithinArguments};
 
 /// An image that is made of another file.
 #[derive(Drop)]
@@ -44,9 +44,16 @@ pub enum Print {
     Diff(DiffArguments),
     /// A picture of a trace.
     View(ViewArguments),
-    /// The outcomes of a guest.
+}
+
+/// What is printed of the outcomes of a guest.
+#[derive(Drop)]
+pub enum Explored {
+    /// All of them.
     Outcomes(ExploreArguments),
-    /// The outcomes of a guest that another guest doesn't have.
+    /// The first of each class.
+    Classes(ClassesArguments),
+    /// Those that another guest doesn't have.
     Within(WithinArguments),
 }
 
@@ -69,6 +76,8 @@ pub enum Asked {
     Gdb(DebugArguments),
     /// Lines about files.
     Print(Print),
+    /// The outcomes of a guest.
+    Explore(Explored),
     /// This text, about the program.
     Help(String),
     /// Nothing that there is, for this reason.

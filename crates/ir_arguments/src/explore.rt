@@ -2,13 +2,15 @@
 
 ghost use Rattle.std.specs.Prelude.{◌≤◌, IfOk};
 
-use crate::asked::{Asked, Print};
+use crate::asked::{Asked, Explored};
 use crate::conditions::{hang_by, outcome_conditions_of};
 use crate::recording::{
     INPUT, OUTPUT, input_arg, output_arg, profile_arg, profile_in, random_arg, random_in,
 };
 use crate::values::{IMAGE, TRACE, UNTIL, given_text, image_arg, text_of};
-use crate::within::{WITHIN, WithinArguments, counted_of, only_arg, other_of, within_arg};
+use crate::within::{
+    ClassesArguments, ONLY, WITHIN, WithinArguments, counted_of, only_arg, other_of, within_arg,
+};
 use clap::{Arg, ArgAction, ArgMatches, Command};
 use ir_record_command::number_within;
 use ir_thread::{MOST_BUDGET, Profile};
@@ -59,6 +61,10 @@ and one of
   unknown                                        a search ended before either was known
 PARTS says what of outcomes counts, so that guests with other objects can be compared: `out` what each thread prints, `codes` how it
 ends, `objects` the words of all objects, or a number the words of that object. Without --only all of it counts.
+With --only PARTS and without OTHER outcomes that are the same in PARTS are a class. Of each class only the outcome that is found
+first is printed, which has the fewest switches of them, with its number among all outcomes. After the line that says how the
+search ended comes
+  classes M                                      there are M classes among the outcomes that were found
 Exit status: 0 finished without a hang, or covered, 1 a file that can't be read or written, memory that ran out outside the search,
 or standard output that can't be written, 2 bad arguments, 3 a refused image, or a guest with more threads or objects than the
 profile takes, or a COND about what the guest hasn't, 6 stopped, 7 finished, and from some state no run reaches an end any more.
@@ -169,7 +175,7 @@ pub fn with_arguments<'a>(alloc: Global, command: Command<'a>) -> Result<Command
         .arg(input_arg(alloc))?
         .arg(output_arg(alloc).requires_arg(UNTIL)?)?
         .arg(within_arg(alloc).conflicts_with(UNTIL)?)?
-        .arg(only_arg(alloc).requires_arg(WITHIN)?)
+        .arg(only_arg(alloc).conflicts_with(UNTIL)?)
 }
 
 fn trace_arg<'a>(alloc: Global) -> Result<Arg<'a>, AllocError> {
@@ -277,11 +283,23 @@ fn within_asked(
     explore: ExploreArguments,
 ) -> Result<Asked, AllocError> {
     match counted_of(alloc, matches)? {
-        Ok(counted) => Ok(Asked::Print(Print::Within(WithinArguments {
+        Ok(counted) => Ok(Asked::Explore(Explored::Within(WithinArguments {
             explore,
             other: other_of(alloc, matches)?,
             counted,
         }))),
+        Err(why) => Ok(Asked::Nothing(why)),
+    }
+}
+
+// The outcomes by classes, or what is wrong with what counts.
+fn classes_asked(
+    alloc: Global,
+    matches: &ArgMatches<'_>,
+    explore: ExploreArguments,
+) -> Result<Asked, AllocError> {
+    match counted_of(alloc, matches)? {
+        Ok(counted) => Ok(Asked::Explore(Explored::Classes(ClassesArguments { explore, counted }))),
         Err(why) => Ok(Asked::Nothing(why)),
     }
 }
@@ -294,6 +312,9 @@ pub fn asked(alloc: Global, matches: &ArgMatches<'_>) -> Result<Asked, AllocErro
     };
     if matches.get_str(WITHIN).is_some() {
         return within_asked(alloc, matches, explore);
+    }
+    if matches.get_str(ONLY).is_some() {
+        return classes_asked(alloc, matches, explore);
     }
     let hang = match hang_by(alloc, matches)? {
         Ok(hang) => hang,
@@ -311,6 +332,6 @@ pub fn asked(alloc: Global, matches: &ArgMatches<'_>) -> Result<Asked, AllocErro
             hang,
             output: given_text(alloc, matches, OUTPUT)?,
         })),
-        None => Ok(Asked::Print(Print::Outcomes(explore))),
+        None => Ok(Asked::Explore(Explored::Outcomes(explore))),
     }
 }

@@ -27,7 +27,7 @@ mod within;
 mod wrong_condition;
 
 pub use arguments::{collected, parsed};
-pub use asked::{Asked, Make, Print};
+pub use asked::{Asked, Explored, Make, Print};
 pub use assemble::{ASM_AFTER, AssembleArguments};
 pub use debug::{DEBUG_AFTER, DebugArguments};
 pub use diff::DiffArguments;
@@ -44,4 +44,4 @@ pub use trace::TraceArguments;
 pub use view::{Part, ViewArguments};
 pub use who::WhoArguments;
 pub use why::WhyArguments;
-pub use within::{Counted, WithinArguments};
+pub use within::{ClassesArguments, Counted, WithinArguments};

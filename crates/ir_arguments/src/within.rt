@@ -1,4 +1,4 @@
-//! The arguments of `ir explore --within`.
+//! The arguments of `ir explore --within` and `--only`.
 
 use crate::explore::ExploreArguments;
 use crate::values::text_of;
@@ -37,6 +37,15 @@ pub struct WithinArguments {
     pub counted: Counted,
 }
 
+/// Whose outcomes are told by classes, and in what they are the same.
+#[derive(Drop)]
+pub struct ClassesArguments {
+    /// Which guest is explored, and how far.
+    pub explore: ExploreArguments,
+    /// What of outcomes counts.
+    pub counted: Counted,
+}
+
 pub fn within_arg<'a>(alloc: Global) -> Arg<'a> {
     Arg::new(alloc, WITHIN)
         .long(WITHIN)
@@ -48,7 +57,7 @@ pub fn within_arg<'a>(alloc: Global) -> Arg<'a> {
 
 pub fn only_arg<'a>(alloc: Global) -> Arg<'a> {
     Arg::new(alloc, ONLY).long(ONLY).value_name("PARTS").help(
-        "What of outcomes counts with --within, with commas between: out, codes, objects, or the number of an object",
+        "What of outcomes counts, with commas between: out, codes, objects, or the number of an object",
     )
 }
 

@@ -37,4 +37,4 @@ pub use surroundings::Surroundings;
 pub use trace::trace_file;
 pub use tracing::trace_run;
 pub use until::until_file;
-pub use within::within_file;
+pub use within::{classes_file, within_file};

@@ -1,4 +1,4 @@
-//! `ir explore --within`: the outcomes of a guest that another guest doesn't have are printed.
+//! `ir explore --within`: the outcomes of a guest that another guest doesn't have are printed; and `--only`: outcomes by classes.
 
 ghost use Rattle.std.specs.Prelude.{◌≡◌, false};
 
@@ -6,13 +6,13 @@ use crate::explore::plan_of;
 use crate::files::{image_in, say};
 use crate::recording::input_of;
 use crate::surroundings::Surroundings;
-use ir_arguments::{Counted, WithinArguments};
-use ir_explore::guest_of;
+use ir_arguments::{ClassesArguments, Counted, WithinArguments};
+use ir_explore::{ExplorePlan, guest_of};
 use ir_files::{ExitStatus, Folder};
 use ir_record_command::ParsedImage;
 use ir_search::Observer;
 use ir_stream::Sink;
-use ir_within::{Aspects, WithinPlan, within_run};
+use ir_within::{Aspects, ClassesPlan, WithinPlan, classes_run, within_run};
 use std::alloc::Global;
 
 // What counts of outcomes.
@@ -25,17 +25,18 @@ fn aspects_of(counted: &Counted) -> Aspects<'_> {
 }
 
 // Whether a guest, if it is one that can be explored, lacks an object whose words count; that is reported.
-fn lacks_object<W, E: Sink>(
+fn lacks_object<E: Sink>(
     alloc: Global,
-    plan: &WithinPlan<'_, '_, '_, W>,
+    explore: &ExplorePlan<'_>,
+    aspects: Aspects<'_>,
     image: &ParsedImage<'_>,
     path: &str,
     faults: &mut E,
 ) -> bool {
-    let Ok(guest) = guest_of(image, &plan.explore) else {
+    let Ok(guest) = guest_of(image, explore) else {
         return false;
     };
-    let objects = plan.aspects.objects.unwrap_or_default();
+    let objects = aspects.objects.unwrap_or_default();
     let Some(lacking) = objects
         .iter()
         .find(|object| usize::from(**object) >= guest.object_count())
@@ -86,10 +87,56 @@ where
         aspects: aspects_of(&arguments.counted),
         observer: around.gate,
     };
-    if lacks_object(alloc, &plan, &image, path, faults)
-        || lacks_object(alloc, &plan, &other, arguments.other.as_str(), faults)
+    let (explore, aspects) = (&plan.explore, plan.aspects);
+    if lacks_object(alloc, explore, aspects, &image, path, faults)
+        || lacks_object(
+            alloc,
+            explore,
+            aspects,
+            &other,
+            arguments.other.as_str(),
+            faults,
+        )
     {
         return ExitStatus::BadArguments;
     }
     within_run(alloc, &plan, out, faults)
+}
+
+// Prints the outcomes of the guest in a file by classes.
+pub fn classes_file<R, D, G, O, E>(
+    around: &Surroundings<'_, R, D, G>,
+    arguments: &ClassesArguments,
+    out: &mut O,
+    faults: &mut E,
+) -> ExitStatus
+where
+    R: AllocGlobal,
+    D: Folder,
+    G: Observer,
+    O: Sink,
+    E: Sink,
+    requires writes { O.broken out.old ≡ false }
+    requires reports { E.broken faults.old ≡ false }
+{
+    let (alloc, folder) = (around.rt.alloc(), around.folder);
+    let path = arguments.explore.image.as_str();
+    let image = match image_in(alloc, folder, faults, path) {
+        Ok(image) => image,
+        Err(status) => return status,
+    };
+    let Some(input) = input_of(alloc, folder, faults, arguments.explore.input.as_ref()) else {
+        return ExitStatus::Failed;
+    };
+    let image = ParsedImage::new(alloc, image.as_slice());
+    let plan = ClassesPlan {
+        image: &image,
+        explore: plan_of(&arguments.explore, input.as_slice()),
+        aspects: aspects_of(&arguments.counted),
+        observer: around.gate,
+    };
+    if lacks_object(alloc, &plan.explore, plan.aspects, &image, path, faults) {
+        return ExitStatus::BadArguments;
+    }
+    classes_run(alloc, &plan, out, faults)
 }

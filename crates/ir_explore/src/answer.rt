@@ -48,6 +48,9 @@ pub fn vain_status_of(ended: Ended) -> ExitStatus
 }
 
 /// The lines after those of the outcomes: a hang, if one is known, and how the search ended. The exit status.
+///
+/// # Errors
+/// Out of memory.
 pub fn ending_text(
     alloc: Global,
     explored: &Explored<'_>,
@@ -95,6 +98,9 @@ pub fn known_text(
 }
 
 /// The line of a search that stopped before it began, and the exit status.
+///
+/// # Errors
+/// Out of memory.
 pub fn stopped_text(alloc: Global, why: Stop) -> Result<(Vec<u8>, ExitStatus), AllocError>
     ensures { IfOk result (λ answer. (guest : Guest) (plan : ExplorePlan) → IsStopReason guest plan why → IsStopped guest plan answer.1 answer.0.items) }
 {

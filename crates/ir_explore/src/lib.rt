@@ -20,6 +20,7 @@ mod states;
 mod texts;
 mod until;
 
+pub use answer::{ending_text, stopped_text};
 pub use conditions::outcomes_decide;
 pub use fault::ExploreFault;
 pub use hang::explore_hang;

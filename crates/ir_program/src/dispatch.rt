@@ -6,11 +6,11 @@ use crate::bundles::bundle;
 use crate::debug::{debug_files, gdb_files};
 use crate::ends_once::EndsOnce;
 use crate::prompting::Prompting;
-use ir_arguments::{Asked, Make, Print, parsed};
+use ir_arguments::{Asked, Explored, Make, Print, parsed};
 use ir_commands::{
-    Surroundings, assemble_file, convert_file, diff_files, events_file, explain_image,
-    explore_file, hunt_file, list_file, record_file, say, stale_file, trace_file, until_file,
-    view_file, who_file, why_file, within_file,
+    Surroundings, assemble_file, classes_file, convert_file, diff_files, events_file,
+    explain_image, explore_file, hunt_file, list_file, record_file, say, stale_file, trace_file,
+    until_file, view_file, who_file, why_file, within_file,
 };
 use ir_files::{ExitStatus, Folder};
 use ir_object::{Gate, Given, Hands};
@@ -109,9 +109,36 @@ fn over_image<D: Folder, E: Sink>(
 }
 
 // Prints lines about files.
-fn print<R, D, G, O, E>(
-    around: &Surroundings<'_, R, D, G>,
+fn print<D: Folder, O: Sink, E: Sink>(
+    alloc: Global,
+    folder: &D,
     what: &mut Print,
+    out: &mut O,
+    faults: &mut E,
+) -> ExitStatus
+    requires writes { O.broken out.old ≡ false }
+    requires reports { E.broken faults.old ≡ false }
+{
+    match what {
+        Print::Code(arguments) => {
+            let status = list_file(alloc, folder, arguments, out, faults);
+            let image = arguments.image.as_str();
+            over_image(alloc, folder, image, status, faults)
+        }
+        Print::Trace(arguments) => trace_file(alloc, folder, arguments, out, faults),
+        Print::Events(arguments) => { events_file(alloc, folder, arguments, out, faults) }
+        Print::Stale(arguments) => { stale_file(alloc, folder, arguments, out, faults) }
+        Print::Who(arguments) => who_file(alloc, folder, arguments, out, faults),
+        Print::Why(arguments) => why_file(alloc, folder, arguments, out, faults),
+        Print::Diff(arguments) => diff_files(alloc, folder, arguments, out, faults),
+        Print::View(arguments) => view_file(alloc, folder, arguments, out, faults),
+    }
+}
+
+// Prints outcomes of the guest in a file.
+fn explore<R, D, G, O, E>(
+    around: &Surroundings<'_, R, D, G>,
+    what: &Explored,
     out: &mut O,
     faults: &mut E,
 ) -> ExitStatus
@@ -126,30 +153,31 @@ where
 {
     let (alloc, folder) = (around.rt.alloc(), around.folder);
     match what {
-        Print::Code(arguments) => {
-            let status = list_file(alloc, folder, arguments, out, faults);
-            let image = arguments.image.as_str();
-            over_image(alloc, folder, image, status, faults)
-        }
-        Print::Trace(arguments) => trace_file(alloc, folder, arguments, out, faults),
-        Print::Events(arguments) => { events_file(alloc, folder, arguments, out, faults) }
-        Print::Stale(arguments) => { stale_file(alloc, folder, arguments, out, faults) }
-        Print::Who(arguments) => who_file(alloc, folder, arguments, out, faults),
-        Print::Why(arguments) => why_file(alloc, folder, arguments, out, faults),
-        Print::Diff(arguments) => diff_files(alloc, folder, arguments, out, faults),
-        Print::View(arguments) => view_file(alloc, folder, arguments, out, faults),
-        Print::Within(arguments) => {
+        Explored::Within(arguments) => {
             let status = within_file(around, arguments, out, faults);
             let image = arguments.explore.image.as_str();
             let status = over_image(alloc, folder, image, status, faults);
             over_image(alloc, folder, arguments.other.as_str(), status, faults)
         }
-        Print::Outcomes(arguments) => {
+        Explored::Classes(arguments) => {
+            let status = classes_file(around, arguments, out, faults);
+            let image = arguments.explore.image.as_str();
+            over_image(alloc, folder, image, status, faults)
+        }
+        Explored::Outcomes(arguments) => {
             let status = explore_file(around, arguments, out, faults);
             let image = arguments.image.as_str();
             over_image(alloc, folder, image, status, faults)
         }
     }
+}
+
+// Reports why nothing is done; the exit status of that.
+fn told<E: Sink>(why: &str, status: ExitStatus, faults: &mut E) -> ExitStatus
+    ensures { result ≡ status }
+{
+    say(faults, why, "", "");
+    status
 }
 
 /// Does what the arguments ask for, and gives the exit status.
@@ -201,15 +229,10 @@ where
             let mut input = input;
             gdb_files(&around, &arguments, &mut input, out, faults)
         }
-        Asked::Print(mut what) => print(&around, &mut what, out, faults),
+        Asked::Print(mut what) => print(alloc, folder, &mut what, out, faults),
+        Asked::Explore(what) => explore(&around, &what, out, faults),
         Asked::Help(text) => help(text.as_str(), out, faults),
-        Asked::Nothing(why) => {
-            say(faults, why.as_str(), "", "");
-            ExitStatus::BadArguments
-        }
-        Asked::NoMem => {
-            say(faults, "memory ran out", "", "");
-            ExitStatus::Failed
-        }
+        Asked::Nothing(why) => told(why.as_str(), ExitStatus::BadArguments, faults),
+        Asked::NoMem => told("memory ran out", ExitStatus::Failed, faults),
     }
 }

@@ -102,7 +102,7 @@ one_more_compared a flats xs others marks x s c mark done at is_flat is some non
 -- ---- both guests
 
 -- what counts of a listed outcome is what counts of its state
-seen_by_state : (a : Aspects) (guest : Guest) (plan : ExplorePlan) (k : Known) → AreKnown guest plan k → (i : ℕ) (x : Shown) (s : SourcedFlat)
+pub seen_by_state : (a : Aspects) (guest : Guest) (plan : ExplorePlan) (k : Known) → AreKnown guest plan k → (i : ℕ) (x : Shown) (s : SourcedFlat)
     → ShowsState k.flats k.outcomes i x s → IsFlat s.flat → what_counts a (end_state s.flat) ≡ seen a guest (run_outcome (tables s.flat))
 seen_by_state a guest plan k are i x s at is_flat =
     ap (what_counts a) (end_state_is_seen (setup_of guest plan) s (are.reached x.node s at.1) is_flat)

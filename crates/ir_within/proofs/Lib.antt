@@ -1,3 +1,4 @@
+mod Classes
 mod Compared
 mod Lines
 mod Meaning

@@ -8,10 +8,10 @@ use Rattle.ir_explore.specs.Texts.{Objects, Known, IsOutcomeText}
 use Rattle.ir_outcomes.specs.Explored.{ShowsState}
 use Rattle.ir_outcomes.specs.declared.shown.Shown.{Shown}
 use Rattle.ir_state_store.specs.Nodes.{SourcedFlat}
-use Rattle.ir_within.specs.Within.{AreOutsideTexts}
+use Rattle.ir_within.specs.Within.{AreMarkedTexts}
 
-pub no_outside_texts : (o : Objects) (k : Known) (outside : List Bool) → AreOutsideTexts o k outside 0 []
-no_outside_texts o k outside = record {
+pub no_marked_texts : (o : Objects) (k : Known) (outside : List Bool) → AreMarkedTexts o k outside 0 []
+no_marked_texts o k outside = record {
   texts = [];
   count = refl;
   each = λ i x s own at is. absurd (cc is);
@@ -20,10 +20,10 @@ no_outside_texts o k outside = record {
 }
 
 -- one more that is outside
-pub outside_texts_step : (o : Objects) (k : Known) (outside : List Bool) (many : ℕ) (text own : List ℕ) (x : Shown) (s : SourcedFlat)
-    → AreOutsideTexts o k outside many text → ShowsState k.flats k.outcomes many x s → slice_get outside many ≡ Some true
-    → IsOutcomeText o s.flat (suc many) x own → AreOutsideTexts o k outside (many + 1) (text ++ own)
-outside_texts_step o k outside many text own x s t at mark is = record {
+pub marked_texts_step : (o : Objects) (k : Known) (outside : List Bool) (many : ℕ) (text own : List ℕ) (x : Shown) (s : SourcedFlat)
+    → AreMarkedTexts o k outside many text → ShowsState k.flats k.outcomes many x s → slice_get outside many ≡ Some true
+    → IsOutcomeText o s.flat (suc many) x own → AreMarkedTexts o k outside (many + 1) (text ++ own)
+marked_texts_step o k outside many text own x s t at mark is = record {
   texts = t.texts ++ own ∷ [];
   count = let a = length-append t.texts (own ∷ []) in let b = t.count in omega (arith, a, b);
   each = λ i y g other there here marked. elim (slice_get-push_cases t.texts own i other here) [
@@ -45,8 +45,8 @@ outside_texts_step o k outside many text own x s t at mark is = record {
 }
 
 -- one more that isn't
-pub inside_texts_step : (o : Objects) (k : Known) (outside : List Bool) (many : ℕ) (text : List ℕ) → AreOutsideTexts o k outside many text
-    → slice_get outside many ≡ Some false → AreOutsideTexts o k outside (many + 1) text
+pub inside_texts_step : (o : Objects) (k : Known) (outside : List Bool) (many : ℕ) (text : List ℕ) → AreMarkedTexts o k outside many text
+    → slice_get outside many ≡ Some false → AreMarkedTexts o k outside (many + 1) text
 inside_texts_step o k outside many text t mark = record {
   texts = t.texts ++ [] ∷ [];
   count = let a = length-append t.texts ([] ∷ []) in let b = t.count in omega (arith, a, b);

@@ -16,7 +16,7 @@ use Rattle.ir_explore.specs.Texts.{Known}
 use Rattle.ir_graph.specs.Setup.{Setup}
 use Rattle.ir_within.specs.Aspects.{Aspects, seen}
 use Rattle.ir_within.specs.Laws.{HasLike, WithinIsEach, OutsideIsSome}
-use Rattle.ir_within.specs.Within.{IsAmong, IsCompared, outside_count, verdict_of}
+use Rattle.ir_within.specs.Within.{IsAmong, IsCompared, marked_count, verdict_of}
 use Rattle.ir_within.specs.declared.verdict.Verdict.TheVariants.{Within, Outside}
 
 -- ---- the verdict
@@ -35,13 +35,13 @@ some_are_outside (Stopped why) zero many h = absurd (cc h)
 
 -- ---- marks
 
-inside_if_none_outside : (outside : List Bool) (i : ℕ) → outside_count outside ≡ 0 → i < length outside → slice_get outside i ≡ Some false
+inside_if_none_outside : (outside : List Bool) (i : ℕ) → marked_count outside ≡ 0 → i < length outside → slice_get outside i ≡ Some false
 inside_if_none_outside [] i none less = absurd (omega (arith, less))
 inside_if_none_outside (true ∷ outside) i none less = absurd (omega (arith, none))
 inside_if_none_outside (false ∷ outside) zero none less = refl
 inside_if_none_outside (false ∷ outside) (suc i) none less = inside_if_none_outside outside i none (omega (arith, less))
 
-outside_mark : (outside : List Bool) → 0 < outside_count outside → (i : ℕ) × (slice_get outside i ≡ Some true)
+outside_mark : (outside : List Bool) → 0 < marked_count outside → (i : ℕ) × (slice_get outside i ≡ Some true)
 outside_mark [] some = absurd (omega (arith, some))
 outside_mark (true ∷ outside) some = (0, refl)
 outside_mark (false ∷ outside) some = let found = outside_mark outside some in (suc found.0, found.1)
@@ -74,7 +74,7 @@ among_if_like a guest other plan m x all like =
 compared_within : (a : Aspects) (guest other : Guest) (plan : ExplorePlan) (text : List ℕ) → IsCompared a guest other plan Within text
     → (x : RunOutcome) → IsOutcomeOf (setup_of guest plan) x → HasLike a guest other plan x
 compared_within a guest other plan text c x is =
-    let over = within_is_finished c.known.ended (outside_count c.outside) c.found in
+    let over = within_is_finished c.known.ended (marked_count c.outside) c.found in
     let listed = (c.are.all over.0 x).0 is in
     let count = c.judged.count in
     let less : listed.0 < length c.outside =
@@ -93,7 +93,7 @@ compared_outside : (a : Aspects) (guest other : Guest) (plan : ExplorePlan) (man
     → IsCompared a guest other plan (Outside many) text
     → (x : RunOutcome) × IsOutcomeOf (setup_of guest plan) x × (HasLike a guest other plan x → ⊥)
 compared_outside a guest other plan many text c =
-    let marked = outside_mark c.outside (some_are_outside c.known.ended (outside_count c.outside) many c.found) in
+    let marked = outside_mark c.outside (some_are_outside c.known.ended (marked_count c.outside) many c.found) in
     let count = c.judged.count in
     let less : marked.0 < length c.known.outcomes =
     (let b = slice_get_some_below c.outside marked.0 true marked.1 in omega (arith, b, count)) in

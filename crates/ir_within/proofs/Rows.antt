@@ -1,7 +1,7 @@
 -- Tables whose rows are compared one by one.
 use Rattle.std.proofs.Common.{◌≡◌, ℕ, suc, zero, ◌+◌, ◌<◌, Bool, true, false, refl, take, List, [], ◌∷◌, ◌++◌, ◌∙◌, length, map, get_or, ap, arith}
 use Rattle.std.proofs.lemmas.List.{take_more}
-use Rattle.ir_within.specs.Within.{outside_count}
+use Rattle.ir_within.specs.Within.{marked_count}
 
 -- rows of equal tables are equal
 pub rows_equal : {X Y : Type 0} (f : X → Y) (xs ys : List X) (i : ℕ) (d e : X) → i < length xs → i < length ys → map f xs ≡ map f ys
@@ -13,20 +13,20 @@ rows_equal f (x ∷ xs) (y ∷ ys) (suc i) d e less within same = rows_equal f x
 
 -- ---- marks
 
-outside_count_append : (xs ys : List Bool) → outside_count (xs ++ ys) ≡ outside_count xs + outside_count ys
-outside_count_append [] ys = omega arith
-outside_count_append (true ∷ xs) ys = let e = outside_count_append xs ys in omega (arith, e)
-outside_count_append (false ∷ xs) ys = outside_count_append xs ys
+marked_count_append : (xs ys : List Bool) → marked_count (xs ++ ys) ≡ marked_count xs + marked_count ys
+marked_count_append [] ys = omega arith
+marked_count_append (true ∷ xs) ys = let e = marked_count_append xs ys in omega (arith, e)
+marked_count_append (false ∷ xs) ys = marked_count_append xs ys
 
 -- one mark more
-pub outside_count_more : (xs : List Bool) (i : ℕ) (d : Bool) → i < length xs
-    → outside_count (take (i + 1) xs) ≡ outside_count (take i xs) + outside_count (get_or xs i d ∷ [])
-outside_count_more xs i d less = ap outside_count (take_more xs i d less) ∙ outside_count_append (take i xs) (get_or xs i d ∷ [])
+pub marked_count_more : (xs : List Bool) (i : ℕ) (d : Bool) → i < length xs
+    → marked_count (take (i + 1) xs) ≡ marked_count (take i xs) + marked_count (get_or xs i d ∷ [])
+marked_count_more xs i d less = ap marked_count (take_more xs i d less) ∙ marked_count_append (take i xs) (get_or xs i d ∷ [])
 
-pub outside_count_of_marked : (b : Bool) → b ≡ true → outside_count (b ∷ []) ≡ 1
-outside_count_of_marked true e = refl
-outside_count_of_marked false e = absurd (cc e)
+pub marked_count_of_marked : (b : Bool) → b ≡ true → marked_count (b ∷ []) ≡ 1
+marked_count_of_marked true e = refl
+marked_count_of_marked false e = absurd (cc e)
 
-pub outside_count_of_unmarked : (b : Bool) → b ≡ false → outside_count (b ∷ []) ≡ 0
-outside_count_of_unmarked true e = absurd (cc e)
-outside_count_of_unmarked false e = refl
+pub marked_count_of_unmarked : (b : Bool) → b ≡ false → marked_count (b ∷ []) ≡ 0
+marked_count_of_unmarked true e = absurd (cc e)
+marked_count_of_unmarked false e = refl

@@ -49,13 +49,13 @@ pub record AreJudged (a : Aspects) (guest other : Guest) (k m : Known) (outside 
       → IsAmong a guest other m (run_outcome (tables s.flat)) → ⊥
 
 -- how many are outside
-abbrev pub outside_count : List Bool → ℕ
-outside_count [] = 0
-outside_count (true ∷ outside) = suc (outside_count outside)
-outside_count (false ∷ outside) = outside_count outside
+abbrev pub marked_count : List Bool → ℕ
+marked_count [] = 0
+marked_count (true ∷ outside) = suc (marked_count outside)
+marked_count (false ∷ outside) = marked_count outside
 
 -- the lines of the first outcomes that are outside, each with its number among all
-pub record AreOutsideTexts (o : Objects) (k : Known) (outside : List Bool) (many : ℕ) (text : List ℕ) : Type 0 where
+pub record AreMarkedTexts (o : Objects) (k : Known) (outside : List Bool) (many : ℕ) (text : List ℕ) : Type 0 where
   pub texts : List (List ℕ)
   pub count : length texts ≡ many
   pub each : (i : ℕ) (x : Shown) (s : SourcedFlat) (own : List ℕ) → ShowsState k.flats k.outcomes i x s → slice_get texts i ≡ Some own
@@ -114,8 +114,8 @@ pub record IsCompared (a : Aspects) (guest other : Guest) (plan : ExplorePlan) (
   pub outside : List Bool
   pub judged : AreJudged a guest other known other_known outside
   pub lines : List ℕ
-  pub texts : AreOutsideTexts (objects_of guest) known outside (length known.outcomes) lines
-  pub found : verdict ≡ verdict_of known.ended (outside_count outside)
+  pub texts : AreMarkedTexts (objects_of guest) known outside (length known.outcomes) lines
+  pub found : verdict ≡ verdict_of known.ended (marked_count outside)
   pub whole : text ≡ lines ++ ending (Ok known) (Ok other_known) verdict
 
 -- the answer to whether each outcome of the guest is one of the other's, in what counts

@@ -23,8 +23,11 @@ use ir_outcomes::{Explored, Shown};
 use ir_state_store::Store;
 use std::alloc::{AllocError, Global};
 
-// What counts of each of these outcomes.
-fn all_seen(
+/// What counts of each of these outcomes.
+///
+/// # Errors
+/// Out of memory.
+pub fn all_seen(
     alloc: Global,
     aspects: Aspects<'_>,
     flats: &Store<'_>,
@@ -42,8 +45,8 @@ fn all_seen(
     Ok(all)
 }
 
-// Whether some of these is the same as one.
-fn has_same(all: &[Seen], one: &Seen) -> bool
+/// Whether some of these is the same as one.
+pub fn has_same(all: &[Seen], one: &Seen) -> bool
     ensures some { result ≡ true → HasSame (map value_of all.now) (value_of one.now) }
     ensures none { result ≡ false → HasSame (map value_of all.now) (value_of one.now) → ⊥ }
 {

@@ -1,6 +1,6 @@
-//! What the answers mean for the runs of both guests. Each function does nothing: its contract is the law.
+//! What the answers mean for the runs of the guests. Each function does nothing: its contract is the law.
 
-ghost use Rattle.ir_within.specs.Laws.{OutsideIsSome, WithinIsEach};
+ghost use Rattle.ir_within.specs.Laws.{ClassHasFewest, EachClassIsListed, OutsideIsSome, WithinIsEach};
 
 /// If the answer is `within`, each complete run of the guest comes to what some complete run of the other comes to, in what counts. Runs in which
 /// a budget is spent or a log is full aside.
@@ -11,4 +11,16 @@ pub fn within_is_each()
 /// If the answer is `outside`, some complete run of the guest comes to what no complete run of the other comes to, in what counts.
 pub fn outside_is_some()
     ensures { OutsideIsSome }
+{}
+
+/// Once the search is finished, each complete run of the guest comes to an outcome whose class is printed. Runs in which a budget is spent or a log is
+/// full aside.
+pub fn each_class_is_listed()
+    ensures { EachClassIsListed }
+{}
+
+/// Once the search is finished, no complete run of the guest that comes to an outcome of a class has fewer switches than the outcome that is printed
+/// of it. Runs in which a budget is spent or a log is full aside.
+pub fn class_has_fewest()
+    ensures { ClassHasFewest }
 {}

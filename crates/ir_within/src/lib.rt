@@ -1,7 +1,8 @@
-//! `ir explore --within`: whether each outcome of a guest is one of another guest's, in what counts of it.
+//! `ir explore --within`: whether each outcome of a guest is one of another guest's, in what counts of it; and `--only`: outcomes by what counts.
 #![tactic(auto)]
 
 mod aspects;
+mod classes;
 mod fault;
 mod judging;
 mod laws;
@@ -11,7 +12,8 @@ mod texts;
 mod verdict;
 
 pub use aspects::Aspects;
+pub use classes::{ClassesPlan, classes_run};
 pub use fault::WithinFault;
-pub use laws::{outside_is_some, within_is_each};
+pub use laws::{class_has_fewest, each_class_is_listed, outside_is_some, within_is_each};
 pub use run::{WithinPlan, within_run};
 pub use verdict::Verdict;

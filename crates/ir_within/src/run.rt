@@ -17,7 +17,7 @@ ghost use Rattle.ir_within.specs.declared.verdict.Verdict.TheVariants.{Unknown};
 use crate::aspects::Aspects;
 use crate::fault::WithinFault;
 use crate::judging::judged;
-use crate::texts::{known_line, outside_count, outside_text, stopped_line};
+use crate::texts::{known_line, marked_count, marked_text, stopped_line};
 use crate::verdict::Verdict;
 use ir_explore::{ExploreFault, ExplorePlan, Started, explore_by_plan, guest_of};
 use ir_files::{ExitStatus, tell};
@@ -93,8 +93,8 @@ fn compared(
         words: image.object_words(),
         first: start.objects(),
     };
-    let mut text = outside_text(alloc, started, found, outside.as_slice())?;
-    let verdict = Verdict::of(found.ended, outside_count(outside.as_slice()));
+    let mut text = marked_text(alloc, started, found, outside.as_slice())?;
+    let verdict = Verdict::of(found.ended, marked_count(outside.as_slice()));
     let image_line = known_line(alloc, found)?;
     let other_line = known_line(alloc, other)?;
     let last = ending(alloc, image_line.as_str(), other_line.as_str(), verdict)?;

@@ -5,7 +5,7 @@ ghost use Rattle.std.specs.String.{string_bytes};
 ghost use Rattle.ir_explore.specs.Texts.{objects_in, known_of};
 ghost use Rattle.ir_outcomes.specs.declared.shown.Shown.{Shown};
 ghost use Rattle.ir_state_store.specs.Nodes.{SourcedFlat};
-ghost use Rattle.ir_within.specs.Within.{AreOutsideTexts, outside_count, searched_line};
+ghost use Rattle.ir_within.specs.Within.{AreMarkedTexts, marked_count, searched_line};
 
 use ir_explore::{Ending, Started, end_line, outcome_text, state_of};
 use ir_outcomes::Explored;
@@ -16,7 +16,7 @@ use std::alloc::{AllocError, Global};
 ///
 /// # Errors
 /// Out of memory.
-pub fn outside_text(
+pub fn marked_text(
     alloc: Global,
     started: Started<'_>,
     explored: &Explored<'_>,
@@ -25,7 +25,7 @@ pub fn outside_text(
     requires count { length outside.now ≡ length explored.now.outcomes.items }
     requires objects { (v : ℕ) (s : SourcedFlat) → slice_get explored.now.states.graph.flats.items v ≡ Some s → length s.flat.objects ≡ length started.first.now }
     requires nodes { (i : ℕ) (x : Shown) → slice_get explored.now.outcomes.items i ≡ Some x → x.node < length explored.now.states.graph.flats.items }
-    ensures { IfOk result (λ text. AreOutsideTexts (objects_in started.entry) (known_of explored.now) outside.now (length explored.now.outcomes.items) text.items) }
+    ensures { IfOk result (λ text. AreMarkedTexts (objects_in started.entry) (known_of explored.now) outside.now (length explored.now.outcomes.items) text.items) }
 {
     let flats = &explored.states.graph.flats;
     let outcomes = explored.outcomes.as_slice();
@@ -42,8 +42,8 @@ pub fn outside_text(
 }
 
 /// How many are outside.
-pub fn outside_count(outside: &[bool]) -> usize
-    ensures { result ≡ outside_count outside.now }
+pub fn marked_count(outside: &[bool]) -> usize
+    ensures { result ≡ marked_count outside.now }
 {
     let mut count = 0;
     for is_outside in outside {

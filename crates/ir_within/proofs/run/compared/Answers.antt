@@ -1,11 +1,11 @@
 use Rattle.std.proofs.Common.{◌≡◌, ◌++◌, length, sym, ap, ◌∙◌, subst, inr}
 use Rattle.std.specs.Prelude.{codes}
 use Rattle.ir_explore.specs.Texts.{Objects, objects_of, known_of}
-use Rattle.ir_within.specs.Within.{AreOutsideTexts, outside_count, verdict_of, verdict_line}
+use Rattle.ir_within.specs.Within.{AreMarkedTexts, marked_count, verdict_of, verdict_line}
 use Rattle.ir_within.proofs.run.compared.Goals as goal
 
-pub outside_text-requires-clause-objects : goal.outside_text-requires-clause-objects
-outside_text-requires-clause-objects c = λ v s is.
+pub marked_text-requires-clause-objects : goal.marked_text-requires-clause-objects
+marked_text-requires-clause-objects c = λ v s is.
     (c.requires.known.reached v s is).like.objects
     ∙ sym (ap length c.objects.ensures.value ∙ ap (λ z. length z.objects) c.in_ok-start.ensures)
 
@@ -31,9 +31,9 @@ returns c = λ guest known.
       outside = outside;
       judged = c.in_ok-outside.ensures image guest c.args.plan.now c.requires.known known;
       lines = lines;
-      texts = subst (λ z. AreOutsideTexts z k outside (length k.outcomes) lines) first
-          (subst (λ z. AreOutsideTexts own k z (length k.outcomes) lines) c.as_slice.ensures.value c.in_ok-text.ensures);
-      found = c.of-verdict.ensures ∙ ap (verdict_of k.ended) (c.outside_count.ensures ∙ ap outside_count c.as_slice-2.ensures.value);
+      texts = subst (λ z. AreMarkedTexts z k outside (length k.outcomes) lines) first
+          (subst (λ z. AreMarkedTexts own k z (length k.outcomes) lines) c.as_slice.ensures.value c.in_ok-text.ensures);
+      found = c.of-verdict.ensures ∙ ap (verdict_of k.ended) (c.marked_count.ensures ∙ ap marked_count c.as_slice-2.ensures.value);
       whole = c.in_ok-extend_from_slice.ensures.items ∙ ap (λ z. lines ++ z) (
           c.as_bytes.ensures.value ∙ c.in_ok-last.ensures
           ∙ λ i. codes "image " ++ ((c.as_str.ensures.value ∙ c.in_ok-image_line.ensures) i ++ (codes "other " ++ (

@@ -4,10 +4,10 @@ use Rattle.std.proofs.lemmas.Option.{slice_get-get_or}
 use Rattle.ir_explore.specs.Texts.{IsOutcomeText, known_of, objects_in}
 use Rattle.ir_outcomes.specs.declared.shown.Shown.{Shown}
 use Rattle.ir_state_store.specs.Nodes.{SourcedFlat}
-use Rattle.ir_within.specs.Within.{AreOutsideTexts}
-use Rattle.ir_within.proofs.Lines.{outside_texts_step, inside_texts_step}
-use Rattle.ir_within.proofs.texts.outside_text.Goals as goal
-use Rattle.ir_within.proofs.texts.outside_text.Goals.{then-outside-i+in_ok-state+in_ok-own+in_ok-extend_from_slice, else-outside-i}
+use Rattle.ir_within.specs.Within.{AreMarkedTexts}
+use Rattle.ir_within.proofs.Lines.{marked_texts_step, inside_texts_step}
+use Rattle.ir_within.proofs.texts.marked_text.Goals as goal
+use Rattle.ir_within.proofs.texts.marked_text.Goals.{then-outside-i+in_ok-state+in_ok-own+in_ok-extend_from_slice, else-outside-i}
 
 pub loop-i-preserved : goal.loop-i-preserved
 loop-i-preserved c =
@@ -31,14 +31,14 @@ loop-i-preserved c =
           subst (λ (z : List Shown). slice_get z i ≡ Some x) c.as_slice-outcomes.ensures.value (slice_get-get_or xs i x less ∙ ap Some (sym w.index-outcomes-i.is)) in
           let mark : slice_get outside i ≡ Some true = slice_get-get_or outside i false marked ∙ ap Some w.if-outside-i.true in
           let next : i + 1 ≡ suc i = omega arith in
-          subst (AreOutsideTexts o k outside (i + 1)) (sym (
+          subst (AreMarkedTexts o k outside (i + 1)) (sym (
           ap (λ z. z.items) w.text-is ∙ w.in_ok-extend_from_slice.ensures.items ∙ ap (λ z. c.loop-i.text.items ++ z) w.as_slice.ensures.value
           ))
-          (outside_texts_step o k outside i c.loop-i.text.items own x s c.loop-i.invariant (at, w.in_ok-state.ensures.value) mark
+          (marked_texts_step o k outside i c.loop-i.text.items own x s c.loop-i.invariant (at, w.in_ok-state.ensures.value) mark
           (subst (λ z. IsOutcomeText o s.flat z x own) next
           (subst (λ (z : SourcedFlat). IsOutcomeText o z.flat (i + 1) x own) w.state.view_is w.in_ok-own.ensures)))
       | else-outside-i w ↦
           let mark : slice_get outside i ≡ Some false = slice_get-get_or outside i false marked ∙ ap Some w.if-outside-i.false in
-          subst (AreOutsideTexts o k outside (i + 1)) (sym (ap (λ z. z.items) w.text-is))
+          subst (AreMarkedTexts o k outside (i + 1)) (sym (ap (λ z. z.items) w.text-is))
           (inside_texts_step o k outside i c.loop-i.text.items c.loop-i.invariant mark)
     ]

@@ -1,0 +1,5 @@
+use Rattle.ir_within.proofs.Classes.{class_has_fewest}
+use Rattle.ir_within.proofs.laws.class_has_fewest.Goals as goal
+
+pub returns : goal.returns
+returns c = class_has_fewest
