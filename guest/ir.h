@@ -43,7 +43,7 @@ __asm__(".pushsection .ir.small, \"\"\n\t.byte 1\n\t.popsection");
 #define IR_WORDS (IR_LARGE ? 16 : 8)
 
 /* A word of an object. */
-typedef unsigned int ir_who_word;
+typedef unsigned int ir_word;
 
 /* IR_OWN static int count; defines a variable that keeps its value from call to call, and of which each thread has its own. The linker
    refuses a variable that isn't marked so and that is neither constant nor on the stack, since a guest's threads can't share it. With
@@ -61,10 +61,10 @@ typedef struct made_by_IR_THREAD *ir_entry(void);
    end 7.
    In a listing `name` is five instructions that begin and end the thread, and `name_body` is what you wrote. */
 #define IR_THREAD(name) \
-    static ir_who_word name##_body(void) __attribute__((used)); \
+    static ir_word name##_body(void) __attribute__((used)); \
     ir_entry name __attribute__((naked)); \
     struct made_by_IR_THREAD *name(void) { __asm__(IR_OUTERMOST_ "la sp, ir_stack_top\n\tcall " #name "_body\n\tli a7, 1\n\tecall"); } \
-    static ir_who_word name##_body(void)
+    static ir_word name##_body(void)
 
 /* No function calls a thread's first one: this tells a debugger, and adds no instruction. */
 #ifdef __GCC_HAVE_DWARF2_CFI_ASM
@@ -75,7 +75,7 @@ typedef struct made_by_IR_THREAD *ir_entry(void);
 
 /* IR_THREADS(name, ..); says which threads there are, thread 0 first. A name may be there more than once. A guest has one IR_THREADS. */
 #define IR_THREADS(...) \
-    const ir_who_word ir_form_ IR_TABLE_(".ir.form") = 1 + IR_LARGE; \
+    const ir_word ir_form_ IR_TABLE_(".ir.form") = 1 + IR_LARGE; \
     ir_entry *const ir_threads_[] IR_TABLE_(".ir.threads") = { __VA_ARGS__ }; \
     _Static_assert(sizeof ir_threads_ >= 4 && sizeof ir_threads_ <= (IR_LARGE ? 64 : 32), \
                    "IR_THREADS takes 1 to 8 threads, or 1 to 16 with IR_LARGE")
@@ -83,7 +83,7 @@ typedef struct made_by_IR_THREAD *ir_entry(void);
 /* IR_OBJECTS({1, 2}, {3}); says how many objects there are, and gives the first words of object 0, of object 1 and so on. [N] = {1, 2}
    gives those of object N. Words and objects that are left out are 0. A guest has one IR_OBJECTS, or none if it has no objects. */
 #define IR_OBJECTS(...) \
-    const ir_who_word ir_objects_[][IR_WORDS] IR_TABLE_(".ir.objects") = { __VA_ARGS__ }; \
+    const ir_word ir_objects_[][IR_WORDS] IR_TABLE_(".ir.objects") = { __VA_ARGS__ }; \
     _Static_assert(sizeof ir_objects_ <= (IR_LARGE ? 64 * 64 : 16 * 32), "IR_OBJECTS takes at most 16 objects, or 64 with IR_LARGE")
 
 #define IR_TABLE_(part) __attribute__((section(part), used, aligned(4)))
@@ -94,7 +94,7 @@ typedef struct made_by_IR_THREAD *ir_entry(void);
 #define IR_NAME(object, word, name) IR_NAME_(object, word, name, __COUNTER__)
 #define IR_NAME_(object, word, name, number) IR_NAMED_(object, word, name, number)
 #define IR_NAMED_(object, word, name, number) \
-    static const struct { ir_who_word its_object, its_word; char text[32]; } ir_name_##number IR_TABLE_(".ir.names") = { object, word, name }; \
+    static const struct { ir_word its_object, its_word; char text[32]; } ir_name_##number IR_TABLE_(".ir.names") = { object, word, name }; \
     _Static_assert(sizeof(name) <= 32, "IR_NAME takes a name of at most 31 bytes")
 
 /* ---- How a call is made: its number in a7, its arguments in a0 to a2, its answer in a0. "memory" keeps what you wrote between two calls
@@ -109,14 +109,14 @@ typedef struct made_by_IR_THREAD *ir_entry(void);
 #define IR_CALL_ static inline
 
 #ifdef __clang__
-#define IR_ANSWER_ ir_who_word ir_answer_
+#define IR_ANSWER_ ir_word ir_answer_
 #else
 #define IR_ANSWER_ (void)0
-__extension__ register ir_who_word ir_answer_ __asm__("tp");
+__extension__ register ir_word ir_answer_ __asm__("tp");
 #endif
 
 /* An operand by its name, a constant or a register. A pointer has a warning, as an argument has. */
-#define IR_IN_(name, value) [name] "rI"((ir_who_word)(1 ? (value) : 1))
+#define IR_IN_(name, value) [name] "rI"((ir_word)(1 ? (value) : 1))
 
 /* An instruction that sets a register to an operand, and those that make a call. */
 #define IR_SET_(register_, name) "add%i[" #name "] " #register_ ", zero, %[" #name "]\n\t"
@@ -137,42 +137,42 @@ __extension__ register ir_who_word ir_answer_ __asm__("tp");
 /* Enters an object for reading. Waits while another thread holds it for writing.
    End 10: its number isn't above those of all objects that the thread holds. End 14: the thread has 1,048,576 events. */
 #define ir_enter_read(object) IR_OBJECT_(7, object)
-IR_CALL_ void (ir_enter_read)(ir_who_word object) { ir_enter_read(object); }
+IR_CALL_ void (ir_enter_read)(ir_word object) { ir_enter_read(object); }
 
 /* Enters an object for writing. Waits while another thread holds it. Ends 10 and 14, as above. */
 #define ir_enter_write(object) IR_OBJECT_(8, object)
-IR_CALL_ void (ir_enter_write)(ir_who_word object) { ir_enter_write(object); }
+IR_CALL_ void (ir_enter_write)(ir_word object) { ir_enter_write(object); }
 
 /* Tries to enter an object for writing, and doesn't wait. Gives 1 if the thread now holds it, or 0 if nothing changed. It may give 0
    even if no thread holds the object. End 8: the recording is without --profile 2. Ends 10 and 14, as above. */
 #define ir_try_write(object) ((int)IR_ASK_(IR_SET_(a0, one) IR_ECALL_(13) IR_ANSWERED_, IR_IN_(one, object)) != 0)
-IR_CALL_ __attribute__((warn_unused_result)) int (ir_try_write)(ir_who_word object) { return ir_try_write(object); }
+IR_CALL_ __attribute__((warn_unused_result)) int (ir_try_write)(ir_word object) { return ir_try_write(object); }
 
 /* Leaves an object. End 11: the thread doesn't hold it. */
 #define ir_leave(object) IR_OBJECT_(9, object)
-IR_CALL_ void (ir_leave)(ir_who_word object) { ir_leave(object); }
+IR_CALL_ void (ir_leave)(ir_word object) { ir_leave(object); }
 
 /* Gives a word of an object that the thread holds. The index is below IR_WORDS, or it is end 9. End 11: the thread doesn't hold it. */
 #define ir_get(object, index) \
     IR_ASK_(IR_SET_(a0, one) IR_SET_(a1, two) IR_ECALL_(10) IR_ANSWERED_, IR_IN_(one, object), IR_IN_(two, index))
-IR_CALL_ ir_who_word (ir_get)(ir_who_word object, ir_who_word index) { return ir_get(object, index); }
+IR_CALL_ ir_word (ir_get)(ir_word object, ir_word index) { return ir_get(object, index); }
 
 /* Puts a word into an object that the thread holds for writing. The index is below IR_WORDS, or it is end 9. End 11: the thread doesn't
    hold it, or holds it for reading. */
 #define ir_put(object, index, value) \
     IR_TELL_(IR_SET_(a0, one) IR_SET_(a1, two) IR_SET_(a2, three) IR_ECALL_(11), IR_IN_(one, object), IR_IN_(two, index), \
              IR_IN_(three, value))
-IR_CALL_ void (ir_put)(ir_who_word object, ir_who_word index, ir_who_word value) { ir_put(object, index, value); }
+IR_CALL_ void (ir_put)(ir_word object, ir_word index, ir_word value) { ir_put(object, index, value); }
 
 /* ---- Calls about the thread itself */
 
 /* Gives the thread's number, from 0 on. */
 #define ir_self() IR_ASK_(IR_ECALL_(12) IR_ANSWERED_, )
-IR_CALL_ ir_who_word (ir_self)(void) { return ir_self(); }
+IR_CALL_ ir_word (ir_self)(void) { return ir_self(); }
 
 /* Ends the thread with this code, end 1, from any of its functions. It releases what the thread holds. */
 #define ir_end(code) __extension__ ({ IR_TELL_(IR_SET_(a0, one) IR_ECALL_(1), IR_IN_(one, code)); __builtin_unreachable(); })
-IR_CALL_ __attribute__((noreturn)) void (ir_end)(ir_who_word code) { ir_end(code); }
+IR_CALL_ __attribute__((noreturn)) void (ir_end)(ir_word code) { ir_end(code); }
 
 /* Asserts a condition. If it doesn't hold, the thread ends here, end 2, and releases what it holds. `--until fault` finds that. */
 #define ir_assert(condition) \
@@ -180,21 +180,21 @@ IR_CALL_ __attribute__((noreturn)) void (ir_end)(ir_who_word code) { ir_end(code
 
 /* Takes this number of turns of an empty loop. A thread that enters an object again and again, until a word of it changes, should pause
    between the entries: it logs fewer events. */
-void ir_pause(ir_who_word turns);
+void ir_pause(ir_word turns);
 
 /* Gives any number below `limit`, which is at least 1. `ir explore` shows what each of them leads to. On threads, and in a hunt, it is
    nearly always 0. It is for what the guest can't know: whether a malloc fails, a wait times out, which byte comes in.
    It tries to enter an object that no other call enters, limit - 1 times at most; its number is how many tries were refused. A guest
    that calls ir_choose has this object behind its own, by itself. So it has room for one object less, and is recorded and explored
    with --profile 2, or it is end 8. End 14, as above. */
-#define ir_choose(limit) ir_chosen_((ir_who_word)ir_choice_ + IR_CHOICE_, limit)
+#define ir_choose(limit) ir_chosen_((ir_word)ir_choice_ + IR_CHOICE_, limit)
 
 /* The object of ir_choose: its words, once in each file that calls it, of which the linker takes those of one; and then its number. */
 #define IR_CHOICE_ __extension__ \
     ({ __asm__(".pushsection .ir.objects.last, \"aG\", %%progbits, ir_choice_words_, comdat\n\t.ifndef ir_choice_words_\n\t" \
                ".weak ir_choice_words_\nir_choice_words_:\n\t.zero %c0\n\t.endif\n\t.popsection" : : "i"(4 * IR_WORDS)); 0u; })
 extern const char ir_choice_[];
-ir_who_word ir_chosen_(ir_who_word object, ir_who_word limit);
+ir_word ir_chosen_(ir_word object, ir_word limit);
 
 /* ---- Printing. `ir record --output PREFIX` writes what thread T prints to the file PREFIX.T. End 12: it would be over 65,536 bytes. */
 
@@ -213,11 +213,11 @@ void ir_puts(const char *text);
 
 /* Gives the milliseconds since the recording began, or 0, 1, 2 and so on if the recording has an order. */
 #define ir_clock() IR_ASK_(IR_ECALL_(4) IR_ANSWERED_, )
-IR_CALL_ ir_who_word (ir_clock)(void) { return ir_clock(); }
+IR_CALL_ ir_word (ir_clock)(void) { return ir_clock(); }
 
 /* Gives a random word. `ir record --random S` says where the words start. */
 #define ir_random() IR_ASK_(IR_ECALL_(5) IR_ANSWERED_, )
-IR_CALL_ ir_who_word (ir_random)(void) { return ir_random(); }
+IR_CALL_ ir_word (ir_random)(void) { return ir_random(); }
 
 /* Gives the next byte of `ir record --input FILE`, or -1 at its end. Each thread reads FILE from the start. */
 #define ir_input() ((int)IR_ASK_(IR_ECALL_(6) IR_ANSWERED_, ))

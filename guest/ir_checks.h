@@ -7,7 +7,7 @@
 #endif
 
 /* A thread has all variables for itself, so an atomic variable would be no thread's but its own. */
-#define IR_NO_ATOMICS_ _Pragma("GCC error \"threads share objects only, so an atomic variable would be each thread's own: use ir_load, ir_state_store, ir_add, ir_swap and ir_cas of ir_sync.h, or leave out ir.h and compile by guest/ir-cc\"")
+#define IR_NO_ATOMICS_ _Pragma("GCC error \"threads share objects only, so an atomic variable would be each thread's own: use ir_load, ir_store, ir_add, ir_swap and ir_cas of ir_sync.h, or leave out ir.h and compile by guest/ir-cc\"")
 #define _Atomic IR_NO_ATOMICS_
 
 #define __atomic_load(...) IR_NO_ATOMICS_

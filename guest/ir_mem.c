@@ -2,7 +2,7 @@
 #define IR_BOTH_FORMS_
 #include "ir.h"
 
-__attribute__((noinline)) void ir_pause(ir_who_word turns)
+__attribute__((noinline)) void ir_pause(ir_word turns)
 {
     while (turns--)
         __asm__ volatile("");
@@ -15,9 +15,9 @@ __attribute__((noinline)) void ir_puts(const char *text)
 }
 
 /* Counts the tries that are refused, up to the first that isn't. */
-__attribute__((noinline)) ir_who_word ir_chosen_(ir_who_word object, ir_who_word limit)
+__attribute__((noinline)) ir_word ir_chosen_(ir_word object, ir_word limit)
 {
-    for (ir_who_word refused = 0; refused + 1 < limit; refused++)
+    for (ir_word refused = 0; refused + 1 < limit; refused++)
         if (ir_try_write(object)) {
             ir_leave(object);
             return refused;

@@ -157,7 +157,7 @@ UNLIKE = [("large_one.c", "two.c"), ("one.c", "large_two.c"), ("two.c", "large_o
 ALIKE = [("one.c", "two.c", (), 8), ("large_one.c", "large_two.c", (), 16), ("large_one.c", "two.c", ("-DIR_LARGE=1",), 16)]
 DISAGREE = "ir.ld: some files define IR_LARGE 1 and others don't; -DIR_LARGE=1 defines it in all of them"
 
-ATOMIC = "threads share objects only, so an atomic variable would be each thread's own: use ir_load, ir_state_store, ir_add, ir_swap and ir_cas of ir_sync.h"
+ATOMIC = "threads share objects only, so an atomic variable would be each thread's own: use ir_load, ir_store, ir_add, ir_swap and ir_cas of ir_sync.h"
 
 # A lock from C11: loads and stores only.
 PETERSON = r"""
@@ -481,8 +481,8 @@ WORDS = r"""
 #include "ir_sync.h"
 IR_THREAD(words)
 {
-    ir_who_word (*loaded)(ir_who_word, ir_who_word) = ir_load, bad = 0, self = 0;
-    ir_state_store(1, 7, 40);
+    ir_word (*loaded)(ir_word, ir_word) = ir_load, bad = 0, self = 0;
+    ir_store(1, 7, 40);
     bad |= (ir_load(1, 7) != 40) << 0;
     bad |= (ir_add(1, 7, 2) != 40 || ir_load(1, 7) != 42) << 1;
     bad |= (ir_add(1, 7, -3u) != 42 || loaded(1, 7) != 39) << 2;
@@ -511,7 +511,7 @@ enum { LOCK, BARRIER, SEMAPHORE };
 IR_THREAD(coming)
 {
     ir_lock(0, LOCK);
-    ir_state_store(1, 0, ir_load(1, 0) + 1);
+    ir_store(1, 0, ir_load(1, 0) + 1);
     ir_unlock(0, LOCK);
     ir_barrier(0, BARRIER, 3);
     ir_acquire(0, SEMAPHORE);
@@ -543,7 +543,7 @@ IR_THREAD(waiter)
     ir_lock(0, LOCK);
     ir_add(0, COME, 1);
     ir_wait(0, LOCK, CONDITION);
-    ir_who_word awake = ir_add(0, AWAKE, 1);
+    ir_word awake = ir_add(0, AWAKE, 1);
     ir_signal(0, CONDITION);
     ir_unlock(0, LOCK);
     return awake;
@@ -558,7 +558,7 @@ CHOOSING = r"""
 IR_THREAD(choosing)
 {
     ir_enter_write(0);
-    ir_who_word one = ir_choose(3);
+    ir_word one = ir_choose(3);
     ir_leave(0);
     return 10 * one + ir_choose(2) + 100 * (ir_choose(1) + ir_load(LAST, 0));
 }
@@ -603,14 +603,14 @@ CLEARED = "-fzero-call-used-regs=all-gpr"
 # Assertions in a function that is called, in one that isn't left, and in a loop.
 ASSERTED = r"""
 #include "ir.h"
-static void checked(ir_who_word word)
+static void checked(ir_word word)
 {
     ir_assert(word != 3);
     ir_assert(word != 4);
 }
 IR_THREAD(asserting)
 {
-    for (ir_who_word i = ir_random(); i > 2; i /= 2)
+    for (ir_word i = ir_random(); i > 2; i /= 2)
         ir_assert(i != 77);
     ir_assert(ir_self() == 0 && ir_random() != 5);
     checked(ir_random());

@@ -11,10 +11,10 @@ enum { BUFFER };                                    /* the object */
 enum { COUNT, WAITS, SLOT };                        /* its words; the slots begin at SLOT */
 enum { SLOTS = 4, NUMBERS = 12 };
 
-static int add(ir_who_word number)                      /* unless the buffer is full */
+static int add(ir_word number)                      /* unless the buffer is full */
 {
     ir_enter_write(BUFFER);
-    ir_who_word count = ir_get(BUFFER, COUNT);
+    ir_word count = ir_get(BUFFER, COUNT);
     if (count < SLOTS) {
         ir_put(BUFFER, SLOT + count, number);
         ir_put(BUFFER, COUNT, count + 1);
@@ -24,10 +24,10 @@ static int add(ir_who_word number)                      /* unless the buffer is 
     return count < SLOTS;
 }
 
-static int take(ir_who_word *number)                    /* unless the buffer is empty */
+static int take(ir_word *number)                    /* unless the buffer is empty */
 {
     ir_enter_write(BUFFER);
-    ir_who_word count = ir_get(BUFFER, COUNT);
+    ir_word count = ir_get(BUFFER, COUNT);
     if (count > 0) {
         *number = ir_get(BUFFER, SLOT + count - 1);
         ir_put(BUFFER, COUNT, count - 1);
@@ -41,7 +41,7 @@ static void wait_until_woken(void)
     ir_enter_write(BUFFER);
     ir_put(BUFFER, WAITS, 1);                       /* too late for what was added since take() */
     ir_leave(BUFFER);
-    for (ir_who_word waits = 1; waits;) {
+    for (ir_word waits = 1; waits;) {
         ir_pause(20);
         ir_enter_read(BUFFER);
         waits = ir_get(BUFFER, WAITS);
@@ -51,14 +51,14 @@ static void wait_until_woken(void)
 
 IR_THREAD(producer)
 {
-    for (ir_who_word i = 1; i <= NUMBERS; i += add(i))
+    for (ir_word i = 1; i <= NUMBERS; i += add(i))
         ir_pause(20);
     return 0;
 }
 
 IR_THREAD(consumer)
 {
-    ir_who_word sum = 0, number = 0;
+    ir_word sum = 0, number = 0;
     for (int i = 0; i < NUMBERS; i++, sum += number)
         while (!take(&number))
             wait_until_woken();

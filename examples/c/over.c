@@ -10,15 +10,15 @@
 enum { LIST };                      /* the object */
 enum { COUNT, FIRST };              /* its words: how many numbers there are, and then the numbers */
 
-IR_OWN static ir_who_word sum;
+IR_OWN static ir_word sum;
 IR_OWN static struct {
-    ir_who_word copy[4];
-    ir_who_word *sum;
+    ir_word copy[4];
+    ir_word *sum;
 } mine = {{0}, &sum};
 
 IR_THREAD(writer)
 {
-    for (ir_who_word i = 0; i < 6; i++) {
+    for (ir_word i = 0; i < 6; i++) {
         ir_enter_write(LIST);
         ir_put(LIST, FIRST + i, 101 + i);
         ir_put(LIST, COUNT, i + 1);
@@ -28,11 +28,11 @@ IR_THREAD(writer)
 }
 
 /* Copies the list, however long it is, and says how long. */
-static ir_who_word copied(ir_who_word *to)
+static ir_word copied(ir_word *to)
 {
     ir_enter_read(LIST);
-    ir_who_word count = ir_get(LIST, COUNT);
-    for (ir_who_word i = 0; i < count; i++)
+    ir_word count = ir_get(LIST, COUNT);
+    for (ir_word i = 0; i < count; i++)
         to[i] = ir_get(LIST, FIRST + i);
     ir_leave(LIST);
     return count;
@@ -40,8 +40,8 @@ static ir_who_word copied(ir_who_word *to)
 
 IR_THREAD(reader)
 {
-    ir_who_word count = copied(mine.copy), total = 0;
-    for (ir_who_word i = 0; i < count; i++)
+    ir_word count = copied(mine.copy), total = 0;
+    for (ir_word i = 0; i < count; i++)
         total += mine.copy[i];
     *mine.sum = total;
     ir_putn(sum);

@@ -17,26 +17,26 @@ enum { LOCK, ADDED, TAKEN };        /* the words of SYNC: the lock, and the cond
 enum { COUNT, SLOT };               /* the words of QUEUE; the slots begin at SLOT */
 enum { SLOTS = 1, NUMBERS = 2 };
 
-static void add(ir_who_word number)
+static void add(ir_word number)
 {
     ir_lock(SYNC, LOCK);
     while (ir_load(QUEUE, COUNT) == SLOTS)
         ir_wait(SYNC, LOCK, TAKEN);
-    ir_state_store(QUEUE, SLOT + ir_load(QUEUE, COUNT), number);
+    ir_store(QUEUE, SLOT + ir_load(QUEUE, COUNT), number);
     ir_add(QUEUE, COUNT, 1);
     ir_signal(SYNC, ADDED);
     ir_unlock(SYNC, LOCK);
 }
 
-static ir_who_word take(void)
+static ir_word take(void)
 {
     ir_lock(SYNC, LOCK);
     if (ir_load(QUEUE, COUNT) == 0)             /* should be `while` */
         ir_wait(SYNC, LOCK, ADDED);
-    ir_who_word count = ir_load(QUEUE, COUNT), number = 0;
+    ir_word count = ir_load(QUEUE, COUNT), number = 0;
     if (count > 0) {
         number = ir_load(QUEUE, SLOT + count - 1);
-        ir_state_store(QUEUE, COUNT, count - 1);
+        ir_store(QUEUE, COUNT, count - 1);
         ir_signal(SYNC, TAKEN);
     }
     ir_unlock(SYNC, LOCK);
@@ -46,7 +46,7 @@ static ir_who_word take(void)
 
 IR_THREAD(producer)
 {
-    for (ir_who_word i = 1; i <= NUMBERS; i++)
+    for (ir_word i = 1; i <= NUMBERS; i++)
         add(i);
     return 0;
 }

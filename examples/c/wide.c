@@ -12,7 +12,7 @@ enum { PILES = 64, JOBS = 16 };
 enum { LEFT, LAST };                        /* the words of a pile: the jobs that are left, and who took one last */
 
 /* Takes a job from a pile, unless another worker is there. */
-static int takes(ir_who_word pile)
+static int takes(ir_word pile)
 {
     if (!ir_try_write(pile))
         return 0;                           /* should pause, and then try again */
@@ -24,9 +24,9 @@ static int takes(ir_who_word pile)
 
 IR_THREAD(worker)
 {
-    ir_who_word first = ir_self() * (PILES / 16);
+    ir_word first = ir_self() * (PILES / 16);
     int taken = 0;
-    for (ir_who_word i = 0; i < PILES; i++)
+    for (ir_word i = 0; i < PILES; i++)
         taken += takes((first + i) % PILES);
     ir_putn(taken);
     return taken;

@@ -2,7 +2,7 @@
 #include "layer.h"
 
 OWN struct ir_written ir_written;
-OWN struct ir_likeness ir_likeness;
+OWN struct ir_seen ir_seen;
 
 /* What is in an own copy from the announcement of a write until the write. */
 #define UNWRITTEN 0xa7c35a7du
@@ -162,17 +162,17 @@ static __attribute__((noinline)) void put_written(void)
 
 static __attribute__((noinline)) void clear_more(void)
 {
-    ir_clear(ir_likeness.address, 4 + ir_likeness.more);
-    ir_likeness.address = ir_likeness.more = 0;
+    ir_clear(ir_seen.address, 4 + ir_seen.more);
+    ir_seen.address = ir_seen.more = 0;
 }
 
 /* Clears the own copy of a word that was read. */
 IR_CALL void clear_seen(void)
 {
-    if (!ir_likeness.address)
+    if (!ir_seen.address)
         return;
-    *(volatile word *)ir_likeness.address = 0;
-    ir_likeness.address = 0;
+    *(volatile word *)ir_seen.address = 0;
+    ir_seen.address = 0;
 }
 
 /* Notes what was read. */
@@ -181,9 +181,9 @@ IR_CALL void note_seen(word address, word size)
     word at = address & ~3u;
     if (!may_clear(at))
         return;
-    ir_likeness.address = at;
+    ir_seen.address = at;
     if ((address & 3) + size > 4)
-        ir_likeness.more = address + size - at - 4;
+        ir_seen.more = address + size - at - 4;
 }
 
 /* Fetches a number of 1, 2 or 4 bytes, in one entry. It needs no frame. */
@@ -207,7 +207,7 @@ void ir_settle_now(void)
 {
     if (ir_written.size)
         put_written();
-    if (ir_likeness.more)
+    if (ir_seen.more)
         clear_more();
     clear_seen();
     ir_drain_some();
@@ -232,7 +232,7 @@ IR_CALL int is_number(word address, word size)
 static __attribute__((noinline)) void read_slowly(word address, word size, word now)
 {
     put_before_read(now);
-    if (ir_likeness.more)
+    if (ir_seen.more)
         clear_more();
     clear_seen();
     ir_drain_some();
@@ -258,7 +258,7 @@ IR_CALL void note_written(word address, word size, word after)
 static __attribute__((noinline)) void write_slowly(word address, word size, word after, word stack)
 {
     struct target target = {address, size, stack};
-    if (ir_likeness.more)
+    if (ir_seen.more)
         clear_more();
     clear_seen();
     ir_drain_some();
@@ -275,7 +275,7 @@ IR_CALL int is_quick(void)
 #ifdef IR_TSO
     return 0;
 #else
-    return __builtin_expect(!(ir_written.size | ir_likeness.more), 1);
+    return __builtin_expect(!(ir_written.size | ir_seen.more), 1);
 #endif
 }
 

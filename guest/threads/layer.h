@@ -147,9 +147,9 @@ extern struct ir_written {
 } ir_written;
 
 /* The word of the own copy that was read last, or 0, and how many bytes after it were read too. */
-extern struct ir_likeness {
+extern struct ir_seen {
     word address, more;
-} ir_likeness;
+} ir_seen;
 
 /* Puts what was written last, and clears what was read last. */
 void ir_settle_now(void);
@@ -158,7 +158,7 @@ void ir_settle_now(void);
 IR_CALL void ir_settle(void)
 {
 #ifndef IR_TSO
-    if (ir_written.size | ir_likeness.address)
+    if (ir_written.size | ir_seen.address)
 #endif
         ir_settle_now();
 }

@@ -112,7 +112,7 @@ static int is_own(const void *pointer)
 
 static int may_read(const void *pointer)
 {
-    return is_own(pointer) || !is_shared((word)pointer) || ir_likeness.address == ((word)pointer & ~3u);
+    return is_own(pointer) || !is_shared((word)pointer) || ir_seen.address == ((word)pointer & ~3u);
 }
 
 static int may_write(void *pointer, size_t size)

@@ -37,7 +37,7 @@ FAULTS = {
         ("break peterson.c:LINE if count != *(int *)0x800000c0", "continue", "print count", "print *(int *)0x800000c0", "up"),
         (r"hit Breakpoint 1, add \(\) at .*peterson.c:LINE$", r"= 0$", r"= 1$", r"adder_body \(\) at .*peterson.c"), 2),
     "deque": Fault(
-        "hunt", "bad", (1, 1), "ir_state_store(RING, bottom % PLACES, job);",
+        "hunt", "bad", (1, 1), "ir_store(RING, bottom % PLACES, job);",
         ("continue", "info threads", "watch *(int *)0x80000080", "reverse-continue"),
         ("received signal SIGTERM", r"ended: code 1\)", r"Old value = 2$", r"New value = 0$", r"push \(job=.*\) at .*deque.c:LINE$"), 3),
     "cache": Fault(
@@ -61,7 +61,7 @@ FAULTS = {
         ("continue", "bt"),
         ("received signal SIGABRT", r"checked \(.*\) at .*trap.c:LINE$", r"#1 .*advance \(\) at .*trap.c", r"#2 .*closer_body \(\) at .*trap.c"), 1),
     "stack": Fault(
-        "hunt", "end 0 7", (7, 0), "volatile ir_who_word page[256];",
+        "hunt", "end 0 7", (7, 0), "volatile ir_word page[256];",
         ("continue", "info threads", *["up", "print page[0]"] * 4, "bt -2"),
         ("received signal SIGSEGV", r"ended: bad store\)", "= 3$", "= 2$", "= 1$", "= 3$", r"walker_body \(\) at .*stack.c"), 1),
 }

@@ -1,8 +1,8 @@
 /* Long private loops. */
 #include "ir.h"
-IR_OWN static ir_who_word made[64];
+IR_OWN static ir_word made[64];
 
-static ir_who_word mixed(ir_who_word x)
+static ir_word mixed(ir_word x)
 {
     for (int i = 0; i < 8; i++)
         x = x * 1103515245u + 12345u;
@@ -11,8 +11,8 @@ static ir_who_word mixed(ir_who_word x)
 
 IR_THREAD(mixer)
 {
-    ir_who_word x = ir_self() + 1;
-    for (ir_who_word i = 0; i < 20000; i++) {
+    ir_word x = ir_self() + 1;
+    for (ir_word i = 0; i < 20000; i++) {
         x = mixed(x);
         made[i & 63] = x;
     }

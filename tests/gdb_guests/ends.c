@@ -14,9 +14,9 @@ static void ended(void)
 #elif WAY == 5
     ((void (*)(void))0)();
 #elif WAY == 6
-    *(volatile ir_who_word *)0x30000001;
+    *(volatile ir_word *)0x30000001;
 #elif WAY == 7
-    *(volatile ir_who_word *)0x10000 = 1;
+    *(volatile ir_word *)0x10000 = 1;
 #elif WAY == 8
     __asm__ volatile("li a7, 99; ecall" : : : "a7");
 #elif WAY == 9

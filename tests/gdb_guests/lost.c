@@ -1,16 +1,16 @@
 /* Lost update: the count is read in one entry and written in another. */
 #include "ir.h"
-IR_OWN static ir_who_word rounds;
+IR_OWN static ir_word rounds;
 
-static ir_who_word read_count(void)
+static ir_word read_count(void)
 {
     ir_enter_read(0);
-    ir_who_word count = ir_get(0, 0);
+    ir_word count = ir_get(0, 0);
     ir_leave(0);
     return count;
 }
 
-static void write_count(ir_who_word count)
+static void write_count(ir_word count)
 {
     ir_enter_write(0);
     ir_put(0, 0, count);
@@ -19,8 +19,8 @@ static void write_count(ir_who_word count)
 
 IR_THREAD(adder)
 {
-    for (ir_who_word i = 0; i < 2; i++) {
-        ir_who_word count = read_count();
+    for (ir_word i = 0; i < 2; i++) {
+        ir_word count = read_count();
         rounds = rounds + 1;
         write_count(count + 1);
     }

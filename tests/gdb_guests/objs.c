@@ -1,6 +1,6 @@
 /* Objects under a name and a type, for gdb alone. The guest never reads them so. */
 #include "ir.h"
-struct account { ir_who_word owner, balance, log[6]; };
+struct account { ir_word owner, balance, log[6]; };
 static union { struct account object; unsigned char bytes[64]; } *const account __attribute__((used, retain)) = (void *)0x80000000;
 
 IR_THREAD(payer)

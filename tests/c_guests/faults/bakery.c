@@ -14,21 +14,21 @@
 
 enum { DRAWS, NUMBER, INSIDE };    /* the objects; a thread's word of the first two has its number as index */
 
-static void draw(ir_who_word mine)
+static void draw(ir_word mine)
 {
-    ir_who_word most = 0;
-    ir_state_store(DRAWS, mine, 1);
-    for (ir_who_word other = 0; other < CUSTOMERS; other++) {
-        ir_who_word number = ir_load(NUMBER, other);
+    ir_word most = 0;
+    ir_store(DRAWS, mine, 1);
+    for (ir_word other = 0; other < CUSTOMERS; other++) {
+        ir_word number = ir_load(NUMBER, other);
         most = number > most ? number : most;
     }
-    ir_state_store(NUMBER, mine, most + 1);
-    ir_state_store(DRAWS, mine, 0);
+    ir_store(NUMBER, mine, most + 1);
+    ir_store(DRAWS, mine, 0);
 }
 
-static int is_before(ir_who_word other, ir_who_word mine)
+static int is_before(ir_word other, ir_word mine)
 {
-    ir_who_word theirs = ir_load(NUMBER, other), own = ir_load(NUMBER, mine);
+    ir_word theirs = ir_load(NUMBER, other), own = ir_load(NUMBER, mine);
 #ifdef REPAIRED
     return theirs != 0 && (theirs < own || (theirs == own && other < mine));
 #else
@@ -38,23 +38,23 @@ static int is_before(ir_who_word other, ir_who_word mine)
 
 static void work(void)
 {
-    ir_who_word others = ir_add(INSIDE, 0, 1);
+    ir_word others = ir_add(INSIDE, 0, 1);
     ir_assert(others == 0);
     ir_add(INSIDE, 0, -1);
 }
 
 IR_THREAD(customer)
 {
-    ir_who_word mine = ir_self();
+    ir_word mine = ir_self();
     draw(mine);
-    for (ir_who_word other = 0; other < CUSTOMERS; other++) {
+    for (ir_word other = 0; other < CUSTOMERS; other++) {
         while (ir_load(DRAWS, other))
             ir_pause(2);
         while (is_before(other, mine))
             ir_pause(2);
     }
     work();
-    ir_state_store(NUMBER, mine, 0);
+    ir_store(NUMBER, mine, 0);
     return 0;
 }
 

@@ -12,7 +12,7 @@ enum { LOCK, OPENED, IS_OPEN };        /* its words: the lock, the condition var
 IR_THREAD(doorman)
 {
     ir_lock(DOOR, LOCK);
-    ir_state_store(DOOR, IS_OPEN, 1);
+    ir_store(DOOR, IS_OPEN, 1);
 #ifdef REPAIRED
     ir_broadcast(DOOR, OPENED);
 #else

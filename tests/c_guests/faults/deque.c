@@ -10,33 +10,33 @@
 enum { TOP, BOTTOM, RING, DONE };    /* the objects */
 enum { PLACES = 2, NONE = -1 };
 
-static int push(ir_who_word job)
+static int push(ir_word job)
 {
-    ir_who_word bottom = ir_load(BOTTOM, 0);
+    ir_word bottom = ir_load(BOTTOM, 0);
     if (bottom - ir_load(TOP, 0) == PLACES)
         return 0;
-    ir_state_store(RING, bottom % PLACES, job);
-    ir_state_store(BOTTOM, 0, bottom + 1);
+    ir_store(RING, bottom % PLACES, job);
+    ir_store(BOTTOM, 0, bottom + 1);
     return 1;
 }
 
 static int take(void)
 {
-    ir_who_word bottom = ir_load(BOTTOM, 0) - 1;
-    ir_state_store(BOTTOM, 0, bottom);
-    ir_who_word top = ir_load(TOP, 0);
+    ir_word bottom = ir_load(BOTTOM, 0) - 1;
+    ir_store(BOTTOM, 0, bottom);
+    ir_word top = ir_load(TOP, 0);
     int job = ir_load(RING, bottom % PLACES);
     if ((int)(bottom - top) > 0)
         return job;
     if (bottom != top || ir_cas(TOP, 0, top, top + 1) != top)
         job = NONE;
-    ir_state_store(BOTTOM, 0, bottom + 1);
+    ir_store(BOTTOM, 0, bottom + 1);
     return job;
 }
 
 static int steal(void)
 {
-    ir_who_word top = ir_load(TOP, 0);
+    ir_word top = ir_load(TOP, 0);
     if ((int)(ir_load(BOTTOM, 0) - top) <= 0)
         return NONE;
 #ifdef REPAIRED
@@ -48,14 +48,14 @@ static int steal(void)
 }
 
 /* Does a job, and gives how often it was done before. */
-static ir_who_word done(int job)
+static ir_word done(int job)
 {
     return job == NONE ? 0 : ir_add(DONE, job, 1);
 }
 
 IR_THREAD(owner)
 {
-    ir_who_word again = push(2) ? 0 : done(2);
+    ir_word again = push(2) ? 0 : done(2);
     for (int i = 0; i < PLACES; i++)
         again += done(take());
     return again;

@@ -9,26 +9,26 @@
 
 enum { WANTS_0, WANTS_1, TURN, COUNT };    /* the objects */
 
-static void lock(ir_who_word mine, ir_who_word other)
+static void lock(ir_word mine, ir_word other)
 {
-    ir_state_store(WANTS_0 + mine, 0, 1);
+    ir_store(WANTS_0 + mine, 0, 1);
 #ifdef REPAIRED
-    ir_state_store(TURN, 0, other);
+    ir_store(TURN, 0, other);
 #else
-    ir_state_store(TURN, 0, mine);
+    ir_store(TURN, 0, mine);
 #endif
     while (ir_load(WANTS_0 + other, 0) && ir_load(TURN, 0) == other)
         ir_pause(2);
 }
 
-static void unlock(ir_who_word mine)
+static void unlock(ir_word mine)
 {
-    ir_state_store(WANTS_0 + mine, 0, 0);
+    ir_store(WANTS_0 + mine, 0, 0);
 }
 
 static void add(void)
 {
-    ir_who_word count = ir_load(COUNT, 0);
+    ir_word count = ir_load(COUNT, 0);
     ir_enter_write(COUNT);
     ir_put(COUNT, 0, count + 1);
     ir_leave(COUNT);
@@ -36,7 +36,7 @@ static void add(void)
 
 IR_THREAD(adder)
 {
-    ir_who_word mine = ir_self();
+    ir_word mine = ir_self();
     lock(mine, 1 - mine);
     add();
     unlock(mine);

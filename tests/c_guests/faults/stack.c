@@ -9,18 +9,18 @@
 enum { LIST };                         /* the object */
 enum { FIRST, NODE_1, NODE_2, NODE_3 }; /* its words: which node comes first, and after each of them; 0 is none */
 
-static ir_who_word next(ir_who_word node)
+static ir_word next(ir_word node)
 {
     ir_enter_read(LIST);
-    ir_who_word after = ir_get(LIST, node);
+    ir_word after = ir_get(LIST, node);
     ir_leave(LIST);
     return after;
 }
 
 /* Each call of it has a page of its own on the stack. */
-static ir_who_word length(ir_who_word node)
+static ir_word length(ir_word node)
 {
-    volatile ir_who_word page[256];
+    volatile ir_word page[256];
     page[0] = node;
     return node == 0 ? 0 : 1 + length(next(page[0]));
 }
