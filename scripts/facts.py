@@ -176,8 +176,8 @@ def named_faults():
         unlisted = [f"{crate} `{name}`" for crate, name in places if f"{crate} `{name}`" not in equal]
         if len({crate for crate, _ in places}) > 1 and unlisted:
             yield f"docs/internals/architecture.md: {number} stands in {' and '.join(f'{c} {n}' for c, n in places)}: cite the lowest, or list {', '.join(unlisted)}"
-    table = (TOP / "crates" / "ir_arguments" / "src" / "subcommands.rt").read_text(encoding="utf-8")
-    for name in re.findall(r'^ +name: "(\w+)"', table, re.MULTILINE):
+    arguments = TOP / "crates" / "ir_arguments" / "src"
+    for name in re.findall(r'^ +name: "(\w+)"', "".join(path.read_text(encoding="utf-8") for path in sorted(arguments.glob("*.rt"))), re.MULTILINE):
         if not re.search(rf"^\| (?:.*, )?`ir {name}`", text, re.MULTILINE):
             yield f"docs/internals/architecture.md: has no row for ir {name}"
     picture = set(re.findall(r"\bir_\w+", text.partition("```")[2].partition("```")[0]))

@@ -20,7 +20,8 @@ MAN_PAGE = TOP / "man" / "ir.1"
 
 TEXT = r'"((?:[^"\\]|\\.)*)"'
 CONSTANT = re.compile(r"const (\w+): &str =\s*" + TEXT)
-ROW = re.compile(rf"name: {TEXT},\s+about: {TEXT},\s+after: (\w+)::(\w+)")
+ROWS = re.compile(r"=> (\w+)::row\(\)")
+ROW = re.compile(rf"name: {TEXT},\s+about: {TEXT},\s+after: (\w+)")
 # An argument, and one that may be left out.
 ARGUMENT = re.compile(rf"file_arg\(\s*alloc,\s*(\w+),\s*{TEXT}|Arg::new\(alloc, (\w+)\)\s*\.help\(\s*{TEXT}")
 OPTION = re.compile(r"fn (\w+)_arg<'a>[^{]*\{\s+Arg::new\(alloc, \w+\)\s*\.long\((\w+)\)((?:(?!\n}).)*?)\.help\(\s*" + TEXT, re.DOTALL)
@@ -100,8 +101,9 @@ def subcommands():
     for module in ("recording", "seeds", "values", "within"):
         shared |= options_of(source_of(module), files)
     found = []
-    for name, about, module, after in ROW.findall(source_of("subcommands")):
+    for module in ROWS.findall(source_of("subcommands")):
         source = source_of(module).replace("image_arg(alloc)", image_file)
+        name, about, after = ROW.search(source).groups()
         options, forms = shared | options_of(source, files), []
         if image := FROM_IMAGE.search(source):
             options["from_image"] = ("--image IMAGE", meant(image[1]), False)

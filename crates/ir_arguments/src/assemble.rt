@@ -1,6 +1,7 @@
 //! The arguments of `ir asm`.
 
 use crate::asked::{Asked, Make};
+use crate::subcommands::Row;
 use crate::values::{EXPLAIN, IMAGE, MAP, file_arg, given_text, text_of};
 use clap::{Arg, ArgAction, ArgMatches, Command};
 use std::alloc::{AllocError, Global};
@@ -61,6 +62,15 @@ MAP has a line `A K NAME` for each label, by rising address: the address in eigh
 data, and the name, as `nm -n` prints them. `ir list` and `ir events` read it. It is written once IMAGE is.
 Exit status: 0 assembled, 1 a file that can't be read or written, 2 bad arguments, 3 a fault of the source.
 ";
+
+/// What the help says of it, beside its arguments.
+pub fn row<'a>() -> Row<'a> {
+    Row {
+        name: "asm",
+        about: "Assembles a guest's source into an image",
+        after: ASM_AFTER,
+    }
+}
 
 /// What is assembled, and where to.
 #[derive(Drop)]

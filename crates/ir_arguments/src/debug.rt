@@ -1,6 +1,7 @@
 //! The arguments of `ir debug`.
 
 use crate::asked::Asked;
+use crate::subcommands::Row;
 use crate::values::{IMAGE, TRACE, file_arg, image_arg, text_of};
 use clap::{ArgMatches, Command};
 use std::alloc::{AllocError, Global};
@@ -52,6 +53,15 @@ What a session opens with instead of `ready`:
   thread T same             thread T ends as the trace says, while another doesn't
 Exit status: 0 done, 1 a fault, 2 bad arguments, 3 a refused image or trace, 4 a trace that doesn't fit.
 ";
+
+/// What the help says of it, beside its arguments.
+pub fn row<'a>() -> Row<'a> {
+    Row {
+        name: "debug",
+        about: "Debugs a recorded run, forwards and backwards",
+        after: DEBUG_AFTER,
+    }
+}
 
 /// Which run is debugged.
 #[derive(Drop)]

@@ -1,6 +1,7 @@
 //! The arguments of `ir diff`.
 
 use crate::asked::{Asked, Print};
+use crate::subcommands::Row;
 use crate::values::{file_arg, text_of};
 use clap::{ArgMatches, Command};
 use std::alloc::{AllocError, Global};
@@ -23,6 +24,15 @@ incoherent trace has the line that `ir stale` has, the first file first.
 Exit status: 0 printed, 1 a file that can't be read or standard output that can't be written, 2 bad arguments, 3 a refused
 trace, 4 an incoherent trace or headers that differ.
 ";
+
+/// What the help says of it, beside its arguments.
+pub fn row<'a>() -> Row<'a> {
+    Row {
+        name: "diff",
+        about: "Prints what two recordings have in common, and where they part",
+        after: DIFF_AFTER,
+    }
+}
 
 /// The file of the first trace.
 const FIRST: &str = "FIRST";

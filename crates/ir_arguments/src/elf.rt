@@ -1,6 +1,7 @@
 //! The arguments of `ir elf`.
 
 use crate::asked::{Asked, Make};
+use crate::subcommands::Row;
 use crate::values::{EXPLAIN, IMAGE, file_arg, text_of};
 use clap::{Arg, ArgAction, ArgMatches, Command};
 use std::alloc::{AllocError, Global};
@@ -33,6 +34,15 @@ With --explain, and at a terminal without it, a line with the file and these wor
 standard error then says how many bytes of variables each thread has for itself, if there are any: no thread shares them.
 Exit status: 0 converted, 1 a file that can't be read or written, 2 bad arguments, 3 a refused file.
 ";
+
+/// What the help says of it, beside its arguments.
+pub fn row<'a>() -> Row<'a> {
+    Row {
+        name: "elf",
+        about: "Makes the image of a guest that a C compiler and linker made",
+        after: ELF_AFTER,
+    }
+}
 
 /// What is converted, and where to.
 #[derive(Drop)]

@@ -1,6 +1,7 @@
 //! The arguments of `ir events`.
 
 use crate::asked::{Asked, Print};
+use crate::subcommands::Row;
 use crate::values::{IMAGE, MAP, TRACE, file_arg, given_text, image_arg, names_arg, text_of};
 use clap::{ArgMatches, Command};
 use std::alloc::{AllocError, Global};
@@ -16,6 +17,15 @@ A trace that no run of the image has is refused, as `ir debug` does.
 Exit status: 0 printed, 1 a file that can't be read or standard output that can't be written, 2 bad arguments, 3 a refused
 image or trace, or a line of MAP that is no symbol, 4 a trace that doesn't fit.
 ";
+
+/// What the help says of it, beside its arguments.
+pub fn row<'a>() -> Row<'a> {
+    Row {
+        name: "events",
+        about: "Prints each event of a recorded run with its position and address",
+        after: EVENTS_AFTER,
+    }
+}
 
 /// Which events are listed, and by which names.
 #[derive(Drop)]

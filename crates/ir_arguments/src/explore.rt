@@ -7,6 +7,7 @@ use crate::conditions::{hang_by, outcome_conditions_of};
 use crate::recording::{
     INPUT, OUTPUT, input_arg, output_arg, profile_arg, profile_in, random_arg, random_in,
 };
+use crate::subcommands::Row;
 use crate::values::{IMAGE, TRACE, UNTIL, given_text, image_arg, text_of};
 use crate::within::{
     ClassesArguments, ONLY, WITHIN, WithinArguments, counted_of, only_arg, other_of, within_arg,
@@ -71,6 +72,15 @@ profile takes, or a COND about what the guest hasn't, 6 stopped, 7 finished, and
 With COND: 0 found, 5 finished or covered, and no outcome fulfils them, 6 stopped, and none was found. With `hang`: 0 found, 5
 finished, and no run hangs, 6 covered or stopped. With OTHER: 0 within, 5 outside, 6 unknown.
 ";
+
+/// What the help says of it, beside its arguments.
+pub fn row<'a>() -> Row<'a> {
+    Row {
+        name: "explore",
+        about: "Prints each different outcome of a guest, with an order that leads to it",
+        after: EXPLORE_AFTER,
+    }
+}
 
 const STATES: &str = "states";
 

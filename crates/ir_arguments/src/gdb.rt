@@ -2,6 +2,7 @@
 
 use crate::asked::Asked;
 use crate::debug::DebugArguments;
+use crate::subcommands::Row;
 use crate::values::{IMAGE, TRACE, file_arg, image_arg, text_of};
 use clap::{ArgMatches, Command};
 use std::alloc::{AllocError, Global};
@@ -23,6 +24,15 @@ All of gdb's commands that look, stop and move work, backwards too. Nothing can 
 What can't be opened is named on standard error in the lines of `ir debug`.
 Exit status: 0 done, 1 a fault, 2 bad arguments, 3 a refused image or trace, 4 a trace that doesn't fit.
 ";
+
+/// What the help says of it, beside its arguments.
+pub fn row<'a>() -> Row<'a> {
+    Row {
+        name: "gdb",
+        about: "Lets gdb debug a recorded run, forwards and backwards",
+        after: GDB_AFTER,
+    }
+}
 
 /// The command with its arguments.
 pub fn with_arguments<'a>(alloc: Global, command: Command<'a>) -> Result<Command<'a>, AllocError> {

@@ -4,6 +4,7 @@ use crate::asked::Asked;
 use crate::conditions::{conditions_of, stale_by};
 use crate::recording::{RecordingOptions, options_of, with_options};
 use crate::seeds::{by_arg, seeds_by, way_by};
+use crate::subcommands::Row;
 use crate::values::{IMAGE, TRACE, UNTIL, file_arg, image_arg, text_of};
 use clap::{Arg, ArgAction, ArgMatches, Command};
 use ir_record_command::number_within;
@@ -50,6 +51,15 @@ Exit status: 0 found, 1 a file that can't be read or written or is too long, 2 b
 more threads or objects than P allows, or a COND about what the guest hasn't, 5 none was found, 6 none was found among the seeds
 that were followed, and some were left out because their runs have too many turns, or because the time was over.
 ";
+
+/// What the help says of it, beside its arguments.
+pub fn row<'a>() -> Row<'a> {
+    Row {
+        name: "hunt",
+        about: "Records the first of many seeds' orders that fulfils conditions",
+        after: HUNT_AFTER,
+    }
+}
 
 /// What is hunted, how, and where what is found goes.
 #[derive(Drop)]

@@ -1,6 +1,7 @@
 //! The arguments of `ir list`.
 
 use crate::asked::{Asked, Print};
+use crate::subcommands::Row;
 use crate::values::{IMAGE, MAP, given_text, image_arg, names_arg, text_of};
 use clap::{ArgMatches, Command};
 use std::alloc::{AllocError, Global};
@@ -15,6 +16,15 @@ program, and what `ir asm --map` writes: lines `A K NAME`, with the address in e
 Exit status: 0 printed, 1 a file that can't be read or standard output that can't be written, 2 bad arguments, 3 a refused
 image, or a line of MAP that is no symbol.
 ";
+
+/// What the help says of it, beside its arguments.
+pub fn row<'a>() -> Row<'a> {
+    Row {
+        name: "list",
+        about: "Prints the code of an image as text",
+        after: LIST_AFTER,
+    }
+}
 
 /// Which code is listed, and by which names.
 #[derive(Drop)]

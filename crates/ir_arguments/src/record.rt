@@ -5,6 +5,7 @@ ghost use Rattle.std.specs.Prelude.{◌≡◌, option_map};
 use crate::asked::Asked;
 use crate::recording::{RecordingOptions, no_number, options_of, with_options};
 use crate::seeds::{by_arg, way_by};
+use crate::subcommands::Row;
 use crate::values::{IMAGE, TRACE, file_arg, given_text, image_arg, text_of};
 use clap::{Arg, ArgAction, ArgMatches, Command};
 use ir_record_command::{RecordPlan, number_within};
@@ -63,6 +64,15 @@ more than 1048576 turns, 2 bad arguments, 3 a refused image or LIST, or a guest 
 with --status 5 if it is recorded, and a thread doesn't end by END with code 0:
 `until ! ir record --status IMAGE TRACE; do :; done` records until one doesn't.
 ";
+
+/// What the help says of it, beside its arguments.
+pub fn row<'a>() -> Row<'a> {
+    Row {
+        name: "record",
+        about: "Records a guest, and prints a line for each thread",
+        after: RECORD_AFTER,
+    }
+}
 
 /// What is recorded, how, and where to.
 #[derive(Drop)]

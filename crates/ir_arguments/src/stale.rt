@@ -1,6 +1,7 @@
 //! The arguments of `ir stale`.
 
 use crate::asked::{Asked, Print};
+use crate::subcommands::Row;
 use crate::values::{FROM_IMAGE, TRACE, file_arg, from_image_arg, given_text, text_of};
 use clap::{ArgMatches, Command};
 use std::alloc::{AllocError, Global};
@@ -27,6 +28,15 @@ each other, as `ir debug` has it. With --image it is `image refused N` if IMAGE 
 Exit status: 0 printed, also if there are stale writes, 1 a file that can't be read or standard output that can't be
 written, 2 bad arguments, 3 a refused image or trace, 4 an incoherent trace, or a trace of no run of the image.
 ";
+
+/// What the help says of it, beside its arguments.
+pub fn row<'a>() -> Row<'a> {
+    Row {
+        name: "stale",
+        about: "Prints the writes that may rest on a read that was written over",
+        after: STALE_AFTER,
+    }
+}
 
 /// Whose stale writes are printed.
 #[derive(Drop)]

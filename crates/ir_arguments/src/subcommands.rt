@@ -59,81 +59,21 @@ impl Subcommand {
     /// Its name, what it does, and what follows its help.
     pub fn row<'a>(self) -> Row<'a> {
         match self {
-            Subcommand::Assemble => Row {
-                name: "asm",
-                about: "Assembles a guest's source into an image",
-                after: assemble::ASM_AFTER,
-            },
-            Subcommand::Elf => Row {
-                name: "elf",
-                about: "Makes the image of a guest that a C compiler and linker made",
-                after: elf::ELF_AFTER,
-            },
-            Subcommand::List => Row {
-                name: "list",
-                about: "Prints the code of an image as text",
-                after: list::LIST_AFTER,
-            },
-            Subcommand::Record => Row {
-                name: "record",
-                about: "Records a guest, and prints a line for each thread",
-                after: record::RECORD_AFTER,
-            },
-            Subcommand::Hunt => Row {
-                name: "hunt",
-                about: "Records the first of many seeds' orders that fulfils conditions",
-                after: hunt::HUNT_AFTER,
-            },
-            Subcommand::Explore => Row {
-                name: "explore",
-                about: "Prints each different outcome of a guest, with an order that leads to it",
-                after: explore::EXPLORE_AFTER,
-            },
-            Subcommand::Debug => Row {
-                name: "debug",
-                about: "Debugs a recorded run, forwards and backwards",
-                after: debug::DEBUG_AFTER,
-            },
-            Subcommand::Gdb => Row {
-                name: "gdb",
-                about: "Lets gdb debug a recorded run, forwards and backwards",
-                after: gdb::GDB_AFTER,
-            },
-            Subcommand::Trace => Row {
-                name: "trace",
-                about: "Prints a trace in lines",
-                after: trace::TRACE_AFTER,
-            },
-            Subcommand::Events => Row {
-                name: "events",
-                about: "Prints each event of a recorded run with its position and address",
-                after: events::EVENTS_AFTER,
-            },
-            Subcommand::Stale => Row {
-                name: "stale",
-                about: "Prints the writes that may rest on a read that was written over",
-                after: stale::STALE_AFTER,
-            },
-            Subcommand::Who => Row {
-                name: "who",
-                about: "Prints who made and who read the versions of an object",
-                after: who::WHO_AFTER,
-            },
-            Subcommand::Why => Row {
-                name: "why",
-                about: "Prints what an event needs, and the chain of waits that led to it",
-                after: why::WHY_AFTER,
-            },
-            Subcommand::Diff => Row {
-                name: "diff",
-                about: "Prints what two recordings have in common, and where they part",
-                after: diff::DIFF_AFTER,
-            },
-            Subcommand::View => Row {
-                name: "view",
-                about: "Prints a picture of a trace as an HTML page",
-                after: view::VIEW_AFTER,
-            },
+            Subcommand::Assemble => assemble::row(),
+            Subcommand::Elf => elf::row(),
+            Subcommand::List => list::row(),
+            Subcommand::Record => record::row(),
+            Subcommand::Hunt => hunt::row(),
+            Subcommand::Explore => explore::row(),
+            Subcommand::Debug => debug::row(),
+            Subcommand::Gdb => gdb::row(),
+            Subcommand::Trace => trace::row(),
+            Subcommand::Events => events::row(),
+            Subcommand::Stale => stale::row(),
+            Subcommand::Who => who::row(),
+            Subcommand::Why => why::row(),
+            Subcommand::Diff => diff::row(),
+            Subcommand::View => view::row(),
         }
     }
 

@@ -1,6 +1,7 @@
 //! The arguments of `ir trace`.
 
 use crate::asked::{Asked, Print};
+use crate::subcommands::Row;
 use crate::values::{TRACE, file_arg, text_of};
 use clap::{ArgMatches, Command};
 use std::alloc::{AllocError, Global};
@@ -20,6 +21,15 @@ If TRACE is no trace, the one line is `trace refused N`, as `ir debug` has it.
 Exit status: 0 printed, 1 a file that can't be read or standard output that can't be written, 2 bad arguments,
 3 a refused trace.
 ";
+
+/// What the help says of it, beside its arguments.
+pub fn row<'a>() -> Row<'a> {
+    Row {
+        name: "trace",
+        about: "Prints a trace in lines",
+        after: TRACE_AFTER,
+    }
+}
 
 /// Which trace is printed.
 #[derive(Drop)]

@@ -2,6 +2,7 @@
 
 use crate::asked::{Asked, Print};
 use crate::recording::no_number;
+use crate::subcommands::Row;
 use crate::values::{FROM_IMAGE, TRACE, file_arg, from_image_arg, given_text, number_in, text_of};
 use clap::{Arg, ArgAction, ArgMatches, Command};
 use ir_record_command::number_within;
@@ -26,6 +27,15 @@ Exit status: 0 printed, 1 a file that can't be read or standard output that can'
 that the trace doesn't have, 3 a refused trace or image, 4 an incoherent trace, a trace of no run of the image, a cycle or too many
 boxes.
 ";
+
+/// What the help says of it, beside its arguments.
+pub fn row<'a>() -> Row<'a> {
+    Row {
+        name: "view",
+        about: "Prints a picture of a trace as an HTML page",
+        after: VIEW_AFTER,
+    }
+}
 
 const JSON: &str = "json";
 

@@ -1,6 +1,7 @@
 //! The arguments of `ir who`.
 
 use crate::asked::{Asked, Print};
+use crate::subcommands::Row;
 use crate::values::{FROM_IMAGE, TRACE, file_arg, from_image_arg, given_text, number_in, text_of};
 use clap::{Arg, ArgMatches, Command};
 use std::alloc::{AllocError, Global};
@@ -23,6 +24,15 @@ What is refused has the lines that `ir stale` has.
 Exit status: 0 printed, 1 a file that can't be read or standard output that can't be written, 2 bad arguments, or an object, a
 version or a word that isn't there, 3 a refused image or trace, 4 an incoherent trace, or a trace of no run of the image.
 ";
+
+/// What the help says of it, beside its arguments.
+pub fn row<'a>() -> Row<'a> {
+    Row {
+        name: "who",
+        about: "Prints who made and who read the versions of an object",
+        after: WHO_AFTER,
+    }
+}
 
 /// The number of the object.
 const OBJECT: &str = "O";

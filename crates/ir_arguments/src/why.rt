@@ -1,6 +1,7 @@
 //! The arguments of `ir why`.
 
 use crate::asked::{Asked, Print};
+use crate::subcommands::Row;
 use crate::values::{
     FROM_IMAGE, TRACE, file_arg, from_image_arg, given_text, number_in, numbers_in, text_of,
 };
@@ -29,6 +30,15 @@ Exit status: 0 printed, 1 a file that can't be read or standard output that can'
 the trace doesn't have, or positions that are no consistent cut, 3 a refused image or trace, 4 an incoherent trace, a cycle,
 or a trace of no run of the image.
 ";
+
+/// What the help says of it, beside its arguments.
+pub fn row<'a>() -> Row<'a> {
+    Row {
+        name: "why",
+        about: "Prints what an event needs, and the chain of waits that led to it",
+        after: WHY_AFTER,
+    }
+}
 
 /// The number of the thread.
 const THREAD: &str = "T";
