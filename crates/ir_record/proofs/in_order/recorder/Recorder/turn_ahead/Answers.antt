@@ -14,16 +14,16 @@ pub returns-then-lead-gt0-clause-went : goal.returns-then-lead-gt0-clause-went
 returns-then-lead-gt0-clause-went g c = λ s h.
     let a : Progress = progress_of g.W.World.answers c.args.self.now in
     let l : c.args.t < length c.args.ahead.now.items = omega (arith, c.requires.places.leads, c.requires.thread) in
-    let here : lead_of_thread c.args.ahead.now.items c.args.t ≡ c.index-lead_of_thread.result.now =
-    lead_is_element c.args.ahead.now.items c.args.t c.index-lead_of_thread.result.now l c.index-lead_of_thread.ensures in
-    ahead_turn_lowers_lead s a c.args.ahead.now.items c.args.t (c.index-lead_of_thread.result.now - 1) l
-    (here ∙ (let e : c.index-lead_of_thread.result.now ≡ suc (c.index-lead_of_thread.result.now - 1) = omega (arith, c.if-lead-gt0.true) in e)) h
+    let here : lead_of_thread c.args.ahead.now.items c.args.t ≡ c.index-lead.result.now =
+    lead_is_element c.args.ahead.now.items c.args.t c.index-lead.result.now l c.index-lead.ensures in
+    ahead_turn_lowers_lead s a c.args.ahead.now.items c.args.t (c.index-lead.result.now - 1) l
+    (here ∙ (let e : c.index-lead.result.now ≡ suc (c.index-lead.result.now - 1) = omega (arith, c.if-lead-gt0.true) in e)) h
 
 pub returns-then-not-branch-clause-went : goal.returns-then-not-branch-clause-went
 returns-then-not-branch-clause-went g c = λ s h.
     let l : c.args.t < length c.args.ahead.now.items = omega (arith, c.requires.places.leads, c.requires.thread) in
-    let here : lead_of_thread c.args.ahead.now.items c.args.t ≡ c.index-lead_of_thread.result.now =
-    lead_is_element c.args.ahead.now.items c.args.t c.index-lead_of_thread.result.now l c.index-lead_of_thread.ensures in
+    let here : lead_of_thread c.args.ahead.now.items c.args.t ≡ c.index-lead.result.now =
+    lead_is_element c.args.ahead.now.items c.args.t c.index-lead.result.now l c.index-lead.ensures in
     went_passed_turn s (progress_of g.W.World.answers c.args.self.now)
     (progress_of g.W.World.answers c.turn_asked.new.self) c.args.ahead.now.items c.args.t
     c.in_ok-turn_asked.field-0 c.if-not-branch.true
@@ -35,7 +35,7 @@ returns-clause-went g c = λ s h.
     let b : Progress = progress_of g.W.World.answers c.turn_asked.new.self in
     let ahead : List ℕ = c.args.ahead.now.items in
     let l : c.args.t < length ahead = omega (arith, c.requires.places.leads, c.requires.thread) in
-    let here : lead_of_thread ahead c.args.t ≡ c.index-lead_of_thread.result.now = lead_is_element ahead c.args.t c.index-lead_of_thread.result.now l c.index-lead_of_thread.ensures in
+    let here : lead_of_thread ahead c.args.t ≡ c.index-lead.result.now = lead_is_element ahead c.args.t c.index-lead.result.now l c.index-lead.ensures in
     let took : TookIf true (c.args.t ∷ []) a b =
     subst (λ z. TookIf z (c.args.t ∷ []) a b) c.if-not-branch.false c.in_ok-turn_asked.ensures.took in
     subst (λ ls. WentIf true (c.args.t ∷ []) s a ahead (record b { flat = c.run-ran.new.self.flat; logs = ls.items })
@@ -53,8 +53,8 @@ returns-in_err-turn_asked-clause-stopped g c = if_err_of_its_error _ c.from_resi
     λ s h.
     let a : Progress = progress_of g.W.World.answers c.args.self.now in
     let l : c.args.t < length c.args.ahead.now.items = omega (arith, c.requires.places.leads, c.requires.thread) in
-    let here : lead_of_thread c.args.ahead.now.items c.args.t ≡ c.index-lead_of_thread.result.now =
-    lead_is_element c.args.ahead.now.items c.args.t c.index-lead_of_thread.result.now l c.index-lead_of_thread.ensures in
+    let here : lead_of_thread c.args.ahead.now.items c.args.t ≡ c.index-lead.result.now =
+    lead_is_element c.args.ahead.now.items c.args.t c.index-lead.result.now l c.index-lead.ensures in
     let level : lead_of_thread c.args.ahead.now.items c.args.t ≡ 0 = omega (arith, here, c.if-lead-gt0.false) in
     stopped_at_unanswered c.args.t s a _ _ (map g.W.World.broken c.args.self.now.worlds.items) c.requires.ready
     (sym (h.threads c.args.t ∙ ap (λ k. alone (machine a.flat) k (s.now c.args.t)) level)) c.in_err-turn_asked.ensures.stopped
