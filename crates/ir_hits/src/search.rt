@@ -44,7 +44,7 @@ fn next_hit<H: Hands>(
         (λ h. EachRun search.entry.fitted.now
         (λ run. IsNextHit search.entry.fitted.now run search.entry.points.now search.entry.t
         (positions (flat_in search.entry.fitted.now state.old) search.entry.t) search.entry.to h)) }
-    ensures reached_position { IfOk result (λ h. positions (flat_in search.entry.fitted.now state.new) search.entry.t ≡ reached_position search.entry.to h) }
+    ensures reached { IfOk result (λ h. positions (flat_in search.entry.fitted.now state.new) search.entry.t ≡ reached_position search.entry.to h) }
     ensures size { length notes.new ≡ length notes.old }
 {
     let t = search.t;
@@ -81,7 +81,7 @@ pub fn first_hit<H: Hands>(
     requires points { AreWatchable points.now }
     ensures stands { StandsAtCut fitted.now (positions (flat_in fitted.now state.new)) state.new }
     ensures hit { IfOk result (λ h. EachRun fitted.now (λ run. IsNextHit fitted.now run points.now t (positions (flat_in fitted.now state.old) t) to h)) }
-    ensures reached_position { IfOk result (λ h. positions (flat_in fitted.now state.new) t ≡ reached_position to h) }
+    ensures reached { IfOk result (λ h. positions (flat_in fitted.now state.new) t ≡ reached_position to h) }
 {
     let alloc = hands.alloc();
     let last = last_cut(alloc, fitted)?;
@@ -142,7 +142,7 @@ fn last_in<H: Hands>(
         (λ h. EachRun search.entry.fitted.now
         (λ run. IsLastFrom search.entry.fitted.now run search.entry.points.now search.entry.t
         (window_start (positions (flat_in search.entry.fitted.now state.old) search.entry.t)) (search.entry.to + 1) h)) }
-    ensures reached_position { OnOk result (positions (flat_in search.entry.fitted.now state.new) search.entry.t ≡ search.entry.to) }
+    ensures reached { OnOk result (positions (flat_in search.entry.fitted.now state.new) search.entry.t ≡ search.entry.to) }
 {
     search.fitted.known();
     let mut found = found;
@@ -171,7 +171,7 @@ pub fn last_hit<H: Hands>(
     requires points { AreWatchable points.now }
     ensures stands { StandsAtCut fitted.now (positions (flat_in fitted.now state.new)) state.new }
     ensures hit { IfOk result (λ h. EachRun fitted.now (λ run. IsLastFrom fitted.now run points.now t (window_start (positions (flat_in fitted.now state.old) t)) (to + 1) h)) }
-    ensures reached_position { OnOk result (positions (flat_in fitted.now state.new) t ≡ to) }
+    ensures reached { OnOk result (positions (flat_in fitted.now state.new) t ≡ to) }
 {
     let alloc = hands.alloc();
     let last = last_cut(alloc, fitted)?;

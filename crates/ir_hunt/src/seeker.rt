@@ -128,7 +128,7 @@ impl<'a, C: Clock> Seeker<'a, C> {
     fn restart(&mut self) -> Result<(), AllocError>
         ensures image { self.new.image ≡ self.old.image }
         ensures plan { self.new.plan ≡ self.old.plan }
-        ensures fresh_guest { OnOk result (moment_of (λ w. w.answers.items) self.new.runner ≡ fresh_guest self.old.image.now self.old.plan.now.record) }
+        ensures fresh { OnOk result (moment_of (λ w. w.answers.items) self.new.runner ≡ fresh_guest self.old.image.now self.old.plan.now.record) }
         ensures works { OnOk result (NoneFailed (map (λ w. w.failed) self.new.runner.worlds.items)) }
     {
         let record = &self.plan.record;

@@ -46,5 +46,5 @@ returns-clause-hit g c run whole =
     c.hits.invariant.within c.hits.found (c.hits.invariant.last run whole)
     (subst (IsNextHit f run c.args.search.points.now c.args.search.t old c.args.search.to) c.in_default.is (c.in_ok-hit.ensures.hit run whole))
 
-pub returns-clause-reached_position : goal.returns-clause-reached_position
-returns-clause-reached_position g c = c.in_ok-hit.ensures.reached ∙ ap (reached_position c.args.search.to) c.in_default.is
+pub returns-clause-reached : goal.returns-clause-reached
+returns-clause-reached g c = c.in_ok-hit.ensures.reached ∙ ap (reached_position c.args.search.to) c.in_default.is
