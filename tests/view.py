@@ -253,8 +253,34 @@ FIELDS = {
 }
 
 
+# How threads end, in words, by the numbers from 2 on.
+ENDS = ("breakpoint", "no instruction", "misaligned jump", "outside the code", "bad load", "bad store", "unknown call", "no such object or word",
+        "entry out of order", "not held", "too much output", "budget spent", "too many events")
+
+
+def arguments_of(data, box):
+    """What the event of a box has as its arguments."""
+    thread, first, count, kind, what, version, readers = box[:7]
+    found = {"event": first, "events": count, "value" if kind < READ else "object": what}
+    if kind in (READ, WRITE):
+        found["version"] = version
+    if kind == WRITE:
+        found |= {"new_version": version + 1, "readers": readers}
+    if count > 1:
+        found["reads"] = box[15]
+    elif data["steps"]:
+        found |= {"step": box[13]} | ({"last_step": box[14]} if box[14] >= 0 else {})
+    for other, read, write, *rest in data["stale"]:
+        if (other, write) == (thread, first):
+            found |= {"stale": True, "read_at_event": read}
+            if rest:
+                found |= {"word": rest[0], "was": rest[1], "is": rest[2], "would": ("put another value", "go another way")[rest[3]]}
+    return found
+
+
 def check_chrome(data, chrome):
-    """Each event has the fields of its phase; slices of a row don't overlap; an arrow leaves and arrives in a slice, forwards."""
+    """Each event has the fields of its phase, and each box and each end what is known of it; slices of a row don't overlap; an arrow leaves and
+    arrives in a slice, forwards."""
     assert set(chrome) == {"traceEvents", "displayTimeUnit", "otherData"}
     slices, starts, ends = {}, {}, {}
     for event in chrome["traceEvents"]:
@@ -274,8 +300,15 @@ def check_chrome(data, chrome):
         assert start["ts"] < end["ts"] and start["tid"] != end["tid"], (start, end)
         for event in (start, end):
             assert any(a <= event["ts"] < b for a, b in slices[event["tid"]]), event
-    drawn = sum(event["ph"] in "Xi" for event in chrome["traceEvents"])
-    assert drawn == len(data["boxes"])
+    drawn = [event for event in chrome["traceEvents"] if event["ph"] in "Xi"]
+    boxes, ended = ([event for event in drawn if (event["cat"] == "end") == is_end] for is_end in (False, True))
+    assert len(boxes) == len(data["boxes"])
+    for box, event in zip(data["boxes"], boxes):
+        assert event["args"] == arguments_of(data, box) and (event["ts"], event["tid"]) == (10 * box[7], 64 * box[0] + box[12]), (box, event)
+    assert len(ended) == (0 if "around" in data else len(data["threads"]))
+    for number, (thread, event) in enumerate(zip(data["threads"], ended)):
+        name = f"end, code {thread['code']}" if thread["end"] == 1 else ENDS[thread["end"] - 2]
+        assert (event["name"], event["ph"], event["ts"], event["tid"], event["args"]) == (name, "i", 10 * thread["x"], 64 * number, thread), event
 
 
 def circle_of(threads, needs):
@@ -344,7 +377,9 @@ class Program:
         check_chrome(data, json.loads(self.run("view", trace, "--chrome")))
         if data["boxes"]:
             box = data["boxes"][len(data["boxes"]) // 2]
-            check_part(data, json.loads(self.run("view", trace, "--json", "--around", box[0], box[1], "--span", 9)))
+            part = json.loads(self.run("view", trace, "--json", "--around", box[0], box[1], "--span", 9))
+            check_part(data, part)
+            check_chrome(part, json.loads(self.run("view", trace, "--chrome", "--around", box[0], box[1], "--span", 9)))
         return data
 
     def check_image(self, trace):

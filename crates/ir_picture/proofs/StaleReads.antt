@@ -8,7 +8,7 @@ use Rattle.std.proofs.lemmas.Option.{same_Some, none-some, slice_get-get_or, sli
 use Rattle.ir_coherence.specs.Before.{IsBefore}
 use Rattle.ir_past.specs.Past.{IsRising}
 use Rattle.ir_past.specs.declared.stale_write.StaleWrite.{StaleWrite}
-use Rattle.ir_picture.specs.Chrome.{read_of}
+use Rattle.ir_picture.specs.Chrome.{stale_at}
 use Rattle.ir_picture.specs.Progress.{comes_before}
 
 ltb_tells_less : (a b : ℕ) → ((ltb a b ≡ true) × (a < b)) ⊎ ((ltb a b ≡ false) × (a < b → ⊥))
@@ -112,34 +112,38 @@ stale_at_event_test x t i = elim (eqb_tells x.thread t) [
   | inr other ↦ inr (ap (λ z. z && eqb x.event i) other.0, λ p. other.1 p.0)
 ]
 
-read_of_matching : (x : StaleWrite) (xs : List StaleWrite) (t i : ℕ) → IsStaleWriteAt x t i → read_of (x ∷ xs) t i ≡ Some x.read
-unfolding read_of
-read_of_matching x xs t i at = elim (stale_at_event_test x t i) [
-  | inl holds ↦ ap (λ (z : Bool). if z then Some x.read else read_of xs t i) holds.0
+stale_at_cons_if_matching : {A : Type 0} (write : A → StaleWrite) (x : A) (xs : List A) (t i : ℕ) → IsStaleWriteAt (write x) t i
+    → stale_at write (x ∷ xs) t i ≡ Some x
+unfolding stale_at
+stale_at_cons_if_matching write x xs t i at = elim (stale_at_event_test (write x) t i) [
+  | inl holds ↦ ap (λ (z : Bool). if z then Some x else stale_at write xs t i) holds.0
   | inr fails ↦ absurd (fails.1 at)
 ]
 
-read_of_not_matching : (x : StaleWrite) (xs : List StaleWrite) (t i : ℕ) → (IsStaleWriteAt x t i → ⊥) → read_of (x ∷ xs) t i ≡ read_of xs t i
-unfolding read_of
-read_of_not_matching x xs t i not = elim (stale_at_event_test x t i) [
+stale_at_cons_unless_matching : {A : Type 0} (write : A → StaleWrite) (x : A) (xs : List A) (t i : ℕ) → (IsStaleWriteAt (write x) t i → ⊥)
+    → stale_at write (x ∷ xs) t i ≡ stale_at write xs t i
+unfolding stale_at
+stale_at_cons_unless_matching write x xs t i not = elim (stale_at_event_test (write x) t i) [
   | inl holds ↦ absurd (not holds.1)
-  | inr fails ↦ ap (λ (z : Bool). if z then Some x.read else read_of xs t i) fails.0
+  | inr fails ↦ ap (λ (z : Bool). if z then Some x else stale_at write xs t i) fails.0
 ]
 
-read_of_none_matching : (xs : List StaleWrite) (t i : ℕ) → ((k : ℕ) (x : StaleWrite) → slice_get xs k ≡ Some x → IsStaleWriteAt x t i → ⊥) → read_of xs t i ≡ None
-unfolding read_of
-read_of_none_matching [] t i none = refl
-read_of_none_matching (x ∷ xs) t i none = read_of_not_matching x xs t i (none 0 x refl) ∙ read_of_none_matching xs t i (λ k y at. none (suc k) y at)
+stale_at_none_matching : {A : Type 0} (write : A → StaleWrite) (xs : List A) (t i : ℕ)
+    → ((k : ℕ) (x : A) → slice_get xs k ≡ Some x → IsStaleWriteAt (write x) t i → ⊥) → stale_at write xs t i ≡ None
+unfolding stale_at
+stale_at_none_matching write [] t i none = refl
+stale_at_none_matching write (x ∷ xs) t i none = stale_at_cons_unless_matching write x xs t i (none 0 x refl)
+    ∙ stale_at_none_matching write xs t i (λ k y at. none (suc k) y at)
 
-read_of_first_matching : (xs : List StaleWrite) (k t i : ℕ) (x : StaleWrite) → slice_get xs k ≡ Some x → IsStaleWriteAt x t i
-    → ((j : ℕ) (y : StaleWrite) → j < k → slice_get xs j ≡ Some y → IsStaleWriteAt y t i → ⊥) → read_of xs t i ≡ Some x.read
-read_of_first_matching [] k t i x at is first = absurd (none-some x at)
-read_of_first_matching (y ∷ xs) zero t i x at is first =
+stale_at_first_matching : {A : Type 0} (write : A → StaleWrite) (xs : List A) (k t i : ℕ) (x : A) → slice_get xs k ≡ Some x → IsStaleWriteAt (write x) t i
+    → ((j : ℕ) (y : A) → j < k → slice_get xs j ≡ Some y → IsStaleWriteAt (write y) t i → ⊥) → stale_at write xs t i ≡ Some x
+stale_at_first_matching write [] k t i x at is first = absurd (none-some x at)
+stale_at_first_matching {A} write (y ∷ xs) zero t i x at is first =
     let same : x ≡ y = same_Some x y (sym at) in
-    subst (λ (z : StaleWrite). read_of (y ∷ xs) t i ≡ Some z.read) (sym same)
-    (read_of_matching y xs t i (subst (λ (z : StaleWrite). IsStaleWriteAt z t i) same is))
-read_of_first_matching (y ∷ xs) (suc k) t i x at is first = read_of_not_matching y xs t i (first 0 y (omega arith) refl)
-    ∙ read_of_first_matching xs k t i x at is (λ j z less there. first (suc j) z (omega (arith, less)) there)
+    subst (λ (z : A). stale_at write (y ∷ xs) t i ≡ Some z) (sym same)
+    (stale_at_cons_if_matching write y xs t i (subst (λ (z : A). IsStaleWriteAt (write z) t i) same is))
+stale_at_first_matching write (y ∷ xs) (suc k) t i x at is first = stale_at_cons_unless_matching write y xs t i (first 0 y (omega arith) refl)
+    ∙ stale_at_first_matching write xs k t i x at is (λ j z less there. first (suc j) z (omega (arith, less)) there)
 
 matching_not_before : (x : StaleWrite) (t i : ℕ) → IsStaleWriteAt x t i → IsBefore x.thread x.event t i → ⊥
 matching_not_before x t i at before = before_irreflexive t i (subst (λ n. IsBefore n i t i) at.0 (subst (λ n. IsBefore x.thread n t i) at.1 before))
@@ -149,32 +153,39 @@ pub record IsCountBefore (xs : List StaleWrite) (t i n : ℕ) : Type 0 where
   pub before : (k : ℕ) (x : StaleWrite) → k < n → slice_get xs k ≡ Some x → IsBefore x.thread x.event t i
   pub rest : (k : ℕ) (x : StaleWrite) → n ≤ k → slice_get xs k ≡ Some x → IsBefore x.thread x.event t i → ⊥
 
--- it is what the next one of them read, if that is of the event
-pub read_of_next_stale : (xs : List StaleWrite) (t i n : ℕ) (x : StaleWrite) → IsRising xs → IsCountBefore xs t i n → slice_get xs n ≡ Some x
-    → read_of xs t i ≡ read_of (x ∷ []) t i
-read_of_next_stale xs t i n x rising counts at = elim (stale_at_event_test x t i) [
-  | inl here ↦ read_of_first_matching xs n t i x at here.1 (λ j y less there is. matching_not_before y t i is (counts.before j y less there))
-      ∙ sym (read_of_matching x [] t i here.1)
-  | inr other ↦ read_of_none_matching xs t i (no_later other.1) ∙ sym (read_of_none_matching (x ∷ []) t i (only other.1))
+-- with each of these goes the stale write of the same number
+abbrev pub GoWith : {A : Type 0} → (A → StaleWrite) → List A → List StaleWrite → Type 0
+GoWith {A} write xs stale = (k : ℕ) (x : A) → slice_get xs k ≡ Some x → slice_get stale k ≡ Some (write x)
+
+-- it is the next one of them, if that is of the event
+pub stale_at_of_all_is_that_of_next : {A : Type 0} (write : A → StaleWrite) (xs : List A) (stale : List StaleWrite) (t i n : ℕ) (x : A) → GoWith write xs stale
+    → IsRising stale → IsCountBefore stale t i n → slice_get xs n ≡ Some x → stale_at write xs t i ≡ stale_at write (x ∷ []) t i
+stale_at_of_all_is_that_of_next {A} write xs stale t i n x go rising counts at = elim (stale_at_event_test (write x) t i) [
+  | inl here ↦ stale_at_first_matching write xs n t i x at here.1
+      (λ j y less there is. matching_not_before (write y) t i is (counts.before j (write y) less (go j y there)))
+      ∙ sym (stale_at_cons_if_matching write x [] t i here.1)
+  | inr other ↦ stale_at_none_matching write xs t i (no_later other.1) ∙ sym (stale_at_none_matching write (x ∷ []) t i (only other.1))
 ]
   where
-    no_later : (IsStaleWriteAt x t i → ⊥) → (k : ℕ) (y : StaleWrite) → slice_get xs k ≡ Some y → IsStaleWriteAt y t i → ⊥
+    no_later : (IsStaleWriteAt (write x) t i → ⊥) → (k : ℕ) (y : A) → slice_get xs k ≡ Some y → IsStaleWriteAt (write y) t i → ⊥
     no_later not k y there is = elim (cases_lt k n) [
-      | inl less ↦ matching_not_before y t i is (counts.before k y less there)
+      | inl less ↦ matching_not_before (write y) t i is (counts.before k (write y) less (go k y there))
       | inr past ↦ elim (cases_eq k n) [
-        | inl same ↦ not (subst (λ (z : StaleWrite). IsStaleWriteAt z t i) (same_Some y x (sym there ∙ ap (λ z. slice_get xs z) same ∙ at)) is)
-        | inr ne ↦ counts.rest n x (omega arith) at
-            (subst (λ m. IsBefore x.thread x.event m i) is.0 (subst (λ m. IsBefore x.thread x.event y.thread m) is.1
-            (rising n k x y (omega (arith, past, ne)) at there)))
+        | inl same ↦ not (subst (λ (z : A). IsStaleWriteAt (write z) t i) (same_Some y x (sym there ∙ ap (λ z. slice_get xs z) same ∙ at)) is)
+        | inr ne ↦ counts.rest n (write x) (omega arith) (go n x at)
+            (subst (λ m. IsBefore (write x).thread (write x).event m i) is.0
+            (subst (λ m. IsBefore (write x).thread (write x).event (write y).thread m) is.1
+            (rising n k (write x) (write y) (omega (arith, past, ne)) (go n x at) (go k y there))))
       ]
     ]
 
-    only : (IsStaleWriteAt x t i → ⊥) → (k : ℕ) (y : StaleWrite) → slice_get (x ∷ []) k ≡ Some y → IsStaleWriteAt y t i → ⊥
-    only not zero y there is = not (subst (λ (z : StaleWrite). IsStaleWriteAt z t i) (sym (same_Some x y there)) is)
+    only : (IsStaleWriteAt (write x) t i → ⊥) → (k : ℕ) (y : A) → slice_get (x ∷ []) k ≡ Some y → IsStaleWriteAt (write y) t i → ⊥
+    only not zero y there is = not (subst (λ (z : A). IsStaleWriteAt (write z) t i) (sym (same_Some x y there)) is)
     only not (suc k) y there is = none-some y there
 
 -- there is none
-pub read_of_past_end : (xs : List StaleWrite) (t i n : ℕ) → IsCountBefore xs t i n → length xs ≤ n → read_of xs t i ≡ None
-read_of_past_end xs t i n counts all = read_of_none_matching xs t i (λ k y there is.
+pub stale_at_past_end : {A : Type 0} (write : A → StaleWrite) (xs : List A) (stale : List StaleWrite) (t i n : ℕ) → GoWith write xs stale
+    → IsCountBefore stale t i n → length xs ≤ n → stale_at write xs t i ≡ None
+stale_at_past_end write xs stale t i n go counts all = stale_at_none_matching write xs t i (λ k y there is.
     let within = slice_get_within xs k y there in
-    matching_not_before y t i is (counts.before k y (omega (arith, within, all)) there))
+    matching_not_before (write y) t i is (counts.before k (write y) (omega (arith, within, all)) (go k y there)))

@@ -1,14 +1,13 @@
 -- Texts that are put one after the other.
-use Rattle.std.proofs.Common.{◌≡◌, ℕ, suc, ◌+◌, ◌<◌, ◌≤◌, List, [], ◌∷◌, ◌++◌, codes, decimal, length, drop, flat_map, get_or, refl, sym, ap, ◌∙◌, append_assoc, append-nil, arith}
+use Rattle.std.proofs.Common.{◌≡◌, ℕ, suc, ◌+◌, ◌<◌, ◌≤◌, List, [], ◌∷◌, ◌++◌, Option, codes, decimal, length, drop, flat_map, get_or, refl, sym, ap, ◌∙◌, append_assoc, append-nil, arith}
 use Rattle.std.proofs.lemmas.List.{at_drop_more, at_drop_all}
 use Rattle.ir_lemmas.proofs.CallerLemmas.{written_and_left_step, appends_nest_right}
 use Rattle.ir_trace.specs.Recorded.{Recorded, RecordedThread}
 use Rattle.ir_log.specs.declared.event.Event.{Event}
 use Rattle.ir_picture.specs.Numbers.{comma, row_start, rows_from, first_numbers, place_numbers, row_with, with_commas, thread_row, thread_rows}
-use Rattle.ir_past.specs.declared.stale_write.StaleWrite.{StaleWrite}
-use Rattle.ir_picture.specs.Chrome.{box_line, arrow_lines, all_arrows, thread_lines, all_threads, chrome_text}
-use Rattle.ir_picture.specs.Progress.{box_start, chrome_start, chrome_end}
-use Rattle.ir_picture.specs.declared.picture.Picture.{Picture}
+use Rattle.ir_picture.specs.Chrome.{arrow_lines, all_arrows, thread_lines, all_threads, thread_end_line, end_lines, chrome_head, chrome_end, chrome_text}
+use Rattle.ir_picture.specs.Progress.{box_start}
+use Rattle.ir_picture.specs.declared.asked.Around.{Around}
 use Rattle.ir_picture.specs.declared.placed_box.Point.{Point}
 use Rattle.ir_picture.specs.declared.placed_box.PlacedBox.{PlacedBox}
 use Rattle.ir_picture.specs.declared.sights.Sight.{Sight}
@@ -110,6 +109,29 @@ unfolding thread_rows
 thread_rows_past_end k n ts ps all same = at_drop_all (λ (x : List RecordedThread). thread_rows k x (drop n ps)) ts n all
     ∙ at_drop_all (λ (y : List Point). thread_rows k [] y) ps n (omega (arith, all, same))
 
+-- ---- the ends of threads, for other viewers
+
+end_lines_of_drop : (k n : ℕ) (ts : List RecordedThread) (ps : List Point) (t : RecordedThread) (p : Point) → n < length ts → length ps ≡ length ts
+    → end_lines k (drop n ts) (drop n ps) ≡ thread_end_line k (get_or ts n t) (get_or ps n p) ++ end_lines (suc k) (drop (n + 1) ts) (drop (n + 1) ps)
+unfolding end_lines
+end_lines_of_drop k n ts ps t p some same =
+    at_drop_more (λ (x : List RecordedThread). end_lines k x (drop n ps)) ts n t some
+    ∙ at_drop_more (λ (y : List Point). end_lines k (get_or ts n t ∷ drop (n + 1) ts) y) ps n p (omega (arith, some, same))
+
+-- the line of the next thread's end comes first in what is left
+pub end_lines_begin_with_next : (n : ℕ) (ts : List RecordedThread) (ps : List Point) (t : RecordedThread) (p : Point) (line : List ℕ) → n < length ts
+    → length ps ≡ length ts → line ≡ thread_end_line n (get_or ts n t) (get_or ps n p)
+    → end_lines n (drop n ts) (drop n ps) ≡ line ++ end_lines (n + 1) (drop (n + 1) ts) (drop (n + 1) ps)
+end_lines_begin_with_next n ts ps t p line some all same = end_lines_of_drop n n ts ps t p some all
+    ∙ ap (λ (z : List ℕ). z ++ end_lines (suc n) (drop (n + 1) ts) (drop (n + 1) ps)) (sym same)
+    ∙ (let on : suc n ≡ n + 1 = omega arith in ap (λ k. line ++ end_lines k (drop (n + 1) ts) (drop (n + 1) ps)) on)
+
+pub end_lines_past_end : (k n : ℕ) (ts : List RecordedThread) (ps : List Point) → length ts ≤ n → length ps ≡ length ts
+    → end_lines k (drop n ts) (drop n ps) ≡ []
+unfolding end_lines
+end_lines_past_end k n ts ps all same = at_drop_all (λ (x : List RecordedThread). end_lines k x (drop n ps)) ts n all
+    ∙ at_drop_all (λ (y : List Point). end_lines k [] y) ps n (omega (arith, all, same))
+
 -- ---- arrows
 
 all_arrows_of_drop : (k n : ℕ) (xs : List Sight) (x : Sight) → n < length xs
@@ -178,14 +200,11 @@ data_parts_before_last start threads boxes stale end last = sym (regroup start t
 -- ---- the events for other viewers
 
 -- their four parts
-pub four_parts_are_chrome : (r : Recorded) (p : Picture) (sights : List Sight) (n : ℕ) (first last : List ℕ) (boxes : List PlacedBox) (stale : List StaleWrite)
-    → first ≡ chrome_start n → n ≡ length r.threads → boxes ≡ p.boxes.items → stale ≡ p.stale.items → last ≡ chrome_end
-    → ((first ++ flat_map (box_line r stale) boxes) ++ all_arrows 0 sights) ++ last ≡ chrome_text r p sights
-four_parts_are_chrome r p sights n first last boxes stale begins count same_boxes same_stale ends =
-    append_assoc (first ++ flat_map (box_line r stale) boxes) (all_arrows 0 sights) last
-    ∙ append_assoc first (flat_map (box_line r stale) boxes) (all_arrows 0 sights ++ last)
-    ∙ ap (λ (x : List ℕ). x ++ (flat_map (box_line r stale) boxes ++ (all_arrows 0 sights ++ last))) (begins ∙ ap chrome_start count)
-    ∙ ap (λ (bs : List PlacedBox). chrome_start (length r.threads) ++ (flat_map (box_line r stale) bs ++ (all_arrows 0 sights ++ last))) same_boxes
-    ∙ ap (λ (ss : List StaleWrite). chrome_start (length r.threads) ++ (flat_map (box_line r ss) p.boxes.items ++ (all_arrows 0 sights ++ last)))
-    same_stale
-    ∙ ap (λ (x : List ℕ). chrome_start (length r.threads) ++ (flat_map (box_line r p.stale.items) p.boxes.items ++ (all_arrows 0 sights ++ x))) ends
+pub four_parts_are_chrome : (r s : Recorded) (near : Option Around) (ends all_ends : List Point) (sights : List Sight) (first slices lines last : List ℕ)
+    → first ≡ chrome_head s near ends → s ≡ r → ends ≡ all_ends → slices ≡ lines → last ≡ chrome_end
+    → ((first ++ slices) ++ all_arrows 0 sights) ++ last ≡ chrome_text r near all_ends lines sights
+four_parts_are_chrome r s near ends all_ends sights first slices lines last begins same same_ends same_lines closes =
+    append_assoc (first ++ slices) (all_arrows 0 sights) last
+    ∙ append_assoc first slices (all_arrows 0 sights ++ last)
+    ∙ ap (λ (x : List ℕ). x ++ (slices ++ (all_arrows 0 sights ++ last))) (begins ∙ (λ i. chrome_head (same i) near (same_ends i)))
+    ∙ (λ i. chrome_head r near all_ends ++ (same_lines i ++ (all_arrows 0 sights ++ closes i)))

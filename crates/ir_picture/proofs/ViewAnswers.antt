@@ -45,9 +45,10 @@ not_answered_implied P Q e w as_other (inr h) =
     inr (record { answered = h.answered; text = h.text; is = as_other h.answered h.text h.is; stops = h.stops })
 
 -- the events for other viewers are the answer that they are
-pub chrome_text_is_answer : (r : Recorded) (p : Picture) (boxes : List PlacedBox) (found sights : List Sight) → boxes ≡ p.boxes.items → sights ≡ found
-    → AreSights r boxes found → IsChromeAnswer r p status.Done (chrome_text r p sights)
-chrome_text_is_answer r p boxes found sights same_boxes same all = (
+pub chrome_text_is_answer : (r : Recorded) (near : Option Around) (p : Picture) (slices : List ℕ) (boxes : List PlacedBox) (found sights : List Sight)
+    → boxes ≡ p.boxes.items → sights ≡ found → AreSights r boxes found
+    → IsChromeAnswer r near p slices status.Done (chrome_text r near p.ends.items slices sights)
+chrome_text_is_answer r near p slices boxes found sights same_boxes same all = (
   refl,
   record {
     sights = sights;

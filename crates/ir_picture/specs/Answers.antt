@@ -14,7 +14,7 @@ use Rattle.ir_picture.specs.Needs.{HasNoCircle, IsCircleAt}
 use Rattle.ir_picture.specs.Places.{AreBoxesPlaced}
 use Rattle.ir_picture.specs.Shown.{AreShown, shown_stale}
 use Rattle.ir_picture.specs.Numbers.{data_text}
-use Rattle.ir_picture.specs.Chrome.{IsChromeAnswer}
+use Rattle.ir_picture.specs.Chrome.{picture_slices, IsChromeAnswer}
 use Rattle.ir_picture.specs.declared.asked.Around.{Around}
 use Rattle.ir_picture.specs.declared.asked.Form.{Form}
 use Rattle.ir_picture.specs.declared.asked.Form.TheVariants as form
@@ -70,7 +70,7 @@ IsForm form.Page r near p answered text =
     ((length p.boxes.items ≤ most_boxes) × (answered ≡ status.Done) × (text ≡ page_text r near p))
     ⊎ ((most_boxes < length p.boxes.items) × (answered ≡ status.NotFit) × (text ≡ many_line (length p.boxes.items)))
 IsForm form.Data r near p answered text = (answered ≡ status.Done) × (text ≡ data_text r near p ++ 10 ∷ [])
-IsForm form.Chrome r near p answered text = IsChromeAnswer r p answered text
+IsForm form.Chrome r near p answered text = IsChromeAnswer r near p (picture_slices r p) answered text
 
 -- the event that a part is asked for around, if it is, is there
 abbrev pub IsThereIn : Recorded → Option Around → Type 0

@@ -9,7 +9,6 @@ use Rattle.ir_picture.specs.Boxing.{AreSomeBoxes}
 use Rattle.ir_picture.specs.Placing.{events_of_all}
 use Rattle.ir_log.specs.declared.event.Event.{Event}
 use Rattle.ir_picture.specs.Numbers.{comma, rows_from, first_numbers, place_numbers, box_row, stale_row, data_start, thread_list}
-use Rattle.ir_picture.specs.Chrome.{row_number_of, time_of, stale_argument, process_line, all_threads}
 use Rattle.ir_picture.specs.declared.asked.Around.{Around}
 use Rattle.ir_picture.specs.declared.placed_box.Point.{Point}
 use Rattle.ir_picture.specs.declared.placed_box.PlacedBox.{PlacedBox}
@@ -63,23 +62,8 @@ abbrev pub data_rows : Recorded → Option Around → Picture → List ℕ
 data_rows r near p =
     data_head false r near p.ends.items ++ (rows_from (box_row r) 0 p.boxes.items ++ (stale_head ++ rows_from stale_row 0 p.stale.items))
 
--- the line of a box after what it is drawn as
-abbrev pub slice_place : Option ℕ → PlacedBox → List ℕ
-slice_place read b =
-    codes ",\"ts\":" ++ (decimal (time_of b.start.x) ++ (codes ",\"pid\":1,\"tid\":" ++ (decimal (row_number_of b)
-    ++ (codes ",\"args\":{\"event\":" ++ (decimal b.events.event ++ (codes ",\"events\":" ++ (decimal b.events.count
-    ++ (stale_argument read ++ codes "}}"))))))))
-
 -- one end of the arrow of a number, at a time in the row of this number, with these words before the arrow's
 abbrev pub arrow_with : ℕ → List ℕ → ℕ → ℕ → ℕ → List ℕ
 arrow_with object words number time row =
     codes ",\n{\"name\":\"object " ++ (decimal object ++ (words ++ (decimal number ++ (codes ",\"ts\":" ++ (decimal time
     ++ (codes ",\"pid\":1,\"tid\":" ++ (decimal row ++ codes "}")))))))
-
--- what comes before the lines of boxes, for this many threads
-abbrev pub chrome_start : ℕ → List ℕ
-chrome_start threads = codes "{\"traceEvents\":[\n" ++ (process_line ++ all_threads threads)
-
--- what comes after the lines of arrows
-abbrev pub chrome_end : List ℕ
-chrome_end = codes "\n],\"displayTimeUnit\":\"ns\",\"otherData\":{\"source\":\"ir view\"}}\n"

@@ -1,18 +1,20 @@
 //! A picture as events for other viewers.
 
-ghost use Rattle.std.specs.Prelude.{◌≡◌, ◌++◌, IfOk, IfErr, OnOk, flat_map, false};
+ghost use Rattle.std.specs.Prelude.{◌≡◌, ◌++◌, IfOk, IfErr, OnOk, flat_map, length, false};
 ghost use Rattle.std.specs.Io.KnownBytes.{Appends};
 ghost use Rattle.ir_files.specs.Writers.{writer_of};
 ghost use Rattle.ir_text.specs.Buffered.{Buffered};
 ghost use Rattle.ir_past.specs.Past.{IsRising};
 ghost use Rattle.ir_past.specs.Answers.{AreCoherent, Answered, NotAnswered, Stops};
-ghost use Rattle.ir_picture.specs.Chrome.{box_line, thread_lines, all_threads, chrome_text, IsChromeAnswer};
-ghost use Rattle.ir_picture.specs.Progress.{chrome_start, AreBoxesOf, IsOfPicture};
+ghost use Rattle.ir_picture.specs.Chrome.{box_line, picture_slices, thread_lines, all_threads, chrome_head, chrome_end, chrome_text, IsChromeAnswer};
+ghost use Rattle.ir_picture.specs.Progress.{AreBoxesOf, IsOfPicture};
 
 use crate::arrows::write_arrows;
+use crate::asked::Around;
+use crate::ends::push_ends_part;
 use crate::picture::Picture;
 use crate::pieces::{empty_text, push_number, push_words, write_last, write_piece};
-use crate::placed_box::PlacedBox;
+use crate::placed_box::{PlacedBox, Point};
 use crate::sighting::sights_of;
 use crate::sights::Sight;
 use crate::slices::{push_box, push_row};
@@ -58,18 +60,36 @@ fn push_threads(text: &mut Vec<u8>, threads: u8) -> Result<(), AllocError>
     Ok(())
 }
 
-// The lines before those of boxes.
-fn first_lines(alloc: Global, threads: u8) -> Result<Vec<u8>, AllocError>
-    ensures { IfOk result (λ v. v.items ≡ chrome_start threads) }
+/// The lines before those of boxes, where threads end so.
+///
+/// # Errors
+/// Out of memory.
+pub fn chrome_head(
+    alloc: Global,
+    trace: &Trace,
+    near: &Option<Around>,
+    ends: &[Point],
+) -> Result<Vec<u8>, AllocError>
+    requires { length ends.now ≡ length trace.now.threads }
+    ensures { IfOk result (λ v. v.items ≡ chrome_head trace.now near.now ends.now) }
 {
     let mut text = empty_text(alloc)?;
     push_words(&mut text, HEAD.as_bytes())?;
-    push_threads(&mut text, threads)?;
+    push_threads(&mut text, thread_count(trace))?;
+    push_ends_part(alloc, &mut text, trace, near, ends)?;
     Ok(text)
+}
+
+/// What comes after the lines of arrows.
+pub fn chrome_end() -> &'static str
+    ensures { result.now ≡ chrome_end }
+{
+    END
 }
 
 // Adds the lines of boxes to a text that is written in pieces.
 fn write_slices<O: Sink>(
+    alloc: Global,
     text: &mut Vec<u8>,
     trace: &Trace,
     boxes: &[PlacedBox],
@@ -85,7 +105,7 @@ fn write_slices<O: Sink>(
 {
     for own in boxes {
         write_piece(text, out)?;
-        push_box(text, trace, stale, own)?;
+        push_box(alloc, text, trace, stale, own)?;
     }
     Ok(())
 }
@@ -94,20 +114,23 @@ fn write_slices<O: Sink>(
 fn write_lines<O: Sink>(
     alloc: Global,
     trace: &Trace,
+    near: &Option<Around>,
     picture: &Picture,
     sights: &[Sight],
     out: &mut O,
 ) -> Result<(), PastErr>
     requires works { O.broken out.old ≡ false }
     requires of_trace { IsOfPicture trace.now picture.now }
-    ensures ok { OnOk result (Appends (O.written out.old) (O.written out.new) (chrome_text trace.now picture.now sights.now)) }
+    ensures ok { OnOk result (Appends (O.written out.old) (O.written out.new) (chrome_text trace.now near.now (picture.now).ends.items (picture_slices trace.now picture.now) sights.now)) }
     ensures works { OnOk result (O.broken out.new ≡ false) }
-    ensures fails { IfErr result (λ e. Stops e (writer_of (O.written out.old) (O.written out.new) (O.broken out.new)) (chrome_text trace.now picture.now sights.now)) }
+    ensures fails { IfErr result
+        (λ e. Stops e (writer_of (O.written out.old) (O.written out.new) (O.broken out.new))
+        (chrome_text trace.now near.now (picture.now).ends.items (picture_slices trace.now picture.now) sights.now)) }
 {
-    let mut text = first_lines(alloc, thread_count(trace))?;
-    write_slices(&mut text, trace, &picture.boxes, &picture.stale, out)?;
+    let mut text = chrome_head(alloc, trace, near, &picture.ends)?;
+    write_slices(alloc, &mut text, trace, &picture.boxes, &picture.stale, out)?;
     write_arrows(&mut text, sights, out)?;
-    write_last(&mut text, END.as_bytes(), out)
+    write_last(&mut text, chrome_end().as_bytes(), out)
 }
 
 /// Writes the events for other viewers, 64 KiB and a line at a time at most. All that is in them is found before the first are written.
@@ -117,16 +140,21 @@ fn write_lines<O: Sink>(
 pub fn write_chrome<O: Sink>(
     alloc: Global,
     trace: &Trace,
+    near: &Option<Around>,
     picture: &Picture,
     out: &mut O,
 ) -> Result<ExitStatus, PastErr>
     requires works { O.broken out.old ≡ false }
     requires coherent { AreCoherent trace.now }
     requires of_trace { IsOfPicture trace.now picture.now }
-    ensures ok { IfOk result (λ answered. Answered (IsChromeAnswer trace.now picture.now) answered (writer_of (O.written out.old) (O.written out.new) (O.broken out.new))) }
-    ensures fails { IfErr result (λ e. NotAnswered (IsChromeAnswer trace.now picture.now) e (writer_of (O.written out.old) (O.written out.new) (O.broken out.new))) }
+    ensures ok { IfOk result
+        (λ answered. Answered (IsChromeAnswer trace.now near.now picture.now (picture_slices trace.now picture.now)) answered
+        (writer_of (O.written out.old) (O.written out.new) (O.broken out.new))) }
+    ensures fails { IfErr result
+        (λ e. NotAnswered (IsChromeAnswer trace.now near.now picture.now (picture_slices trace.now picture.now)) e
+        (writer_of (O.written out.old) (O.written out.new) (O.broken out.new))) }
 {
     let sights = sights_of(alloc, trace, &picture.boxes)?;
-    write_lines(alloc, trace, picture, &sights, out)?;
+    write_lines(alloc, trace, near, picture, &sights, out)?;
     Ok(ExitStatus::Done)
 }

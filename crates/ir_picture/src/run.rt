@@ -106,7 +106,7 @@ fn show_picture<O: Sink>(
     match asked.form {
         Form::Page => write_page(alloc, trace, &asked.around, picture, out),
         Form::Data => write_plain(alloc, trace, &asked.around, picture, out),
-        Form::Chrome => write_chrome(alloc, trace, picture, out),
+        Form::Chrome => write_chrome(alloc, trace, &asked.around, picture, out),
     }
 }
 

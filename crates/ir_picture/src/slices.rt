@@ -1,16 +1,20 @@
 //! The lines of boxes, for other viewers.
 
-ghost use Rattle.std.specs.Prelude.{◌≡◌, ◌-◌, ◌<◌, ◌≤◌, ℕ, [], ◌∷◌, ◌++◌, codes, decimal, length, slice_get, Some, OnOk};
+ghost use Rattle.std.specs.Prelude.{◌≡◌, ◌-◌, ◌<◌, ◌≤◌, ℕ, [], ◌∷◌, ◌++◌, decimal, length, slice_get, Some, OnOk};
 ghost use Rattle.ir_log.specs.Logging.{label_of};
+ghost use Rattle.ir_log.specs.declared.event.Event.TheVariants.{Write};
 ghost use Rattle.ir_text.specs.Texts.{event_text};
 ghost use Rattle.ir_coherence.specs.Before.{IsBefore};
 ghost use Rattle.ir_past.specs.Past.{IsRising};
 ghost use Rattle.ir_past.specs.declared.stale_write.StaleWrite.{StaleWrite};
 ghost use Rattle.ir_picture.specs.Boxes.{IsBox};
-ghost use Rattle.ir_picture.specs.Chrome.{row_number, row_number_of, time_of, box_name, drawn_as, stale_argument, read_of, slice_line, box_line};
-ghost use Rattle.ir_picture.specs.Progress.{slice_place, comes_before};
+ghost use Rattle.ir_picture.specs.Chrome.{row_number, row_number_of, time_of, box_name, drawn_as, event_arguments, first_arguments};
+ghost use Rattle.ir_picture.specs.Chrome.{fold_arguments, stale_argument, stale_at, slice_head, slice_place, slice_start, slice_line};
+ghost use Rattle.ir_picture.specs.Chrome.{box_line};
+ghost use Rattle.ir_picture.specs.Progress.{comes_before};
 
 use crate::event_box::EventBox;
+use crate::folds::pairs_read;
 use crate::pieces::{push_number, push_words};
 use crate::placed_box::PlacedBox;
 use crate::threads::events_in;
@@ -18,7 +22,7 @@ use ir_log::Event;
 use ir_past::StaleWrite;
 use ir_text::{Text, put_event_text};
 use ir_trace::Trace;
-use std::alloc::AllocError;
+use std::alloc::{AllocError, Global};
 
 /// Adds words and the number of a thread's first row: other viewers want slices of a row to nest, so each thread has room for 64 rows.
 ///
@@ -88,42 +92,136 @@ fn push_drawn(text: &mut Vec<u8>, events: &[Event], own: &PlacedBox) -> Result<(
     push_event_drawn(text, events[0], long)
 }
 
-// Adds what is said of a stale write, and the end of a box's line.
-fn push_stale(text: &mut Vec<u8>, read: Option<u32>) -> Result<(), AllocError>
-    ensures { OnOk result (text.new.items ≡ text.old.items ++ (stale_argument read ++ codes "}}")) }
-{
-    if let Some(event) = read {
-        push_number(text, b",\"read_at_event\":", event)?;
-    }
-    push_words(text, b"}}")
-}
-
-// Adds the line of a box after what it is drawn as.
-fn push_place(text: &mut Vec<u8>, read: Option<u32>, own: &PlacedBox) -> Result<(), AllocError>
-    ensures { OnOk result (text.new.items ≡ text.old.items ++ slice_place read own.now) }
-{
-    push_number(text, b",\"ts\":", time_of(own.start.x))?;
-    push_number(text, b",\"pid\":1,\"tid\":", row_number_of(own))?;
-    push_number(text, b",\"args\":{\"event\":", own.events.event)?;
-    push_number(text, b",\"events\":", own.events.count)?;
-    push_stale(text, read)
-}
-
-// Adds the line of a box with these events, with the event that it had read if it is a stale write.
-fn push_slice(
-    text: &mut Vec<u8>,
-    events: &[Event],
-    read: Option<u32>,
-    own: &PlacedBox,
-) -> Result<(), AllocError>
+// Adds the line of a box with these events up to where it is: its name, and what it is drawn as.
+fn push_head(text: &mut Vec<u8>, events: &[Event], own: &PlacedBox) -> Result<(), AllocError>
     requires { 1 ≤ length events.now }
-    ensures { OnOk result (text.new.items ≡ text.old.items ++ slice_line events.now read own.now) }
+    ensures { OnOk result (text.new.items ≡ text.old.items ++ slice_head events.now own.now) }
 {
     push_words(text, b",\n{\"name\":\"")?;
     push_name(text, events)?;
     push_words(text, b"\",")?;
-    push_drawn(text, events, own)?;
-    push_place(text, read, own)
+    push_drawn(text, events, own)
+}
+
+// Adds where a box is, and its events.
+fn push_place(text: &mut Vec<u8>, own: &PlacedBox) -> Result<(), AllocError>
+    ensures { OnOk result (text.new.items ≡ text.old.items ++ slice_place own.now) }
+{
+    push_number(text, b",\"ts\":", time_of(own.start.x))?;
+    push_number(text, b",\"pid\":1,\"tid\":", row_number_of(own))?;
+    push_number(text, b",\"args\":{\"event\":", own.events.event)?;
+    push_number(text, b",\"events\":", own.events.count)
+}
+
+// Adds what is known of a write entry.
+fn push_write_arguments(
+    text: &mut Vec<u8>,
+    object: u8,
+    version: u32,
+    readers: u32,
+) -> Result<(), AllocError>
+    ensures { OnOk result (text.new.items ≡ text.old.items ++ event_arguments (Write object version readers)) }
+{
+    push_number(text, b",\"object\":", object)?;
+    push_number(text, b",\"version\":", version)?;
+    push_number(text, b",\"new_version\":", version as u64 + 1)?;
+    push_number(text, b",\"readers\":", readers)
+}
+
+// Adds what is known of an event.
+fn push_event_arguments(text: &mut Vec<u8>, event: Event) -> Result<(), AllocError>
+    ensures { OnOk result (text.new.items ≡ text.old.items ++ event_arguments event) }
+{
+    match event {
+        Event::Answer(_, value) => push_number(text, b",\"value\":", value),
+        Event::Read { object, version } => {
+            push_number(text, b",\"object\":", object)?;
+            push_number(text, b",\"version\":", version)
+        }
+        Event::Write {
+            object,
+            version,
+            readers,
+        } => push_write_arguments(text, object, version, readers),
+        Event::Try { object } => push_number(text, b",\"object\":", object),
+    }
+}
+
+// Adds what is known of the first of a box's events.
+fn push_first_arguments(text: &mut Vec<u8>, events: &[Event]) -> Result<(), AllocError>
+    requires { 1 ≤ length events.now }
+    ensures { OnOk result (text.new.items ≡ text.old.items ++ first_arguments events.now) }
+{
+    push_event_arguments(text, events[0])
+}
+
+/// Adds the line of a box with these events up to what is known of the first of them.
+///
+/// # Errors
+/// Out of memory.
+pub fn push_slice_start(
+    text: &mut Vec<u8>,
+    events: &[Event],
+    own: &PlacedBox,
+) -> Result<(), AllocError>
+    requires { 1 ≤ length events.now }
+    ensures { OnOk result (text.new.items ≡ text.old.items ++ slice_start events.now own.now) }
+{
+    push_head(text, events, own)?;
+    push_place(text, own)?;
+    push_first_arguments(text, events)
+}
+
+/// Adds what a box of more than one event reads of this many objects.
+///
+/// # Errors
+/// Out of memory.
+pub fn push_fold_arguments(
+    alloc: Global,
+    text: &mut Vec<u8>,
+    events: &[Event],
+    objects: u8,
+) -> Result<(), AllocError>
+    ensures { OnOk result (text.new.items ≡ text.old.items ++ fold_arguments objects events.now) }
+{
+    if events.len() <= 1 {
+        return Ok(());
+    }
+    let pairs = pairs_read(alloc, events, objects)?;
+    push_words(text, b",\"reads\":[")?;
+    push_words(text, pairs.as_bytes())?;
+    push_words(text, b"]")
+}
+
+/// Adds what is said of a stale write, if this is one.
+///
+/// # Errors
+/// Out of memory.
+pub fn push_stale_argument(text: &mut Vec<u8>, stale: Option<StaleWrite>) -> Result<(), AllocError>
+    ensures { OnOk result (text.new.items ≡ text.old.items ++ stale_argument stale) }
+{
+    match stale {
+        None => Ok(()),
+        Some(row) => push_number(text, b",\"stale\":true,\"read_at_event\":", row.read),
+    }
+}
+
+// Adds the line of a box with these events, of which the first is this stale write, if it is one.
+fn push_slice(
+    alloc: Global,
+    text: &mut Vec<u8>,
+    objects: u8,
+    events: &[Event],
+    stale: Option<StaleWrite>,
+    own: &PlacedBox,
+) -> Result<(), AllocError>
+    requires { 1 ≤ length events.now }
+    ensures { OnOk result (text.new.items ≡ text.old.items ++ slice_line objects events.now stale own.now) }
+{
+    push_slice_start(text, events, own)?;
+    push_fold_arguments(alloc, text, events, objects)?;
+    push_stale_argument(text, stale)?;
+    push_words(text, b"}}")
 }
 
 // Whether a stale write comes before the first event of a box.
@@ -133,8 +231,8 @@ fn comes_before(row: &StaleWrite, own: &EventBox) -> bool
     row.thread < own.thread || row.thread == own.thread && row.event < own.event
 }
 
-// How many of these stale writes, which come by rising thread and event, come before the first event of a box.
-fn count_before(stale: &[StaleWrite], own: &EventBox) -> usize
+/// How many of these stale writes, which come by rising thread and event, come before the first event of a box. Time is logarithmic in them.
+pub fn count_before(stale: &[StaleWrite], own: &EventBox) -> usize
     requires { IsRising stale.now }
     ensures before { (k : ℕ) (x : StaleWrite) → k < result → slice_get stale.now k ≡ Some x → IsBefore x.thread x.event (own.now).thread (own.now).event }
     ensures rest { (k : ℕ) (x : StaleWrite) → result ≤ k → slice_get stale.now k ≡ Some x → IsBefore x.thread x.event (own.now).thread (own.now).event → ⊥ }
@@ -142,26 +240,26 @@ fn count_before(stale: &[StaleWrite], own: &EventBox) -> usize
     stale.partition_point(|row| comes_before(row, own))
 }
 
-// What a stale write read, if it is of the first event of a box.
-#[tactic(auto, unfolding(crate::specs::Chrome::read_of))]
-fn read_by(row: &StaleWrite, own: &EventBox) -> Option<u32>
-    ensures { result ≡ read_of (row.now ∷ []) (own.now).thread (own.now).event }
+// A stale write, if it is the first event of a box.
+#[tactic(auto, unfolding(crate::specs::Chrome::stale_at))]
+fn stale_by(row: &StaleWrite, own: &EventBox) -> Option<StaleWrite>
+    ensures { result ≡ stale_at (λ (x : StaleWrite). x) (row.now ∷ []) (own.now).thread (own.now).event }
 {
     if row.thread == own.thread && row.event == own.event {
-        Some(row.read)
+        Some(*row)
     } else {
         None
     }
 }
 
-// The event that the first event of a box read before, if these stale writes, which come by rising thread and event, have it.
-fn read_of(stale: &[StaleWrite], own: &EventBox) -> Option<u32>
+// The stale write that is the first event of a box, if these, which come by rising thread and event, have it.
+fn stale_of(stale: &[StaleWrite], own: &EventBox) -> Option<StaleWrite>
     requires { IsRising stale.now }
-    ensures { result ≡ read_of stale.now (own.now).thread (own.now).event }
+    ensures { result ≡ stale_at (λ (x : StaleWrite). x) stale.now (own.now).thread (own.now).event }
 {
     match stale.get(count_before(stale, own)) {
         None => None,
-        Some(row) => read_by(row, own),
+        Some(row) => stale_by(row, own),
     }
 }
 
@@ -170,6 +268,7 @@ fn read_of(stale: &[StaleWrite], own: &EventBox) -> Option<u32>
 /// # Errors
 /// Out of memory.
 pub fn push_box(
+    alloc: Global,
     text: &mut Vec<u8>,
     trace: &Trace,
     stale: &[StaleWrite],
@@ -180,5 +279,6 @@ pub fn push_box(
     ensures { OnOk result (text.new.items ≡ text.old.items ++ box_line trace.now stale.now own.now) }
 {
     let events = events_in(trace, &own.events);
-    push_slice(text, events, read_of(stale, &own.events), own)
+    let row = stale_of(stale, &own.events);
+    push_slice(alloc, text, trace.objects(), events, row, own)
 }

@@ -21,10 +21,12 @@ const CHROME: &str = "{\"traceEvents\":[
 {\"name\":\"thread_sort_index\",\"ph\":\"M\",\"pid\":1,\"tid\":0,\"args\":{\"sort_index\":0}},
 {\"name\":\"thread_name\",\"ph\":\"M\",\"pid\":1,\"tid\":64,\"args\":{\"name\":\"thread 1\"}},
 {\"name\":\"thread_sort_index\",\"ph\":\"M\",\"pid\":1,\"tid\":64,\"args\":{\"sort_index\":64}},
-{\"name\":\"read 0 version 0\",\"cat\":\"read\",\"ph\":\"X\",\"dur\":10,\"ts\":0,\"pid\":1,\"tid\":0,\"args\":{\"event\":0,\"events\":1}},
-{\"name\":\"write 0 version 1 readers 0\",\"cat\":\"write\",\"ph\":\"X\",\"dur\":10,\"ts\":40,\"pid\":1,\"tid\":0,\"args\":{\"event\":1,\"events\":1,\"read_at_event\":0}},
-{\"name\":\"read 0 version 0\",\"cat\":\"read\",\"ph\":\"X\",\"dur\":10,\"ts\":0,\"pid\":1,\"tid\":64,\"args\":{\"event\":0,\"events\":1}},
-{\"name\":\"write 0 version 0 readers 2\",\"cat\":\"write\",\"ph\":\"X\",\"dur\":10,\"ts\":20,\"pid\":1,\"tid\":64,\"args\":{\"event\":1,\"events\":1}},
+{\"name\":\"end, code 0\",\"cat\":\"end\",\"ph\":\"i\",\"s\":\"t\",\"ts\":60,\"pid\":1,\"tid\":0,\"args\":{\"end\":1,\"code\":0,\"steps\":20,\"events\":2,\"x\":6,\"u\":4}},
+{\"name\":\"end, code 0\",\"cat\":\"end\",\"ph\":\"i\",\"s\":\"t\",\"ts\":40,\"pid\":1,\"tid\":64,\"args\":{\"end\":1,\"code\":0,\"steps\":20,\"events\":2,\"x\":4,\"u\":3}},
+{\"name\":\"read 0 version 0\",\"cat\":\"read\",\"ph\":\"X\",\"dur\":10,\"ts\":0,\"pid\":1,\"tid\":0,\"args\":{\"event\":0,\"events\":1,\"object\":0,\"version\":0}},
+{\"name\":\"write 0 version 1 readers 0\",\"cat\":\"write\",\"ph\":\"X\",\"dur\":10,\"ts\":40,\"pid\":1,\"tid\":0,\"args\":{\"event\":1,\"events\":1,\"object\":0,\"version\":1,\"new_version\":2,\"readers\":0,\"stale\":true,\"read_at_event\":0}},
+{\"name\":\"read 0 version 0\",\"cat\":\"read\",\"ph\":\"X\",\"dur\":10,\"ts\":0,\"pid\":1,\"tid\":64,\"args\":{\"event\":0,\"events\":1,\"object\":0,\"version\":0}},
+{\"name\":\"write 0 version 0 readers 2\",\"cat\":\"write\",\"ph\":\"X\",\"dur\":10,\"ts\":20,\"pid\":1,\"tid\":64,\"args\":{\"event\":1,\"events\":1,\"object\":0,\"version\":0,\"new_version\":1,\"readers\":2}},
 {\"name\":\"object 0\",\"cat\":\"sees\",\"ph\":\"s\",\"id\":0,\"ts\":29,\"pid\":1,\"tid\":64},
 {\"name\":\"object 0\",\"cat\":\"sees\",\"ph\":\"f\",\"bp\":\"e\",\"id\":0,\"ts\":40,\"pid\":1,\"tid\":0}
 ],\"displayTimeUnit\":\"ns\",\"otherData\":{\"source\":\"ir view\"}}
@@ -103,7 +105,7 @@ fn many_writes(alloc: Global) -> Result<Vec<u8>, AllocError> {
     Ok(trace)
 }
 
-// Of some 135 KB of events for other viewers, pieces of at most 64 KiB and a line are written; a writer that fails at the second has the first.
+// Of some 190 KB of events for other viewers, pieces of at most 64 KiB and a line are written; a writer that fails at the second has the first.
 #[test]
 fn events_for_other_viewers_are_written_in_pieces(rt: HostRuntime) {
     let Ok(trace) = many_writes(rt.alloc()) else {
@@ -118,7 +120,7 @@ fn events_for_other_viewers_are_written_in_pieces(rt: HostRuntime) {
         .iter()
         .filter(|byte| **byte == b'\n')
         .count();
-    assert_eq!(rt; lines, 1005);
+    assert_eq!(rt; lines, 1006);
     let (status, first, _) = view(&rt, &trace, whole(Form::Chrome), 1);
     assert_eq!(rt; status, 1);
     assert!(rt; first.bytes.len() >= 65_536 && first.bytes.len() <= 65_536 + 1024);

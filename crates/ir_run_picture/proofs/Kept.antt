@@ -9,9 +9,15 @@ use Rattle.ir_past.specs.Past.{IsRising}
 use Rattle.ir_past.specs.declared.stale_write.StaleWrite.{StaleWrite}
 use Rattle.ir_stale_run.specs.declared.rest.Rest.{Rest}
 use Rattle.ir_picture.specs.Shown.{is_shown}
+use Rattle.ir_picture.proofs.CallerLemmas.{GoWith, slice_get_of_map}
 use Rattle.ir_picture.specs.declared.placed_box.PlacedBox.{PlacedBox}
 use Rattle.ir_run_picture.specs.Resting.{kept_if, first_resting, stale_of_rests}
 use Rattle.ir_run_picture.specs.declared.resting.Resting.{Resting}
+
+-- with each kept write goes the stale write of the same number
+pub rests_go_with_writes : (kept : List Resting) (stale : List StaleWrite) → stale ≡ stale_of_rests kept → GoWith (λ (x : Resting). x.write) kept stale
+rests_go_with_writes kept stale same k x at =
+    ap (λ (xs : List StaleWrite). slice_get xs k) same ∙ slice_get_of_map (λ (z : Resting). z.write) kept k x at
 
 -- none is kept before the first row
 pub first_kept_of_no_row : (shown : List PlacedBox) (rows : List StaleWrite) (rests : List (Option Rest)) (none : List Resting) → none ≡ []

@@ -18,7 +18,9 @@ use Rattle.ir_picture.specs.declared.asked.Around.{Around}
 use Rattle.ir_picture.specs.declared.event_box.EventBox.{EventBox}
 use Rattle.ir_picture.specs.declared.placed_box.Point.{Point}
 use Rattle.ir_picture.specs.declared.placed_box.PlacedBox.{PlacedBox}
-use Rattle.ir_picture.proofs.CallerLemmas.{four_parts_framed, data_parts_with_end, data_parts_before_last, shown_of_some_boxes, slice_get_of_map, slice_get_map_inverse}
+use Rattle.ir_picture.specs.Chrome.{AreSights, chrome_text}
+use Rattle.ir_picture.specs.declared.sights.Sight.{Sight}
+use Rattle.ir_picture.proofs.CallerLemmas.{chrome_text_is_answer, four_parts_framed, data_parts_with_end, data_parts_before_last, shown_of_some_boxes, slice_get_of_map, slice_get_map_inverse}
 use Rattle.ir_run_picture.specs.Brief.{IsRunBox, AreRunBoxes}
 use Rattle.ir_run_picture.specs.Held.{AreHeld, HaveHeld}
 use Rattle.ir_run_picture.specs.Resting.{resting_writes, stale_of_rests}
@@ -30,9 +32,10 @@ use Rattle.ir_files.specs.declared.exit_status.ExitStatus.TheVariants as status
 use Rattle.ir_picture.specs.declared.asked.Asked.{Asked}
 use Rattle.ir_picture.specs.declared.picture.Picture.{Picture}
 use Rattle.ir_run_picture.specs.Numbers.{drawn_row, resting_row, run_data_rows, run_data_text}
+use Rattle.ir_run_picture.specs.Chrome.{drawn_slices}
 use Rattle.ir_run_picture.specs.Steps.{AreDrawn}
 use Rattle.ir_run_picture.specs.declared.drawn.Drawn.{Drawn}
-use Rattle.ir_run_picture.specs.Answers.{IsRunPicture, IsFormOfRun, IsRunAnswer, IsRunViewAnswer}
+use Rattle.ir_run_picture.specs.Answers.{IsRunPicture, IsRunChromeAnswer, IsFormOfRun, IsRunAnswer, IsRunViewAnswer}
 use Rattle.ir_run_picture.specs.declared.resting.Resting.{Resting}
 
 -- the answer about a run is one about its bytes
@@ -109,6 +112,24 @@ held_is_run_picture f near all ends q rows rests kept have shown last are found 
         stale = subst IsRising (sym (stale ∙ ap stale_of_rests same)) (kept_writes_are_rising q.boxes.items rows rests (length rows) are.rising);
       },
     )
+
+-- boxes that are drawn are those of a picture that are
+pub drawn_are_those_of_picture : (f : FittedTrace) (all boxes : List PlacedBox) (made drawn : List Drawn) → boxes ≡ all → AreDrawn f boxes made → drawn ≡ made
+    → AreDrawn f all drawn
+drawn_are_those_of_picture f all boxes made drawn same_boxes are same =
+    subst (AreDrawn f all) (sym same) (subst (λ (bs : List PlacedBox). AreDrawn f bs made) same_boxes are)
+
+-- the events for other viewers are the answer that they are
+pub run_chrome_text_is_chrome_answer : (f : FittedTrace) (near : Option Around) (p : Picture) (kept : List Resting) (r : Recorded) (boxes : List PlacedBox)
+    (drawn : List Drawn) (found sights : List Sight) → r ≡ f.recorded → AreDrawn f p.boxes.items drawn → boxes ≡ p.boxes.items → AreSights r boxes found
+    → sights ≡ found
+    → IsRunChromeAnswer f near p kept status.Done (chrome_text f.recorded near p.ends.items (drawn_slices f kept drawn) sights)
+run_chrome_text_is_chrome_answer f near p kept r boxes drawn found sights same are same_boxes all same_sights = (
+  drawn,
+  are,
+  chrome_text_is_answer f.recorded near p (drawn_slices f kept drawn) boxes found sights same_boxes same_sights
+      (subst (λ (x : Recorded). AreSights x boxes found) same all),
+)
 
 -- ---- data in a frame
 

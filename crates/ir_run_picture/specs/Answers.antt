@@ -30,6 +30,7 @@ use Rattle.ir_run_picture.specs.Held.{AreHeld}
 use Rattle.ir_run_picture.specs.Steps.{AreDrawn}
 use Rattle.ir_run_picture.specs.Resting.{resting_writes, stale_of_rests}
 use Rattle.ir_run_picture.specs.Numbers.{run_data_text}
+use Rattle.ir_run_picture.specs.Chrome.{drawn_slices}
 use Rattle.ir_run_picture.specs.declared.drawn.Drawn.{Drawn}
 use Rattle.ir_run_picture.specs.declared.resting.Resting.{Resting}
 
@@ -59,6 +60,11 @@ pub record IsRunPage (f : FittedTrace) (near : Option Around) (p : Picture) (kep
   pub is : IsData f near p kept text
   pub lines : whole ≡ page_of_picture text
 
+-- the answer that is the events for other viewers
+abbrev pub IsRunChromeAnswer : FittedTrace → Option Around → Picture → List Resting → ExitStatus → List ℕ → Type 0
+IsRunChromeAnswer f near p kept answered text =
+    (drawn : List Drawn) × AreDrawn f p.boxes.items drawn × IsChromeAnswer f.recorded near p (drawn_slices f kept drawn) answered text
+
 -- a picture in a form
 abbrev pub IsFormOfRun : Form → FittedTrace → Option Around → Picture → List Resting → ExitStatus → List ℕ → Type 0
 IsFormOfRun form.Page f near p kept answered text =
@@ -66,7 +72,7 @@ IsFormOfRun form.Page f near p kept answered text =
     ⊎ ((most_boxes < length p.boxes.items) × (answered ≡ status.NotFit) × (text ≡ many_line (length p.boxes.items)))
 IsFormOfRun form.Data f near p kept answered text =
     (answered ≡ status.Done) × ((lines : List ℕ) × IsData f near p kept lines × (text ≡ lines ++ 10 ∷ []))
-IsFormOfRun form.Chrome f near p kept answered text = IsChromeAnswer f.recorded p answered text
+IsFormOfRun form.Chrome f near p kept answered text = IsRunChromeAnswer f near p kept answered text
 
 -- the answer about a run: its picture
 pub record IsRunAnswer (asked : Asked) (f : FittedTrace) (answered : ExitStatus) (text : List ℕ) : Type 0 where

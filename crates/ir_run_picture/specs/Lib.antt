@@ -6,4 +6,5 @@ pub mod Held
 pub mod Laws
 pub mod Resting
 pub mod Numbers
+pub mod Chrome
 pub mod Answers

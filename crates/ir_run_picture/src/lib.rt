@@ -2,6 +2,7 @@
 #![tactic(auto)]
 
 mod brief;
+mod chrome;
 mod data;
 mod drawing;
 mod drawn;
@@ -13,6 +14,7 @@ mod resting;
 mod rows;
 mod run;
 mod run_picture;
+mod slices;
 mod spans;
 mod view;
 

@@ -10,7 +10,9 @@ ghost use Rattle.ir_picture.specs.Answers.{view_status, view_fault_words};
 ghost use Rattle.ir_picture.specs.declared.asked.Form.TheVariants as form;
 ghost use Rattle.ir_picture.specs.declared.view_err.ViewErr.{ViewErr};
 ghost use Rattle.ir_run_picture.specs.Answers.{IsFormOfRun, IsRunViewAnswer, IsRunViewUnanswered};
+ghost use Rattle.ir_run_picture.specs.Resting.{stale_of_rests};
 
+use crate::chrome::write_chrome;
 use crate::data::write_data;
 use crate::drawing::all_drawn;
 use crate::pictures::run_picture_of;
@@ -20,9 +22,7 @@ use ir_files::{ExitStatus, tell};
 use ir_fit::Fitted;
 use ir_opened::{Opened, open_fit, refuse};
 use ir_past::{PastErr, put_answer};
-use ir_picture::{
-    Around, Asked, Form, MOST_BOXES, ViewErr, data_frame, many_answer, page_frame, write_chrome,
-};
+use ir_picture::{Around, Asked, Form, MOST_BOXES, ViewErr, data_frame, many_answer, page_frame};
 use ir_stream::Sink;
 use std::alloc::{AllocError, Global};
 
@@ -102,6 +102,7 @@ fn show_picture<O: Sink>(
     requires works { O.broken out.old ≡ false }
     requires coherent { AreCoherent fitted.now.recorded }
     requires of_trace { IsOfPicture fitted.now.recorded (shown.now).picture }
+    requires kept { (shown.now).picture.stale.items ≡ stale_of_rests (shown.now).kept.items }
     ensures ok { IfOk result
         (λ s. Answered (IsFormOfRun (asked.now).form fitted.now (asked.now).around (shown.now).picture (shown.now).kept.items) s
         (writer_of (O.written out.old) (O.written out.new) (O.broken out.new))) }
@@ -112,7 +113,7 @@ fn show_picture<O: Sink>(
     match asked.form {
         Form::Page => write_page(alloc, fitted, &asked.around, shown, out),
         Form::Data => write_plain(alloc, fitted, &asked.around, shown, out),
-        Form::Chrome => write_chrome(alloc, fitted.trace(), &shown.picture, out),
+        Form::Chrome => write_chrome(alloc, fitted, &asked.around, shown, out),
     }
 }
 

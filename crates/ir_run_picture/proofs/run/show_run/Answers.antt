@@ -10,6 +10,9 @@ use Rattle.ir_run_picture.proofs.run.show_run.Goals as goal
 pub show_picture-requires-clause-coherent : goal.show_picture-requires-clause-coherent
 show_picture-requires-clause-coherent g c = run_trace_is_coherent c.args.fitted.now c.known.ensures.run
 
+pub show_picture-requires-clause-kept : goal.show_picture-requires-clause-kept
+show_picture-requires-clause-kept g c = c.in_ok-shown.ensures.drawn.stale
+
 pub returns-in_err-show_picture-clause-fails : goal.returns-in_err-show_picture-clause-fails
 returns-in_err-show_picture-clause-fails g c =
     let f = c.args.fitted.now in
