@@ -143,7 +143,7 @@ CLAIMS = [
         ("ir_holds", "Held", "`IsHeld`: where boxes of holds stand"),
         ("ir_run_picture", "Laws", "`IsMoment`, `GoesRight`: what left to right means"),
         ("ir_events", "Lines", "the lines of events"),
-    ], (3310, 1450)),
+    ], (3411, 1512)),
 ]
 
 CLAIMS_PAGE = PAGES / "claims.md"

@@ -236,12 +236,12 @@ def check_held(data, trace, steps):
 
 def check_part(data, part):
     """A part has the boxes near its event and the stale writes in these."""
-    thread, event, span = part.pop("around")
+    thread, event, span = part["around"]
     middle = next(box[7] for box in data["boxes"] if box[0] == thread and box[1] <= event < box[1] + box[2])
     boxes = [box for box in data["boxes"] if abs(box[7] - middle) <= span]
     inside = {(box[0], box[1] + k) for box in boxes for k in range(box[2])}
     stale = [row for row in data["stale"] if {(row[0], row[1]), (row[0], row[2])} <= inside]
-    assert part == data | {"boxes": boxes, "stale": stale}
+    assert part == data | {"around": [thread, event, span], "boxes": boxes, "stale": stale}
 
 
 FIELDS = {
@@ -396,7 +396,9 @@ class Program:
         check_chrome(shown, json.loads(self.run("view", trace, "--image", image, "--chrome")))
         if shown["boxes"]:
             box = shown["boxes"][len(shown["boxes"]) // 2]
-            check_part(shown, json.loads(self.run("view", trace, "--image", image, "--json", "--around", box[0], box[1], "--span", 9)))
+            part = json.loads(self.run("view", trace, "--image", image, "--json", "--around", box[0], box[1], "--span", 9))
+            check_part(shown, part)
+            check_chrome(part, json.loads(self.run("view", trace, "--image", image, "--chrome", "--around", box[0], box[1], "--span", 9)))
         return len(rests)
 
 

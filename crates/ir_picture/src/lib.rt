@@ -35,7 +35,7 @@ pub use around::{is_shown, is_there, shown_boxes};
 pub use arrows::write_arrows;
 pub use asked::{Around, Asked, Form};
 pub use boxes::boxes_of;
-pub use chrome::{chrome_end, chrome_head, write_chrome};
+pub use chrome::{chrome_end, chrome_head};
 pub use circle::Circle;
 pub use data::data_head;
 pub use event_box::EventBox;

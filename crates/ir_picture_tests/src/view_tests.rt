@@ -24,9 +24,11 @@ const CHROME: &str = "{\"traceEvents\":[
 {\"name\":\"end, code 0\",\"cat\":\"end\",\"ph\":\"i\",\"s\":\"t\",\"ts\":60,\"pid\":1,\"tid\":0,\"args\":{\"end\":1,\"code\":0,\"steps\":20,\"events\":2,\"x\":6,\"u\":4}},
 {\"name\":\"end, code 0\",\"cat\":\"end\",\"ph\":\"i\",\"s\":\"t\",\"ts\":40,\"pid\":1,\"tid\":64,\"args\":{\"end\":1,\"code\":0,\"steps\":20,\"events\":2,\"x\":4,\"u\":3}},
 {\"name\":\"read 0 version 0\",\"cat\":\"read\",\"ph\":\"X\",\"dur\":10,\"ts\":0,\"pid\":1,\"tid\":0,\"args\":{\"event\":0,\"events\":1,\"object\":0,\"version\":0}},
-{\"name\":\"write 0 version 1 readers 0\",\"cat\":\"write\",\"ph\":\"X\",\"dur\":10,\"ts\":40,\"pid\":1,\"tid\":0,\"args\":{\"event\":1,\"events\":1,\"object\":0,\"version\":1,\"new_version\":2,\"readers\":0,\"stale\":true,\"read_at_event\":0}},
+{\"name\":\"write 0 version 1 readers 0\",\"cat\":\"write\",\"ph\":\"X\",\"dur\":10,\"ts\":40,\"pid\":1,\"tid\":0,\
+\"args\":{\"event\":1,\"events\":1,\"object\":0,\"version\":1,\"new_version\":2,\"readers\":0,\"stale\":true,\"read_at_event\":0}},
 {\"name\":\"read 0 version 0\",\"cat\":\"read\",\"ph\":\"X\",\"dur\":10,\"ts\":0,\"pid\":1,\"tid\":64,\"args\":{\"event\":0,\"events\":1,\"object\":0,\"version\":0}},
-{\"name\":\"write 0 version 0 readers 2\",\"cat\":\"write\",\"ph\":\"X\",\"dur\":10,\"ts\":20,\"pid\":1,\"tid\":64,\"args\":{\"event\":1,\"events\":1,\"object\":0,\"version\":0,\"new_version\":1,\"readers\":2}},
+{\"name\":\"write 0 version 0 readers 2\",\"cat\":\"write\",\"ph\":\"X\",\"dur\":10,\"ts\":20,\"pid\":1,\"tid\":64,\
+\"args\":{\"event\":1,\"events\":1,\"object\":0,\"version\":0,\"new_version\":1,\"readers\":2}},
 {\"name\":\"object 0\",\"cat\":\"sees\",\"ph\":\"s\",\"id\":0,\"ts\":29,\"pid\":1,\"tid\":64},
 {\"name\":\"object 0\",\"cat\":\"sees\",\"ph\":\"f\",\"bp\":\"e\",\"id\":0,\"ts\":40,\"pid\":1,\"tid\":0}
 ],\"displayTimeUnit\":\"ns\",\"otherData\":{\"source\":\"ir view\"}}
