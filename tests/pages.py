@@ -39,7 +39,7 @@ def matches(found, wanted):
 
 
 # Pages of the guide whose commands want a compiler or gdb: c_guests.py and gdb_sessions.py run them, and the tests of guest/threads.
-ELSEWHERE = ("c-guests.md", "gdb.md", "threads.md")
+ELSEWHERE = ("c-guests.md", "gdb.md", "refine.md", "threads.md")
 # Pages of the guide without commands.
 SILENT = ("concepts.md", "when.md")
 

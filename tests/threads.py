@@ -44,8 +44,8 @@ FEW = ("accesses", "atomics", "mutexes", "account", "deadlock", "treiber", "pool
 # The programs that are made of a seed.
 GENERATED = range(12)
 
-# The page, and the compiler whose steps it has.
-PAGE = TOP / "docs" / "guide" / "threads.md"
+# The pages, and the compiler whose steps they have.
+PAGES = {"page": TOP / "docs" / "guide" / "threads.md", "refine": TOP / "docs" / "guide" / "refine.md"}
 PAGE_COMPILER = "12.2.0"
 
 # The seeds of a hunt, and the budget of a run that may wait forever.
@@ -378,8 +378,8 @@ def test_readme(folder):
     wants("the last line", ended[-1].stdout.decode().splitlines(), [part[-1]])
 
 
-def test_page(folder):
-    """Each command of the page writes what follows it there, if the compiler is the one of the page."""
+def test_page(folder, page):
+    """Each command of a page writes what follows it there, if the compiler is the one of the page."""
     version = subprocess.run(["riscv64-unknown-elf-gcc", "-dumpfullversion"], check=True, capture_output=True, text=True).stdout.strip()
     if version != PAGE_COMPILER:
         print(f"  the steps of the page are those of gcc {PAGE_COMPILER}, so its commands aren't run")
@@ -387,7 +387,7 @@ def test_page(folder):
     for linked in ("guest", "tests", "examples"):
         (folder / linked).symlink_to(TOP / linked)
     (folder / "ir").symlink_to(program())
-    for command, _, wanted in commands_of(PAGE.read_text()):
+    for command, _, wanted in commands_of(page.read_text()):
         ended = shell(command, folder)
         if not matches(ended.stdout.decode().splitlines(), wanted):
             raise Wrong(f"{command}: wrote {ended.stdout.decode()!r}")
@@ -444,7 +444,8 @@ def tests(few):
     all_ |= {f"refused-{case.name}": partial(test_refused, case=case) for case in texts.REFUSED}
     all_ |= {f"text-{case.name}": partial(test_printed, case=case) for case in texts.PRINTED}
     all_ |= {f"tso-{case.name}": partial(test_buffered, case=case) for case in texts.BUFFERED}
-    return all_ | {"no-compiler": test_no_compiler, "installed": test_installed, "page": test_page, "readme": test_readme, "where": test_where, "elf-is-image": test_elf_is_image, "elf-names": test_elf_names, "on-ir-h": test_on_ir_h, "several": test_several}
+    all_ |= {name: partial(test_page, page=page) for name, page in PAGES.items()}
+    return all_ | {"no-compiler": test_no_compiler, "installed": test_installed, "readme": test_readme, "where": test_where, "elf-is-image": test_elf_is_image, "elf-names": test_elf_names, "on-ir-h": test_on_ir_h, "several": test_several}
 
 
 def passes(name, test):
