@@ -1,4 +1,4 @@
-mod Classes
+mod Firsts
 mod Compared
 mod Lines
 mod Meaning

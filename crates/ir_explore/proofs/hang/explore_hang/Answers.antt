@@ -18,7 +18,6 @@ returns-in_err-recorded-clause-stopped g c =
       rw c.in-Ok-Ok.field-0-is at told.1,
       told.2,
       stopped.2,
-      stopped.3,
     )))
 
 pub returns-clause-found : goal.returns-clause-found

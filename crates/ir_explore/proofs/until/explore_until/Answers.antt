@@ -24,7 +24,6 @@ returns-in_err-recorded-clause-stopped g c =
       says,
       told.2,
       stopped.2,
-      stopped.3,
     )))
 
 pub returns-clause-found : goal.returns-clause-found

@@ -53,7 +53,6 @@ returns-in_err-recorded-clause-stopped g c =
         rw c.in-Some.is at sought.1,
         subst (λ (bytes : List ℕ). Appends (g.O.Sink.written c.args.out.now) (g.O.Sink.written c.write_all.new.writer) bytes) line wrote,
         stopped.2,
-        stopped.3,
       )),
     ))
 

@@ -1,4 +1,4 @@
-use Rattle.ir_within.proofs.Classes.{class_has_fewest}
+use Rattle.ir_within.proofs.Firsts.{class_has_fewest}
 use Rattle.ir_within.proofs.laws.class_has_fewest.Goals as goal
 
 pub returns : goal.returns

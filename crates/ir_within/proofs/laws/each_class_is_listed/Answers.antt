@@ -1,4 +1,4 @@
-use Rattle.ir_within.proofs.Classes.{each_class_is_listed}
+use Rattle.ir_within.proofs.Firsts.{each_class_is_listed}
 use Rattle.ir_within.proofs.laws.each_class_is_listed.Goals as goal
 
 pub returns : goal.returns
