@@ -85,20 +85,20 @@ impl Connection {
         requires writes { W.broken writer.old ≡ false }
         // Where no device fails, the bytes that were read lead to the result, and neither device has failed.
         ensures ended { IfEnded result (ReadsUpTo limit (R.left reader.old) (R.left reader.new)
-            (LeadsTo self.old.link limit result (W.written writer.old) (W.written writer.new))) }
+            (LeadsToLink self.old.link limit result (W.written writer.old) (W.written writer.new))) }
         ensures works { IfEnded result ((R.broken reader.new ≡ false) × (W.broken writer.new ≡ false)) }
         // If the reader makes its bytes known, all of them together lead to it.
         ensures known { IfEnded result (IfSome (R.left reader.old)
-            (LeadsTo self.old.link limit result (W.written writer.old) (W.written writer.new))) }
+            (LeadsToLink self.old.link limit result (W.written writer.old) (W.written writer.new))) }
         // After a failed read, the replies to all that was read, none of which ends the connection.
         ensures read { result ≡ Err Fault.Read → (R.broken reader.new ≡ true) × (W.broken writer.new ≡ false)
             × ReadsUpTo limit (R.left reader.old) (R.left reader.new) (λ consumed.
-            Wrote self.old.link (items consumed) false (W.written writer.old) (W.written writer.new)) }
+            WroteReplies self.old.link (items consumed) false (W.written writer.old) (W.written writer.new)) }
         // After a failed write, the replies to all but the last item, and a prefix of that one's: a reply is written before a byte
         // after its packet is read.
         ensures write { result ≡ Err Fault.Write → (R.broken reader.new ≡ false) × (W.broken writer.new ≡ true)
             × ReadsUpTo limit (R.left reader.old) (R.left reader.new) (λ consumed.
-            WroteInPart self.old.link (items consumed) (W.written writer.old) (W.written writer.new)) }
+            WroteRepliesInPart self.old.link (items consumed) (W.written writer.old) (W.written writer.new)) }
     {
         for taken in 0..limit {
             let byte = match next_byte(reader) {

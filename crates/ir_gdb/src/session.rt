@@ -60,10 +60,10 @@ fn serve<H: Hands, R: Source, W: Sink>(
     ensures no_memory { result ≡ Err SessionErr.NoMem → (reader.new ≡ reader.old) × (writer.new ≡ writer.old) }
     ensures read { result ≡ Err SessionErr.Read → (R.broken reader.new ≡ true) × (W.broken writer.new ≡ false)
         × ReadsUpTo most_input (R.left reader.old) (R.left reader.new) (λ consumed.
-        Wrote (first_link debugger.desk) (items consumed) false (W.written writer.old) (W.written writer.new)) }
+        WroteReplies (first_link debugger.desk) (items consumed) false (W.written writer.old) (W.written writer.new)) }
     ensures write { result ≡ Err SessionErr.Write → (R.broken reader.new ≡ false) × (W.broken writer.new ≡ true)
         × ReadsUpTo most_input (R.left reader.old) (R.left reader.new) (λ consumed.
-        WroteInPart (first_link debugger.desk) (items consumed) (W.written writer.old) (W.written writer.new)) }
+        WroteRepliesInPart (first_link debugger.desk) (items consumed) (W.written writer.old) (W.written writer.new)) }
 {
     let alloc = hands.alloc();
     let Ok(remote) = Remote::new(alloc, debugger) else {
