@@ -68,16 +68,16 @@ returns-in_err-write_slices-clause-fails g c =
     let p = c.args.shown.now.picture in
     let kept = c.args.shown.now.kept.items in
     let slices = drawn_slices f kept c.deref-4.result.now in
-    let text = chrome_text f.recorded near p.ends.items slices c.deref-5.result.now in
+    let text = chrome_text f.recorded near p.ends.items slices c.in_ok-sights.sights.items in
     if_err_handed_on _ c.from_residual-in_err-write_slices.result e q.0 q.1 q.2
     (not_answered_if_stopped (IsRunChromeAnswer f near p kept) Done text e _
-    (run_chrome_text_is_chrome_answer f near p kept c.trace-trace.result.now c.deref-2.result.now c.deref-4.result.now c.in_ok-sights.sights.items c.deref-5.result.now
+    (run_chrome_text_is_chrome_answer f near p kept c.trace-trace.result.now c.deref-2.result.now c.deref-4.result.now c.in_ok-sights.sights.items c.in_ok-sights.sights.items
     c.trace-trace.ensures.value
     (drawn_are_those_of_picture f p.boxes.items c.deref.result.now c.in_ok-drawn.drawn.items c.deref-4.result.now c.deref.ensures.value
     c.in_ok-drawn.ensures c.deref-4.ensures.value)
-    c.deref-2.ensures.value c.in_ok-sights.ensures c.deref-5.ensures.value)
-    (stops_in_second e _ _ _ c.in_ok-text.text.items slices (all_arrows 0 c.deref-5.result.now) chrome_end _
-    (four_parts_are_chrome f.recorded c.trace-trace.result.now near c.deref-3.result.now p.ends.items c.deref-5.result.now c.in_ok-text.text.items slices slices
+    c.deref-2.ensures.value c.in_ok-sights.ensures refl)
+    (stops_in_second e _ _ _ c.in_ok-text.text.items slices (all_arrows 0 c.in_ok-sights.sights.items) chrome_end _
+    (four_parts_are_chrome f.recorded c.trace-trace.result.now near c.deref-3.result.now p.ends.items c.in_ok-sights.sights.items c.in_ok-text.text.items slices slices
     chrome_end c.in_ok-text.ensures c.trace-trace.ensures.value c.deref-3.ensures.value refl refl)
     c.in_err-write_slices.ensures.fails))
 
@@ -120,7 +120,7 @@ returns-in_err-write_last-clause-fails g c =
     (drawn_are_those_of_picture f p.boxes.items c.deref.result.now c.in_ok-drawn.drawn.items c.deref-4.result.now c.deref.ensures.value
     c.in_ok-drawn.ensures c.deref-4.ensures.value)
     c.deref-2.ensures.value c.in_ok-sights.ensures c.deref-5.ensures.value)
-    (stops_in_last {⊤} (Err e) _ _ _ _ _ c.in_ok-text.text.items slices (all_arrows 0 c.deref-5.result.now) c.as_bytes.result.now _ _ _
+    (stops_in_last {A = ⊤} (Err e) _ _ _ _ _ c.in_ok-text.text.items slices (all_arrows 0 c.deref-5.result.now) c.as_bytes.result.now _ _ _
     (four_parts_are_chrome f.recorded c.trace-trace.result.now near c.deref-3.result.now p.ends.items c.deref-5.result.now c.in_ok-text.text.items slices slices
     c.as_bytes.result.now c.in_ok-text.ensures c.trace-trace.ensures.value c.deref-3.ensures.value refl (c.as_bytes.ensures.value ∙ c.chrome_end.ensures))
     c.in_ok-write_slices.ensures.ok c.in_ok-write_arrows.ensures.ok c.in_err-write_last.ensures.fails))
@@ -140,7 +140,7 @@ returns-clause-ok g c =
     (drawn_are_those_of_picture f p.boxes.items c.deref.result.now c.in_ok-drawn.drawn.items c.deref-4.result.now c.deref.ensures.value
     c.in_ok-drawn.ensures c.deref-4.ensures.value)
     c.deref-2.ensures.value c.in_ok-sights.ensures c.deref-5.ensures.value)
-    (four_texts_are_appended {⊤} {PastErr} (Ok tt) _ _ _ _ c.in_ok-text.text.items slices (all_arrows 0 c.deref-5.result.now) c.as_bytes.result.now _ _ _
+    (four_texts_are_appended {A = ⊤} {E = PastErr} (Ok tt) _ _ _ _ c.in_ok-text.text.items slices (all_arrows 0 c.deref-5.result.now) c.as_bytes.result.now _ _ _
     (four_parts_are_chrome f.recorded c.trace-trace.result.now near c.deref-3.result.now p.ends.items c.deref-5.result.now c.in_ok-text.text.items slices slices
     c.as_bytes.result.now c.in_ok-text.ensures c.trace-trace.ensures.value c.deref-3.ensures.value refl (c.as_bytes.ensures.value ∙ c.chrome_end.ensures))
     c.in_ok-write_slices.ensures.ok c.in_ok-write_arrows.ensures.ok c.in_ok-write_last.ensures.ok)
