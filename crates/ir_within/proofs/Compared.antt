@@ -1,5 +1,5 @@
 -- Outcomes that are compared one by one.
-use Rattle.std.proofs.Common.{◌≡◌, ℕ, ◌<◌, Bool, true, false, List, [], ◌∷◌, ◌++◌, Some, length, length-append, refl, sym, ap, ◌∙◌, subst, arith, inl, inr}
+use Rattle.std.proofs.Common.{◌≡◌, ℕ, not, ◌<◌, Bool, true, false, List, [], ◌∷◌, ◌++◌, Some, length, length-append, refl, sym, ap, ◌∙◌, subst, arith, inl, inr}
 use Rattle.std.specs.Prelude.{slice_get, Result, Ok, Err, IfOk}
 use Rattle.std.proofs.lemmas.Option.{same_Some, slice_get_within}
 use Rattle.ir_lemmas.proofs.CallerLemmas.{added_element_is_last, element_below_length, slice_get-push_cases, slice_get_append_kept}
@@ -29,6 +29,16 @@ on_ok_of_both P Q R (Err e) f p q = tt
 -- the same state at the same place
 shown_once : (flats : List SourcedFlat) (x y : Shown) (s u : SourcedFlat) → x ≡ y → slice_get flats x.node ≡ Some s → slice_get flats y.node ≡ Some u → s ≡ u
 shown_once flats x y s u e one other = same_Some s u (sym one ∙ ap (λ (z : Shown). slice_get flats z.node) e ∙ other)
+
+-- ---- truth
+
+pub true_if_not_false : (b : Bool) → not b ≡ false → b ≡ true
+true_if_not_false true e = refl
+true_if_not_false false e = absurd (cc e)
+
+pub false_if_not_true : (b : Bool) → not b ≡ true → b ≡ false
+false_if_not_true true e = absurd (cc e)
+false_if_not_true false e = refl
 
 -- ---- what counts of each
 

@@ -1,5 +1,5 @@
 -- Classes of outcomes: the first of each, and what it stands for.
-use Rattle.std.proofs.Common.{◌≡◌, ◌∙◌, ◌<◌, ℕ, Bool, true, false, List, [], ◌∷◌, ◌++◌, Some, length, length-append, refl, sym, ap, subst, arith, inl, inr}
+use Rattle.std.proofs.Common.{◌≡◌, ◌∙◌, ◌<◌, ℕ, zero, suc, Bool, true, false, List, [], ◌∷◌, ◌++◌, Some, length, take, map, length-append, refl, sym, ap, subst, arith, inl, inr}
 use Rattle.std.specs.Prelude.{◌≤◌, slice_get}
 use Rattle.std.proofs.lemmas.Bool.{cases_lt}
 use Rattle.std.proofs.lemmas.Option.{same_Some, slice_get_within}
@@ -18,12 +18,35 @@ use Rattle.ir_state_store.specs.Nodes.{SourcedFlat}
 use Rattle.ir_explore.specs.Plan.{ExplorePlan, setup_of}
 use Rattle.ir_explore.specs.Texts.{Known, AreKnown}
 use Rattle.ir_within.specs.Aspects.{Aspects, seen, what_counts}
-use Rattle.ir_within.specs.Classes.{AreFirstSeen, AreClasses, HasEarlier}
+use Rattle.ir_explore.specs.Faults.{HasNoGuest}
+use Rattle.ir_explore.specs.declared.fault.ExploreFault.{ExploreFault}
+use Rattle.ir_explore.specs.declared.fault.ExploreFault.TheVariants.{Image, TooLarge, NoMem, Write}
+use Rattle.ir_files.specs.Writers.{Writer}
+use Rattle.ir_within.specs.Classes.{AreFirstSeen, AreClasses, HasEarlier, HasNoClasses}
 use Rattle.ir_within.specs.Judging.{AreSeen}
 use Rattle.ir_within.specs.Laws.{HasFirst, EachClassIsListed, ClassHasFewest}
 use Rattle.ir_within.proofs.Compared.{seen_by_state}
 
 -- ---- marks
+
+-- an element of the first ones is an element, before that many
+pub element_of_take : {A : Type 0} (n j : ℕ) (xs : List A) (x : A) → slice_get (take n xs) j ≡ Some x → (j < n) × (slice_get xs j ≡ Some x)
+element_of_take zero j xs x e = absurd (cc e)
+element_of_take (suc n) j [] x e = absurd (cc e)
+element_of_take (suc n) zero (y ∷ xs) x e = (omega arith, e)
+element_of_take (suc n) (suc j) (y ∷ xs) x e = let p = element_of_take n j xs x e in let b = p.0 in (omega (arith, b), p.1)
+
+-- and back
+pub element_in_take : {A : Type 0} (n j : ℕ) (xs : List A) (x : A) → j < n → slice_get xs j ≡ Some x → slice_get (take n xs) j ≡ Some x
+element_in_take zero j xs x less e = absurd (omega (arith, less))
+element_in_take (suc n) j [] x less e = absurd (cc e)
+element_in_take (suc n) zero (y ∷ xs) x less e = e
+element_in_take (suc n) (suc j) (y ∷ xs) x less e = element_in_take n j xs x (omega (arith, less)) e
+
+pub map_of_take : {A B : Type 0} (f : A → B) (n : ℕ) (xs : List A) → map f (take n xs) ≡ take n (map f xs)
+map_of_take f zero xs = refl
+map_of_take f (suc n) [] = refl
+map_of_take f (suc n) (x ∷ xs) = ap (λ ys. f x ∷ ys) (map_of_take f n xs)
 
 -- one more: whether an earlier one is equal
 pub one_more_first : (all : List EndState) (n : ℕ) (firsts : List Bool) (x : EndState) (mark : Bool) → AreFirstSeen all n firsts → slice_get all n ≡ Some x
@@ -89,14 +112,15 @@ first_of_listed a guest k firsts are zero i less x s at = absurd (omega (arith, 
 first_of_listed a guest k firsts are (suc bound) i less x s at =
     let size : i < length firsts = (let b = slice_get_within k.outcomes i x at.0 in let n = are.count in omega (arith, b, n)) in
     let mark = element_below_length firsts i size in
-    by_mark mark.0 mark.1
+    by_mark mark.0 mark.1 (λ j y u before there. first_of_listed a guest k firsts are bound j (omega (arith, before, less)) y u there)
   where
-    by_mark : (b : Bool) → slice_get firsts i ≡ Some b → HasFirst a guest k firsts (run_outcome (tables s.flat))
-    by_mark true marked = (i, x, s, at, marked, refl)
-    by_mark false marked =
+    by_mark : (b : Bool) → slice_get firsts i ≡ Some b
+        → ((j : ℕ) (y : Shown) (u : SourcedFlat) → j < i → ShowsState k.flats k.outcomes j y u → HasFirst a guest k firsts (run_outcome (tables u.flat)))
+        → HasFirst a guest k firsts (run_outcome (tables s.flat))
+    by_mark true marked earlier = (i, x, s, at, marked, refl)
+    by_mark false marked earlier =
         let found = are.later i x s at marked in
-        let earlier = found.3 in
-        let first = first_of_listed a guest k firsts are bound found.0 (omega (arith, earlier, less)) found.1 found.2 found.4 in
+        let first = earlier found.0 found.1 found.2 found.3 found.4 in
         (first.0, first.1, first.2, first.3, first.4, found.5 ∙ first.5)
 
 pub each_class_is_listed : EachClassIsListed
@@ -117,7 +141,7 @@ class_has_fewest a guest plan k firsts known are over i y s at marked budget ste
       | inr not ↦ after listed.0 listed.1 listed.3.0 not fewest
     ]
   where
-    after : (j : ℕ) (z : Shown) → slice_get k.outcomes j ≡ Some z → (j < i → ⊥) → z.level ≤ switches_by (setup_of guest plan) budget steps
+    after : (j : ℕ) (z : Shown) → slice_get k.outcomes j ≡ Some z → i ≤ j → z.level ≤ switches_by (setup_of guest plan) budget steps
         → y.level ≤ switches_by (setup_of guest plan) budget steps
     after j z there not few = elim (cases_lt i j) [
       | inl later ↦ let low = known.explored.rising i j y z at.0 there later in omega (arith, low, few)
@@ -126,3 +150,12 @@ class_has_fewest a guest plan k firsts known are over i y s at marked budget ste
           let own : y ≡ z = same_Some y z (sym at.0 ∙ ap (slice_get k.outcomes) place ∙ there) in
           subst (λ (w : Shown). w.level ≤ switches_by (setup_of guest plan) budget steps) (sym own) few
     ]
+
+-- ---- faults
+
+pub no_guest_no_classes : (e : ExploreFault) (image : List ℕ) (plan : ExplorePlan) (a : Aspects) (w : Writer) → HasNoGuest e image plan w
+    → HasNoClasses e image plan a w
+no_guest_no_classes (Image e) image plan a w none = none
+no_guest_no_classes TooLarge image plan a w none = none
+no_guest_no_classes NoMem image plan a w none = none
+no_guest_no_classes Write image plan a w none = absurd none

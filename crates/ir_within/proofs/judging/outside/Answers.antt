@@ -7,7 +7,7 @@ use Rattle.ir_within.specs.Aspects.{what_counts}
 use Rattle.ir_within.specs.Judging.{AreCompared}
 use Rattle.ir_within.specs.Plans.{aspects_of}
 use Rattle.ir_within.specs.Seen.{value_of}
-use Rattle.ir_within.proofs.Compared.{one_more_compared}
+use Rattle.ir_within.proofs.Compared.{one_more_compared, true_if_not_false, false_if_not_true}
 use Rattle.ir_within.proofs.judging.outside.Goals as goal
 
 pub state_of-requires : goal.state_of-requires
@@ -16,14 +16,6 @@ state_of-requires c =
     let i = c.loop-shown.shown-index in
     let x = c.shown-item.result in
     c.requires i x (slice_get-get_or xs i x c.loop-shown-test.true ∙ ap Some (sym c.shown-item.is))
-
-true_if_not_false : (b : Bool) → not b ≡ false → b ≡ true
-true_if_not_false true e = refl
-true_if_not_false false e = absurd (cc e)
-
-false_if_not_true : (b : Bool) → not b ≡ true → b ≡ false
-false_if_not_true true e = absurd (cc e)
-false_if_not_true false e = refl
 
 pub loop-shown-preserved : goal.loop-shown-preserved
 loop-shown-preserved c =
