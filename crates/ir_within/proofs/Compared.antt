@@ -36,10 +36,6 @@ pub true_if_not_false : (b : Bool) → not b ≡ false → b ≡ true
 true_if_not_false true e = refl
 true_if_not_false false e = absurd (cc e)
 
-pub false_if_not_true : (b : Bool) → not b ≡ true → b ≡ false
-false_if_not_true true e = absurd (cc e)
-false_if_not_true false e = refl
-
 -- ---- what counts of each
 
 pub none_seen : (a : Aspects) (flats : List SourcedFlat) → AreSeen a flats [] []

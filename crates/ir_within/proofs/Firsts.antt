@@ -1,5 +1,5 @@
 -- Classes of outcomes: the first of each, and what it stands for.
-use Rattle.std.proofs.Common.{◌≡◌, ◌∙◌, ◌<◌, ℕ, zero, suc, Bool, true, false, List, [], ◌∷◌, ◌++◌, Some, length, take, map, length-append, refl, sym, ap, subst, arith, inl, inr}
+use Rattle.std.proofs.Common.{◌≡◌, ◌∙◌, ◌<◌, ℕ, zero, suc, Bool, true, false, List, [], ◌∷◌, ◌++◌, Some, length, take, length-append, refl, sym, ap, subst, arith, inl, inr}
 use Rattle.std.specs.Prelude.{◌≤◌, slice_get}
 use Rattle.std.proofs.lemmas.Bool.{cases_lt}
 use Rattle.std.proofs.lemmas.Option.{same_Some, slice_get_within}
@@ -23,30 +23,24 @@ use Rattle.ir_explore.specs.declared.fault.ExploreFault.{ExploreFault}
 use Rattle.ir_explore.specs.declared.fault.ExploreFault.TheVariants.{Image, TooLarge, NoMem, Write}
 use Rattle.ir_files.specs.Writers.{Writer}
 use Rattle.ir_within.specs.Classes.{AreFirstSeen, AreClasses, HasEarlier, HasNoClasses}
-use Rattle.ir_within.specs.Judging.{AreSeen}
+use Rattle.ir_within.specs.Judging.{AreSeen, HasSame}
 use Rattle.ir_within.specs.Laws.{HasFirst, EachClassIsListed, ClassHasFewest}
 use Rattle.ir_within.proofs.Compared.{seen_by_state}
 
 -- ---- marks
 
--- an element of the first ones is an element, before that many
-pub element_of_take : {A : Type 0} (n j : ℕ) (xs : List A) (x : A) → slice_get (take n xs) j ≡ Some x → (j < n) × (slice_get xs j ≡ Some x)
-element_of_take zero j xs x e = absurd (cc e)
-element_of_take (suc n) j [] x e = absurd (cc e)
-element_of_take (suc n) zero (y ∷ xs) x e = (omega arith, e)
-element_of_take (suc n) (suc j) (y ∷ xs) x e = let p = element_of_take n j xs x e in let b = p.0 in (omega (arith, b), p.1)
+-- one of the first that is equal is an earlier one
+pub same_is_earlier : (all : List EndState) (n : ℕ) (x : EndState) → HasSame (take n all) x → (j : ℕ) × (j < n) × (slice_get all j ≡ Some x)
+same_is_earlier all zero x (j, e) = absurd (cc e)
+same_is_earlier [] (suc n) x (j, e) = absurd (cc e)
+same_is_earlier (y ∷ all) (suc n) x (zero, e) = (zero, omega arith, e)
+same_is_earlier (y ∷ all) (suc n) x (suc j, e) = let p = same_is_earlier all n x (j, e) in let b = p.1 in (suc p.0, omega (arith, b), p.2)
 
--- and back
-pub element_in_take : {A : Type 0} (n j : ℕ) (xs : List A) (x : A) → j < n → slice_get xs j ≡ Some x → slice_get (take n xs) j ≡ Some x
-element_in_take zero j xs x less e = absurd (omega (arith, less))
-element_in_take (suc n) j [] x less e = absurd (cc e)
-element_in_take (suc n) zero (y ∷ xs) x less e = e
-element_in_take (suc n) (suc j) (y ∷ xs) x less e = element_in_take n j xs x (omega (arith, less)) e
-
-pub map_of_take : {A B : Type 0} (f : A → B) (n : ℕ) (xs : List A) → map f (take n xs) ≡ take n (map f xs)
-map_of_take f zero xs = refl
-map_of_take f (suc n) [] = refl
-map_of_take f (suc n) (x ∷ xs) = ap (λ ys. f x ∷ ys) (map_of_take f n xs)
+pub earlier_is_same : (all : List EndState) (n : ℕ) (x : EndState) (j : ℕ) → j < n → slice_get all j ≡ Some x → HasSame (take n all) x
+earlier_is_same all zero x j less e = absurd (omega (arith, less))
+earlier_is_same [] (suc n) x j less e = absurd (cc e)
+earlier_is_same (y ∷ all) (suc n) x zero less e = (zero, e)
+earlier_is_same (y ∷ all) (suc n) x (suc j) less e = let p = earlier_is_same all n x j (omega (arith, less)) e in (suc p.0, p.1)
 
 -- one more: whether an earlier one is equal
 pub one_more_first : (all : List EndState) (n : ℕ) (firsts : List Bool) (x : EndState) (mark : Bool) → AreFirstSeen all n firsts → slice_get all n ≡ Some x

@@ -1,12 +1,15 @@
 use Rattle.std.proofs.Common.{◌≡◌, ◌<◌, ◌+◌, ◌∙◌, ◌∷◌, [], ◌++◌, ℕ, suc, Some, Bool, true, false, length, map, not, take, refl, sym, ap, subst, arith}
 use Rattle.std.specs.Prelude.{slice_get}
 use Rattle.std.specs.Option.{option_map}
+use Rattle.std.proofs.lemmas.List.{take-map}
 use Rattle.std.proofs.lemmas.Option.{slice_get-get_or, slice_get-map}
 use Rattle.ir_schedule.specs.Conditions.{EndState}
 use Rattle.ir_within.specs.Classes.{AreFirstSeen}
+use Rattle.ir_within.specs.Judging.{HasSame}
 use Rattle.ir_within.specs.Seen.{value_of}
-use Rattle.ir_within.proofs.Firsts.{one_more_first, element_of_take, element_in_take, map_of_take}
-use Rattle.ir_within.proofs.Compared.{true_if_not_false, false_if_not_true}
+use Rattle.ir_within.proofs.Firsts.{one_more_first, same_is_earlier, earlier_is_same}
+use Rattle.ir_lemmas.proofs.CallerLemmas.{false_if_not_is_true}
+use Rattle.ir_within.proofs.Compared.{true_if_not_false}
 use Rattle.ir_within.proofs.classes.firsts.Goals as goal
 
 pub loop-i-preserved : goal.loop-i-preserved
@@ -26,11 +29,7 @@ loop-i-preserved c =
     subst (λ n. AreFirstSeen values n c.push.new.self.items) next
     (subst (AreFirstSeen values (suc i)) (sym c.in_ok-push.ensures.items)
     (one_more_first values i marks x (not known) c.loop-i.invariant at
-    (λ e.
-    let same = c.has_same-is_known.ensures.some (true_if_not_false known e) in
-    let found = element_of_take i same.0 values x (subst (λ ys. slice_get ys same.0 ≡ Some x) (map_of_take value_of i all) same.1) in
-    (same.0, found.0, found.1))
-    (λ e j before equal. c.has_same-is_known.ensures.none (false_if_not_true known e) (
-      j,
-      subst (λ ys. slice_get ys j ≡ Some x) (sym (map_of_take value_of i all)) (element_in_take i j values x before equal),
-    ))))
+    (λ e. same_is_earlier values i x
+    (subst (λ ys. HasSame ys x) (sym (take-map value_of i all)) (c.has_same-is_known.ensures.some (true_if_not_false known e))))
+    (λ e j before equal. c.has_same-is_known.ensures.none (false_if_not_is_true known e)
+    (subst (λ ys. HasSame ys x) (take-map value_of i all) (earlier_is_same values i x j before equal)))))

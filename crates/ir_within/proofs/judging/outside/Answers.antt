@@ -7,7 +7,8 @@ use Rattle.ir_within.specs.Aspects.{what_counts}
 use Rattle.ir_within.specs.Judging.{AreCompared}
 use Rattle.ir_within.specs.Plans.{aspects_of}
 use Rattle.ir_within.specs.Seen.{value_of}
-use Rattle.ir_within.proofs.Compared.{one_more_compared, true_if_not_false, false_if_not_true}
+use Rattle.ir_lemmas.proofs.CallerLemmas.{false_if_not_is_true}
+use Rattle.ir_within.proofs.Compared.{one_more_compared, true_if_not_false}
 use Rattle.ir_within.proofs.judging.outside.Goals as goal
 
 pub state_of-requires : goal.state_of-requires
@@ -35,4 +36,4 @@ loop-shown-preserved c =
     (subst (AreCompared a flats (take i xs ++ x ∷ []) others) (sym c.in_ok-push.ensures.items)
     (one_more_compared a flats (take i xs) others marks x s (value_of own) mark c.loop-shown.invariant c.in_ok-state.ensures.value c.in_ok-state.ensures.flat is
     (λ e. c.has_same.ensures.some (true_if_not_false c.has_same.result e))
-    (λ e. c.has_same.ensures.none (false_if_not_true c.has_same.result e))))
+    (λ e. c.has_same.ensures.none (false_if_not_is_true c.has_same.result e))))
