@@ -1,6 +1,6 @@
 //! `ir hunt`: the first of many seeds whose run fulfils conditions is recorded.
 
-ghost use Rattle.std.specs.Prelude.{◌≡◌, None, false};
+ghost use Rattle.std.specs.Prelude.{◌≡◌, false};
 
 use crate::conditions::conditions_of;
 use crate::ends::recorded_status;
@@ -11,7 +11,6 @@ use ir_arguments::HuntArguments;
 use ir_files::{ExitStatus, Folder};
 use ir_hunt::{HuntPlan, hunt_run};
 use ir_record_command::ParsedImage;
-use ir_schedule::Condition;
 use ir_stream::Sink;
 use ir_trace::Trace;
 use std::thread::Threads;
@@ -25,34 +24,6 @@ fn paths(arguments: &HuntArguments) -> RecordingPaths<'_> {
         input: arguments.options.input.as_ref(),
         list: None,
         output: arguments.options.output.as_ref(),
-    }
-}
-
-// What is hunted, and how: what the arguments say, of a guest that reads these bytes.
-fn plan_of<'a>(
-    arguments: &HuntArguments,
-    conditions: &'a [Condition<'a>],
-    input: &'a [u8],
-    explains: bool,
-) -> HuntPlan<'a>
-    ensures record { result.record ≡ record { order = None; budget = arguments.now.options.budget; random = arguments.now.options.random; input = input.now; profile = arguments.now.options.profile } }
-    ensures way { result.way ≡ arguments.now.way }
-    ensures seeds { result.seeds ≡ arguments.now.seeds }
-    ensures conditions { result.conditions.now ≡ conditions.now }
-    ensures stale { result.stale ≡ arguments.now.stale }
-    ensures jobs { result.jobs ≡ arguments.now.jobs }
-    ensures seconds { result.seconds ≡ arguments.now.seconds }
-    ensures shown { result.is_shown ≡ explains }
-{
-    HuntPlan {
-        record: arguments.options.plan(None, input),
-        way: arguments.way,
-        seeds: arguments.seeds,
-        conditions,
-        stale: arguments.stale,
-        jobs: arguments.jobs,
-        seconds: arguments.seconds,
-        is_shown: explains,
     }
 }
 
@@ -117,7 +88,16 @@ where
         trace: paths.trace,
         outputs: outputs.as_ref().map(|each| each.as_slice()),
     };
-    let plan = plan_of(arguments, conditions.as_slice(), input.as_slice(), explains);
+    let plan = HuntPlan {
+        record: arguments.options.plan(None, input.as_slice()),
+        way: arguments.way,
+        seeds: arguments.seeds,
+        conditions: conditions.as_slice(),
+        stale: arguments.stale,
+        jobs: arguments.jobs,
+        seconds: arguments.seconds,
+        is_shown: explains,
+    };
     let found = hunted_into(around, places, &image, &plan, out, faults);
     recorded_status(alloc, found, explains, faults)
 }

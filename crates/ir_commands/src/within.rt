@@ -7,8 +7,9 @@ use crate::files::{image_in, say};
 use crate::recording::input_of;
 use crate::surroundings::Surroundings;
 use ir_arguments::{ClassesArguments, Counted, WithinArguments};
-use ir_explore::{ExplorePlan, guest_of};
+use ir_explore::guest_of;
 use ir_files::{ExitStatus, Folder};
+use ir_image::Image;
 use ir_record_command::ParsedImage;
 use ir_search::Observer;
 use ir_stream::Sink;
@@ -24,20 +25,19 @@ fn aspects_of(counted: &Counted) -> Aspects<'_> {
     }
 }
 
-// Whether a guest, if it is one that can be explored, lacks an object whose words count; that is reported.
+// Whether a guest lacks an object whose words count; that is reported.
 fn lacks_object<E: Sink>(
     alloc: Global,
-    explore: &ExplorePlan<'_>,
-    aspects: Aspects<'_>,
-    image: &ParsedImage<'_>,
+    guest: &Image,
+    counted: &Counted,
     path: &str,
     faults: &mut E,
 ) -> bool {
-    let Ok(guest) = guest_of(image, explore) else {
+    let Some(objects) = &counted.objects else {
         return false;
     };
-    let objects = aspects.objects.unwrap_or_default();
     let Some(lacking) = objects
+        .as_slice()
         .iter()
         .find(|object| usize::from(**object) >= guest.object_count())
     else {
@@ -47,6 +47,45 @@ fn lacks_object<E: Sink>(
         say(faults, path, ": ", why.as_str());
     }
     true
+}
+
+// The same of one of the guests of a comparison, if it is one that can be explored.
+fn lacks_counted<W, E: Sink>(
+    alloc: Global,
+    plan: &WithinPlan<'_, '_, '_, W>,
+    image: &ParsedImage<'_>,
+    counted: &Counted,
+    path: &str,
+    faults: &mut E,
+) -> bool {
+    match guest_of(image, &plan.explore) {
+        Ok(guest) => lacks_object(alloc, guest, counted, path, faults),
+        Err(_) => false,
+    }
+}
+
+// The bytes of the images of two guests.
+#[derive(Drop)]
+struct BothFiles {
+    image: Vec<u8>,
+    other: Vec<u8>,
+}
+
+// The images of two guests, as far as their bytes are any.
+#[derive(Drop)]
+struct BothImages<'i> {
+    image: ParsedImage<'i>,
+    other: ParsedImage<'i>,
+}
+
+fn both_images(alloc: Global, files: &BothFiles) -> BothImages<'_>
+    ensures image { result.image.now ≡ files.now.image.items }
+    ensures other { result.other.now ≡ files.now.other.items }
+{
+    BothImages {
+        image: ParsedImage::new(alloc, files.image.as_slice()),
+        other: ParsedImage::new(alloc, files.other.as_slice()),
+    }
 }
 
 // Compares the outcomes of the guests in two files.
@@ -78,25 +117,20 @@ where
     let Some(input) = input_of(alloc, folder, faults, arguments.explore.input.as_ref()) else {
         return ExitStatus::Failed;
     };
-    let image = ParsedImage::new(alloc, image.as_slice());
-    let other = ParsedImage::new(alloc, other.as_slice());
+    let files = BothFiles { image, other };
+    let both = both_images(alloc, &files);
+    let explore = plan_of(&arguments.explore, input.as_slice());
+    let counted = &arguments.counted;
     let plan = WithinPlan {
-        image: &image,
-        other: &other,
-        explore: plan_of(&arguments.explore, input.as_slice()),
-        aspects: aspects_of(&arguments.counted),
+        image: &both.image,
+        other: &both.other,
+        explore,
+        aspects: aspects_of(counted),
         observer: around.gate,
     };
-    let (explore, aspects) = (&plan.explore, plan.aspects);
-    if lacks_object(alloc, explore, aspects, &image, path, faults)
-        || lacks_object(
-            alloc,
-            explore,
-            aspects,
-            &other,
-            arguments.other.as_str(),
-            faults,
-        )
+    let other_path = arguments.other.as_str();
+    if lacks_counted(alloc, &plan, &both.image, counted, path, faults)
+        || lacks_counted(alloc, &plan, &both.other, counted, other_path, faults)
     {
         return ExitStatus::BadArguments;
     }
@@ -129,14 +163,18 @@ where
         return ExitStatus::Failed;
     };
     let image = ParsedImage::new(alloc, image.as_slice());
+    let explore = plan_of(&arguments.explore, input.as_slice());
+    let counted = &arguments.counted;
+    if let Ok(guest) = guest_of(&image, &explore) {
+        if lacks_object(alloc, guest, counted, path, faults) {
+            return ExitStatus::BadArguments;
+        }
+    }
     let plan = ClassesPlan {
         image: &image,
-        explore: plan_of(&arguments.explore, input.as_slice()),
-        aspects: aspects_of(&arguments.counted),
+        explore,
+        aspects: aspects_of(counted),
         observer: around.gate,
     };
-    if lacks_object(alloc, &plan.explore, plan.aspects, &image, path, faults) {
-        return ExitStatus::BadArguments;
-    }
     classes_run(alloc, &plan, out, faults)
 }
