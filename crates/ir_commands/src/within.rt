@@ -78,10 +78,7 @@ struct BothImages<'i> {
     other: ParsedImage<'i>,
 }
 
-fn both_images(alloc: Global, files: &BothFiles) -> BothImages<'_>
-    ensures image { result.image.now ≡ files.now.image.items }
-    ensures other { result.other.now ≡ files.now.other.items }
-{
+fn both_images(alloc: Global, files: &BothFiles) -> BothImages<'_> {
     BothImages {
         image: ParsedImage::new(alloc, files.image.as_slice()),
         other: ParsedImage::new(alloc, files.other.as_slice()),
