@@ -32,7 +32,9 @@ fn lacks_object<E: Sink>(
     counted: &Counted,
     path: &str,
     faults: &mut E,
-) -> bool {
+) -> bool
+    ensures kept { result ≡ false → faults.new ≡ faults.old }
+{
     let Some(objects) = &counted.objects else {
         return false;
     };
@@ -57,7 +59,9 @@ fn lacks_counted<W, E: Sink>(
     counted: &Counted,
     path: &str,
     faults: &mut E,
-) -> bool {
+) -> bool
+    ensures kept { result ≡ false → faults.new ≡ faults.old }
+{
     match guest_of(image, &plan.explore) {
         Ok(guest) => lacks_object(alloc, guest, counted, path, faults),
         Err(_) => false,
