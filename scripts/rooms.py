@@ -4,7 +4,7 @@
 python3 scripts/rooms.py
 
 Of another crate's proofs a file may cite what its `proofs/CallerLemmas.antt` offers, and nothing else; no other module
-of `proofs/` is public; a crate stands in crates.txt on each crate that its files name; the texts of ir_tests'
+of `proofs/` is public; a crate stands in crates.txt on each crate that its files name; what a tactic names is there; the texts of ir_tests'
 `examples.rt` are those of the files of `examples`, since a test can read no file; the manual page and docs/reference agree with the texts of
 `--help`; the literals of the page of `ir view` are those of page/view.html; docs/internals names and counts what is there (scripts/definitions.py,
 scripts/facts.py); no lemma statement stands in two crates, and no line of src, specs and proofs has more than 200 characters
@@ -13,6 +13,7 @@ no line that isn't read, and writes no name that its file doesn't have.
 """
 import re
 import sys
+from functools import cache
 from pathlib import Path
 
 import definitions
@@ -39,6 +40,9 @@ FUNCTION = re.compile(r"\bfn (\w+)\s*(?:<[^(]*>)?\(")
 MOST_PARAMETERS, MANY_PARAMETERS, MOST_WIDE = 7, 6, 3
 EXAMPLES = TOP / "crates" / "ir_tests" / "src" / "examples.rt"
 TEXT = re.compile(r'^pub const (\w+): &str =\s+"([^"]*)";', re.MULTILINE)
+# What a tactic of the code unfolds or uses, by its path; and what a file of specs/ or proofs/ offers under a name.
+TACTIC = re.compile(r"\b(?:unfolding|using)\(([^)]*)\)")
+OFFERS = re.compile(r"^pub use [^{;]*\.\{([^}]*)\}|^(?:unfoldable |abbrev )*pub (?:(?:data|record|trait) )?([^\s:]+)", re.MULTILINE)
 
 
 def files_of(crate):
@@ -76,6 +80,25 @@ def faults():
         for module in public:
             if module != OFFERED:
                 yield f"{lib.relative_to(TOP)}: module {module} is public"
+
+
+@cache
+def offered(path):
+    """The names that a file of specs/ or proofs/ offers."""
+    found = OFFERS.findall(path.read_text(encoding="utf-8"))
+    return {name for _, name in found} | {name.split(" as ")[-1].strip() for names, _ in found for name in names.split(",")}
+
+
+def unknown_tactics():
+    """Each name that a tactic unfolds or uses and that its file doesn't offer, as a line."""
+    for path in sorted((TOP / "crates").glob("*/src/**/*.rt")):
+        crate = path.relative_to(TOP / "crates").parts[0]
+        for names in TACTIC.findall(path.read_text(encoding="utf-8")):
+            for name in filter(None, map(str.strip, names.split(","))):
+                *modules, last = name.split("::")
+                room = TOP / "crates" / (crate if modules[0] == "crate" else modules[0])
+                if room.is_dir() and last not in offered(room.joinpath(*modules[1:]).with_suffix(".antt")):
+                    yield f"{path.relative_to(TOP)}: a tactic names {name}, which isn't there"
 
 
 def examples():
@@ -156,7 +179,7 @@ def wide_functions():
 
 
 def main():
-    found = [*faults(), *wide_functions(), *examples(), *differences(), *completion_differences(), *page_differences(), *bad_edits(), *definitions.faults(), *facts.differences(), *statements.copies(), *statements.long_lines()]
+    found = [*faults(), *unknown_tactics(), *wide_functions(), *examples(), *differences(), *completion_differences(), *page_differences(), *bad_edits(), *definitions.faults(), *facts.differences(), *statements.copies(), *statements.long_lines()]
     print("\n".join(found) or "rooms: each crate cites what the others offer; examples, help and definitions agree with the pages; the edits apply")
     return 1 if found else 0
 
