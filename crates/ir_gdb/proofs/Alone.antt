@@ -12,21 +12,23 @@ use Rattle.ir_command.specs.declared.command.Direction.TheVariants.{Forwards, Ba
 use Rattle.ir_command.specs.declared.command.Move.TheVariants as move
 use Rattle.ir_command.specs.declared.hit.Hit.{Hit}
 use Rattle.ir_hits.specs.Hits.{IsFirstHit, IsLastHit}
+use Rattle.ir_gdb.specs.Guards.{place_of}
 use Rattle.ir_hits.specs.Searching.{IsNextHit}
 use Rattle.ir_debug.specs.Machine.{stop_of}
 use Rattle.ir_packet.specs.declared.reply.Reason.{Reason}
 use Rattle.ir_packet.specs.declared.request.Motion.TheVariants as motion
-use Rattle.ir_gdb.specs.declared.point.Breakpoint.{Breakpoint}
+use Rattle.ir_gdb.specs.Guards.{Guarded}
 use Rattle.ir_gdb.specs.declared.point.Watched.{Watched}
 use Rattle.ir_gdb.specs.declared.stopped.Stopped.{Stopped}
-use Rattle.ir_gdb.specs.Points.{watch_points, break_points, points_upwards, points_downwards}
-use Rattle.ir_gdb.specs.Stub.{Stub}
-use Rattle.ir_gdb.specs.Stops.{stopped, position_of, watches_if, break_reason, watch_reason, WatchNext, StepsBy, after_step, StepsBackBy}
-use Rattle.ir_gdb.specs.Stops.{after_back, ContinuesBackBy, BackBy, StopsBelow, stop_above, end_above, stop_below, end_below}
+use Rattle.ir_gdb.specs.Points.{watch_points, break_points, points_upwards, points_downwards, watches_if}
+use Rattle.ir_gdb.specs.Stub.{Stub, IsStub}
+use Rattle.ir_gdb.specs.Stops.{stopped, position_of, break_reason, watch_reason, WatchNext, StepsBy, after_step, StepsBackBy, after_back}
+use Rattle.ir_gdb.specs.Stops.{ContinuesBackBy, BackBy, StopsBelow, stop_above, end_above, stop_below, end_below}
 use Rattle.ir_gdb.specs.Together.{Halt, Comes, MovesAlone}
 use Rattle.ir_gdb.specs.Over.{PassesHit, stepped_over, StepsOver, LeadsBy}
 use Rattle.ir_gdb.specs.Laws.{SessionGoes, LeadsLone, StaysWhereItIs}
 use Rattle.ir_gdb.proofs.Finding.{position_in, upwards_as_session, downwards_as_session}
+use Rattle.ir_gdb.proofs.Unguarded.{AreUnguarded, first_stop_is_first_hit, last_stop_is_last_hit}
 
 -- ---- where no watch is set
 
@@ -50,31 +52,31 @@ no_watch_is_next run s t p w why none (hit, next, is) =
 none_is_not_some : {k : ℕ} → ◌≡◌ {A = Option ℕ} None (Some k) → ⊥
 none_is_not_some same = true≢false (ap is_none same)
 
-pub stop_above_is_at_hit : (breaks : List Breakpoint) (h : Hit) → (stop_above [] breaks h).position ≡ h.position
+pub stop_above_is_at_hit : (breaks : List Guarded) (h : Hit) → (stop_above [] breaks h).position ≡ h.position
 stop_above_is_at_hit breaks h = by (nat_lt h.number 0)
     (false_from_ne_true (nat_lt h.number 0) (λ test. let less : h.number < 0 = grind (arith, nat_tests, test) in omega (arith, less)))
   where
-    by : (b : Bool) → b ≡ false → (if b then stopped (h.position - 1) (watch_reason [] h.number) else stopped h.position (break_reason breaks (h.number - 0))).position
+    by : (b : Bool) → b ≡ false → (if b then stopped (h.position - 1) (watch_reason [] h.number) else stopped h.position (break_reason breaks (place_of h.number - 0))).position
         ≡ h.position
     by true is = absurd (true≢false is)
     by false is = refl
 
-end_above_is_stop : (f : FittedTrace) (t : ℕ) (breaks : List Breakpoint) (hit other : Option Hit) → position_in hit ≡ position_in other
+end_above_is_stop : (f : FittedTrace) (t : ℕ) (breaks : List Guarded) (hit other : Option Hit) → position_in hit ≡ position_in other
     → (end_above [] breaks (last_of f t) hit).position ≡ stop_of f t Forwards other
 end_above_is_stop f t breaks None None same = refl
 end_above_is_stop f t breaks None (Some k) same = absurd (none_is_not_some same)
 end_above_is_stop f t breaks (Some h) None same = absurd (none_is_not_some (sym same))
 end_above_is_stop f t breaks (Some h) (Some k) same = stop_above_is_at_hit breaks h ∙ cc same
 
-pub stop_below_is_at_hit : (breaks : List Breakpoint) (h : Hit) → (stop_below [] breaks h).position ≡ h.position
-stop_below_is_at_hit breaks h = by (nat_lt h.number (length breaks))
+pub stop_below_is_at_hit : (breaks : List Guarded) (h : Hit) → (stop_below [] breaks h).position ≡ h.position
+stop_below_is_at_hit breaks h = by (nat_lt (place_of h.number) (length breaks))
   where
-    by : (b : Bool) → (if b then stopped h.position (break_reason breaks h.number) else stopped h.position (watch_reason [] (h.number - length breaks))).position
+    by : (b : Bool) → (if b then stopped h.position (break_reason breaks (place_of h.number)) else stopped h.position (watch_reason [] (h.number - length breaks))).position
         ≡ h.position
     by true = refl
     by false = refl
 
-end_below_is_stop : (f : FittedTrace) (t : ℕ) (breaks : List Breakpoint) (hit other : Option Hit) → position_in hit ≡ position_in other
+end_below_is_stop : (f : FittedTrace) (t : ℕ) (breaks : List Guarded) (hit other : Option Hit) → position_in hit ≡ position_in other
     → (end_below [] breaks hit).position ≡ stop_of f t Backwards other
 end_below_is_stop f t breaks None None same = refl
 end_below_is_stop f t breaks None (Some k) same = absurd (none_is_not_some same)
@@ -92,7 +94,8 @@ continue_as_session run s t h lone = by (subst (λ (b : Bool). LeadsBy b false r
 
     by : MovesAlone run s t motion.Continue h → (h.thread ≡ t) × SessionGoes run s t (command.Continue t Forwards) h.cut
     by (to, (hit, finds, ends), comes, is) =
-        let bare = subst (λ (ws : List Watched). IsFirstHit f run (points_upwards t ws s.breaks s.desk.points) t (position_of s t) hit) lone.watches finds in
+        let first = first_stop_is_first_hit run s t lone.watches lone.conditions lone.is.few (position_of s t) hit finds in
+        let bare = subst (λ (ws : List Watched). IsFirstHit f run (points_upwards t ws s.breaks s.desk.points) t (position_of s t) hit) lone.watches first in
         let found = upwards_as_session run f s.breaks s.desk.points t (position_of s t) (s.desk.last_point + 1) hit bare in
         let at = ap (λ (x : Stopped). x.position) (ends ∙ ap (λ (ws : List Watched). end_above ws s.breaks (last_of f t) hit) lone.watches)
         ∙ end_above_is_stop f t s.breaks hit found.0 found.2 in
@@ -100,11 +103,11 @@ continue_as_session run s t h lone = by (subst (λ (b : Bool). LeadsBy b false r
 
 -- ---- `bc`
 
-stops_below_as_session : (run : List Step) (s : Stub) (t n : ℕ) (to : Stopped) → s.watches ≡ [] → n ≡ position_of s t → ContinuesBackBy run s t true n to
+stops_below_as_session : (run : List Step) (s : Stub) (t n : ℕ) (to : Stopped) → s.watches ≡ [] → AreUnguarded s.breaks → IsStub s → n ≡ position_of s t → ContinuesBackBy run s t true n to
     → (hit : Option Hit) × IsLastHit s.desk.fitted run (s.desk.points ++ break_points t (s.desk.last_point + 1) s.breaks) t (position_of s t) hit
     × (to.position ≡ stop_of s.desk.fitted t Backwards hit)
-stops_below_as_session run s t zero to none here is = (None, λ j n low high. absurd (omega (arith, high, here)), ap (λ (x : Stopped). x.position) is)
-stops_below_as_session run s t (suc p) to none here (why, next, back) = by (subst (λ (w : Option Reason). BackBy run s t true (suc p) w to)
+stops_below_as_session run s t zero to none free stub here is = (None, λ j n low high. absurd (omega (arith, high, here)), ap (λ (x : Stopped). x.position) is)
+stops_below_as_session run s t (suc p) to none free stub here (why, next, back) = by (subst (λ (w : Option Reason). BackBy run s t true (suc p) w to)
     (no_watch_is_next run s t p true why none next) back)
   where
     f : FittedTrace
@@ -114,7 +117,8 @@ stops_below_as_session run s t (suc p) to none here (why, next, back) = by (subs
         × IsLastHit s.desk.fitted run (s.desk.points ++ break_points t (s.desk.last_point + 1) s.breaks) t (position_of s t) hit
         × (to.position ≡ stop_of s.desk.fitted t Backwards hit)
     by (hit, finds, ends) =
-        let bare = subst (λ (ws : List Watched). IsLastHit f run (points_downwards t ws s.breaks s.desk.points) t (position_of s t) hit) none finds in
+        let last = last_stop_is_last_hit run s t none free stub.few (position_of s t) hit finds in
+        let bare = subst (λ (ws : List Watched). IsLastHit f run (points_downwards t ws s.breaks s.desk.points) t (position_of s t) hit) none last in
         let found = downwards_as_session run f s.breaks s.desk.points t (position_of s t) (s.desk.last_point + 1) hit bare in (
           found.0,
           found.1,
@@ -128,7 +132,7 @@ continue_back_as_session run s t h lone = by (subst (λ (b : Bool). LeadsBy b fa
   where
     by : MovesAlone run s t motion.ContinueBack h → (h.thread ≡ t) × SessionGoes run s t (command.Continue t Backwards) h.cut
     by (to, moves, comes, is) =
-        let found = stops_below_as_session run s t (position_of s t) to lone.watches refl moves in
+        let found = stops_below_as_session run s t (position_of s t) to lone.watches lone.conditions lone.is refl moves in
         (ap (λ (x : Halt). x.thread) is, (_, (h.cut, found.0, (found.1, subst (λ (k : ℕ). Comes run s Backwards t k h.cut) found.2 comes), (refl, refl))))
 
 -- ---- `bs`

@@ -15,7 +15,7 @@ use Rattle.ir_command.specs.declared.command.Direction.{Direction}
 use Rattle.ir_command.specs.declared.command.Direction.TheVariants.{Forwards, Backwards}
 use Rattle.ir_command.specs.declared.hit.Hit.{Hit}
 use Rattle.ir_hits.specs.Hits.{Numbered, objects_start, puts_at, ChangesWord, PutsWord, HitBy, HitByNumber, IsLowest, NoneWithin, IsFirstHit, IsLastHit, Finds}
-use Rattle.ir_gdb.specs.declared.point.Breakpoint.{Breakpoint}
+use Rattle.ir_gdb.specs.Guards.{Guarded}
 use Rattle.ir_gdb.specs.Points.{watch_points, break_points, own_points, points_upwards, points_downwards}
 
 -- ---- whether a point hits
@@ -141,15 +141,15 @@ hit_by_or_not f run t (suc j) (WatchObject object) = elim (leave_emitted_or_not 
 
 -- ---- the lowest number of those that hit
 
-first_point_hits : (f : FittedTrace) (run : List Step) (p : Numbered) (ps : List Numbered) (t k : ℕ) → HitBy f run t k p.point
+pub first_point_hits : (f : FittedTrace) (run : List Step) (p : Numbered) (ps : List Numbered) (t k : ℕ) → HitBy f run t k p.point
     → HitByNumber f run (p ∷ ps) t k p.number
 first_point_hits f run p ps t k hits = (0, p, refl, refl, hits)
 
-later_point_hits : (f : FittedTrace) (run : List Step) (p : Numbered) (ps : List Numbered) (t k n : ℕ) → HitByNumber f run ps t k n
+pub later_point_hits : (f : FittedTrace) (run : List Step) (p : Numbered) (ps : List Numbered) (t k n : ℕ) → HitByNumber f run ps t k n
     → HitByNumber f run (p ∷ ps) t k n
 later_point_hits f run p ps t k n h = (suc h.0, h.1, h.2, h.3, h.4)
 
-first_or_later_hits : (f : FittedTrace) (run : List Step) (p : Numbered) (ps : List Numbered) (t k n : ℕ) → HitByNumber f run (p ∷ ps) t k n
+pub first_or_later_hits : (f : FittedTrace) (run : List Step) (p : Numbered) (ps : List Numbered) (t k n : ℕ) → HitByNumber f run (p ∷ ps) t k n
     → ((p.number ≡ n) × HitBy f run t k p.point) ⊎ HitByNumber f run ps t k n
 first_or_later_hits f run p ps t k n (zero, q, at, number, hits) =
     let same : p ≡ q = cc at in inl (ap (λ (x : Numbered). x.number) same ∙ number, subst (λ (x : Numbered). HitBy f run t k x.point) (sym same) hits)
@@ -282,7 +282,7 @@ some_hits_append_right : (f : FittedTrace) (run : List Step) (t k : ℕ) (ps qs 
 some_hits_append_right f run t k [] qs some = some
 some_hits_append_right f run t k (p ∷ ps) qs some = inr (some_hits_append_right f run t k ps qs some)
 
-breaks_hit_renumbered : (f : FittedTrace) (run : List Step) (t k a b : ℕ) (bs : List Breakpoint) → SomeHits f run t k (break_points t a bs)
+breaks_hit_renumbered : (f : FittedTrace) (run : List Step) (t k a b : ℕ) (bs : List Guarded) → SomeHits f run t k (break_points t a bs)
     → SomeHits f run t k (break_points t b bs)
 unfolding break_points
 breaks_hit_renumbered f run t k a b [] some = some
@@ -302,7 +302,7 @@ session_hit_by_own f run t k n (p ∷ ps) (inl first) = inl first
 session_hit_by_own f run t k n (p ∷ ps) (inr later) = inr (session_hit_by_own f run t k n ps later)
 
 -- breakpoints and a session's points hit in either order, under any numbers
-breaks_hit_as_session : (f : FittedTrace) (run : List Step) (t a b c : ℕ) (bs : List Breakpoint) (ps : List Numbered)
+breaks_hit_as_session : (f : FittedTrace) (run : List Step) (t a b c : ℕ) (bs : List Guarded) (ps : List Numbered)
     → HitsAlso f run t (break_points t a bs ++ own_points b ps) (ps ++ break_points t c bs)
 breaks_hit_as_session f run t a b c bs ps k h = hit_if_some_point_hits f run t k (ps ++ break_points t c bs)
     (elim (append_hits_cases f run t k (break_points t a bs) (own_points b ps) (some_hits_if_hit_by_number f run t k h.0 (break_points t a bs ++ own_points b ps) h.1)) [
@@ -310,7 +310,7 @@ breaks_hit_as_session f run t a b c bs ps k h = hit_if_some_point_hits f run t k
       | inr own ↦ some_hits_append_left f run t k ps (break_points t c bs) (session_hit_by_own f run t k b ps own)
     ])
 
-session_hits_as_breaks : (f : FittedTrace) (run : List Step) (t a b c : ℕ) (bs : List Breakpoint) (ps : List Numbered)
+session_hits_as_breaks : (f : FittedTrace) (run : List Step) (t a b c : ℕ) (bs : List Guarded) (ps : List Numbered)
     → HitsAlso f run t (ps ++ break_points t c bs) (break_points t a bs ++ own_points b ps)
 session_hits_as_breaks f run t a b c bs ps k h = hit_if_some_point_hits f run t k (break_points t a bs ++ own_points b ps)
     (elim (append_hits_cases f run t k ps (break_points t c bs) (some_hits_if_hit_by_number f run t k h.0 (ps ++ break_points t c bs) h.1)) [
@@ -319,7 +319,7 @@ session_hits_as_breaks f run t a b c bs ps k h = hit_if_some_point_hits f run t 
     ])
 
 -- gdb's points of thread t without watches, and those of the session, find a stop at the same position
-pub upwards_as_session : (run : List Step) (f : FittedTrace) (bs : List Breakpoint) (own : List Numbered) (t from number : ℕ) (hit : Option Hit)
+pub upwards_as_session : (run : List Step) (f : FittedTrace) (bs : List Guarded) (own : List Numbered) (t from number : ℕ) (hit : Option Hit)
     → IsFirstHit f run (points_upwards t [] bs own) t from hit
     → (other : Option Hit) × IsFirstHit f run (own ++ break_points t number bs) t from other × (position_in hit ≡ position_in other)
 unfolding watch_points
@@ -331,13 +331,13 @@ no_watch_points : (t n : ℕ) → watch_points t n [] ≡ []
 unfolding watch_points
 no_watch_points t n = refl
 
-downwards_no_watches : (t : ℕ) (bs : List Breakpoint) (own : List Numbered)
+downwards_no_watches : (t : ℕ) (bs : List Guarded) (own : List Numbered)
     → points_downwards t [] bs own ≡ break_points t 0 bs ++ own_points (length bs + 0) own
 downwards_no_watches t bs own =
     ap (λ (ws : List Numbered). break_points t 0 bs ++ ws ++ own_points (length bs + 0) own) (no_watch_points t (length bs))
     ∙ ap (λ (xs : List Numbered). xs ++ own_points (length bs + 0) own) (append-nil (break_points t 0 bs))
 
-pub downwards_as_session : (run : List Step) (f : FittedTrace) (bs : List Breakpoint) (own : List Numbered) (t from number : ℕ) (hit : Option Hit)
+pub downwards_as_session : (run : List Step) (f : FittedTrace) (bs : List Guarded) (own : List Numbered) (t from number : ℕ) (hit : Option Hit)
     → IsLastHit f run (points_downwards t [] bs own) t from hit
     → (other : Option Hit) × IsLastHit f run (own ++ break_points t number bs) t from other × (position_in hit ≡ position_in other)
 downwards_as_session run f bs own t from number hit finds =

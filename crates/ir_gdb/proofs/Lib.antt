@@ -31,3 +31,8 @@ mod Blocked
 mod Unpassed
 mod ShownOnce
 mod Untold
+mod Unguarded
+mod Farther
+mod Met
+mod InSight
+mod Deciding

@@ -7,7 +7,8 @@ use Rattle.ir_hits.specs.Hits.{Numbered}
 use Rattle.ir_hits.specs.Searching.{IsNextHit}
 use Rattle.ir_gdb.specs.declared.stopped.Stopped.{Stopped}
 use Rattle.ir_gdb.specs.Stub.{Stub, stub_spoken}
-use Rattle.ir_gdb.specs.Stops.{Leaves, RangesTo, StaysWithin, is_in_range, position_of, upwards_of, after_range, end_of_range, ranged}
+use Rattle.ir_gdb.specs.Points.{upwards_of}
+use Rattle.ir_gdb.specs.Stops.{Leaves, RangesTo, StaysWithin, is_in_range, position_of, after_range, end_of_range, ranged}
 use Rattle.ir_gdb.proofs.Together.{below_next_cases}
 
 upwards_ignores_spoken : (s : Stub) (t : ℕ) (w : Bool) → upwards_of (stub_spoken s) t w ≡ upwards_of s t w

@@ -8,13 +8,15 @@ use Rattle.ir_cut.specs.Positions.{cut_of, threads_of, last_of}
 use Rattle.ir_command.specs.declared.command.Direction.{Direction}
 use Rattle.ir_command.specs.declared.command.Direction.TheVariants.{Forwards, Backwards}
 use Rattle.ir_command.specs.declared.hit.Hit.{Hit}
-use Rattle.ir_hits.specs.Hits.{HitByNumber, IsFirstHit, IsLastHit}
+use Rattle.ir_hits.specs.Hits.{HitByNumber}
+use Rattle.ir_gdb.specs.Guards.{has_guard, conditions_at}
+use Rattle.ir_gdb.specs.Conditions.{IsMetBy, StopsUpwards, StopsDownwards, IsFirstStop, IsLastStop}
 use Rattle.ir_packet.specs.declared.reply.Reason.{Reason}
 use Rattle.ir_gdb.specs.declared.point.Watched.{Watched}
 use Rattle.ir_gdb.specs.declared.stopped.Stopped.{Stopped}
-use Rattle.ir_gdb.specs.Points.{points_upwards, points_downwards}
+use Rattle.ir_gdb.specs.Points.{points_upwards, points_downwards, watches_if, upwards_of, downwards_of}
 use Rattle.ir_gdb.specs.Stub.{Stub, shared_breaks}
-use Rattle.ir_gdb.specs.Stops.{position_of, watches_if, upwards_of, downwards_of, end_above, end_below, is_hit, StopsInDirection, BackBy, StopsBelow, ContinuesBackBy, reason_at_end}
+use Rattle.ir_gdb.specs.Stops.{position_of, end_above, end_below, is_hit, StopsInDirection, BackBy, StopsBelow, ContinuesBackBy, reason_at_end}
 use Rattle.ir_gdb.specs.Together.{Halt, halt, Comes, stop_among, is_on_way, AreStops, FirstMet, meets, halt_or, own_halt, met_or, StopsAmong, FirstStop, furthest, ContinuesAmong}
 use Rattle.ir_gdb.specs.Laws.{MeetsNone, PassesNone, PassesNoHit, Stands, stub_behind, ShowsHit, ContinuesToEnd, IsHitBeyond, ShowsAt, IsShownOnce}
 use Rattle.ir_gdb.proofs.Alone.{no_watch_is_next, stop_above_is_at_hit, stop_below_is_at_hit}
@@ -52,33 +54,48 @@ upwards_of_any s u w none = ap (λ (ws : List Watched). points_upwards u ws s.br
 downwards_of_any : (s : Stub) (u : ℕ) (w : Bool) → s.watches ≡ [] → downwards_of s u false ≡ downwards_of s u w
 downwards_of_any s u w none = ap (λ (ws : List Watched). points_downwards u ws s.breaks s.desk.points) (watches_if_none s false none ∙ sym (watches_if_none s w none))
 
+-- a point without conditions stops where it hits
+stops_upwards_if_free : (run : List Step) (s : Stub) (u k n : ℕ) (w : Bool) → s.watches ≡ [] → HitByNumber s.desk.fitted run (upwards_of s u false) u k n
+    → has_guard n ≡ false → StopsUpwards run s u w k n
+stops_upwards_if_free run s u k n w none hits free = (
+  subst (λ points. HitByNumber s.desk.fitted run points u k n) (upwards_of_any s u w none) hits,
+  subst (λ (b : Bool). IsMetBy b run s Forwards u k (conditions_at s.breaks (length (watches_if s w)) n)) (sym free) tt,
+)
+
+stops_downwards_if_free : (run : List Step) (s : Stub) (u k n : ℕ) (w : Bool) → s.watches ≡ [] → HitByNumber s.desk.fitted run (downwards_of s u false) u k n
+    → has_guard n ≡ false → StopsDownwards run s u w k n
+stops_downwards_if_free run s u k n w none hits free = (
+  subst (λ points. HitByNumber s.desk.fitted run points u k n) (downwards_of_any s u w none) hits,
+  subst (λ (b : Bool). IsMetBy b run s Backwards u k (conditions_at s.breaks 0 n)) (sym free) tt,
+)
+
 -- a hit is at the position to which a thread comes, or beyond
 hit_not_passed_is_beyond : (run : List Step) (s : Stub) (d : Direction) (u k c : ℕ) (w : Bool) → s.watches ≡ [] → PassesNone run s d u w c → IsHitBeyond run s d u k
     → (k ≡ c) ⊎ Beyond d c k
-hit_not_passed_is_beyond run s Forwards u k c w none passes (beyond, (n, hits)) = elim (cases_lt c k) [
+hit_not_passed_is_beyond run s Forwards u k c w none passes (beyond, (n, hits, free)) = elim (cases_lt c k) [
   | inl less ↦ inr less
   | inr from ↦ elim (cases_lt k c) [
-    | inl less ↦ absurd (passes k n beyond less (subst (λ points. HitByNumber s.desk.fitted run points u k n) (upwards_of_any s u w none) hits))
+    | inl less ↦ absurd (passes k n beyond less (stops_upwards_if_free run s u k n w none hits free))
     | inr back ↦ inl (omega (arith, from, back))
   ]
 ]
-hit_not_passed_is_beyond run s Backwards u k c w none passes (beyond, (n, hits)) = elim (cases_lt k c) [
+hit_not_passed_is_beyond run s Backwards u k c w none passes (beyond, (n, hits, free)) = elim (cases_lt k c) [
   | inl less ↦ inr less
   | inr from ↦ elim (cases_lt c k) [
-    | inl less ↦ absurd (passes.0 k n less beyond (subst (λ points. HitByNumber s.desk.fitted run points u k n) (downwards_of_any s u w none) hits))
+    | inl less ↦ absurd (passes.0 k n less beyond (stops_downwards_if_free run s u k n w none hits free))
     | inr back ↦ inl (omega (arith, from, back))
   ]
 ]
 
 -- a hit is beyond the position to which a thread comes that meets none
 hit_not_met_is_beyond : (run : List Step) (s : Stub) (d : Direction) (u k c : ℕ) (w : Bool) → s.watches ≡ [] → MeetsNone run s d u w c → IsHitBeyond run s d u k → Beyond d c k
-hit_not_met_is_beyond run s Forwards u k c w none meets (beyond, (n, hits)) = elim (cases_lt c k) [
+hit_not_met_is_beyond run s Forwards u k c w none meets (beyond, (n, hits, free)) = elim (cases_lt c k) [
   | inl less ↦ less
-  | inr from ↦ absurd (meets k n beyond (omega (arith, from)) (subst (λ points. HitByNumber s.desk.fitted run points u k n) (upwards_of_any s u w none) hits))
+  | inr from ↦ absurd (meets k n beyond (omega (arith, from)) (stops_upwards_if_free run s u k n w none hits free))
 ]
-hit_not_met_is_beyond run s Backwards u k c w none meets (beyond, (n, hits)) = elim (cases_lt k c) [
+hit_not_met_is_beyond run s Backwards u k c w none meets (beyond, (n, hits, free)) = elim (cases_lt k c) [
   | inl less ↦ less
-  | inr from ↦ absurd (meets.0 k n from beyond (subst (λ points. HitByNumber s.desk.fitted run points u k n) (downwards_of_any s u w none) hits))
+  | inr from ↦ absurd (meets.0 k n from beyond (stops_downwards_if_free run s u k n w none hits free))
 ]
 
 -- a hit that is beyond a stop is so from there on
@@ -93,13 +110,13 @@ own_hit_is_beyond : (run : List Step) (s : Stub) (d : Direction) (u : ℕ) (w : 
 own_hit_is_beyond run s Forwards u w to none (hit, finds, ends) told = by hit finds (ends ∙ ap (λ (ws : List Watched). end_above ws s.breaks (last_of s.desk.fitted u) hit)
     (watches_if_none s w none))
   where
-    by : (hit : Option Hit) → IsFirstHit s.desk.fitted run (upwards_of s u w) u (position_of s u) hit
+    by : (hit : Option Hit) → IsFirstStop (StopsUpwards run s u w) (position_of s u) hit
         → to ≡ end_above [] s.breaks (last_of s.desk.fitted u) hit → position_of s u < to.position
     by None finds is = absurd (true≢false (sym told ∙ ap (λ (x : Stopped). is_hit x.reason) is))
     by (Some h) finds is = let up = finds.0 in let at = ap (λ (x : Stopped). x.position) is ∙ stop_above_is_at_hit s.breaks h in omega (arith, up, at)
 own_hit_is_beyond run s Backwards u w to none goes told = by (position_of s u) refl goes
   where
-    below : (hit : Option Hit) → IsLastHit s.desk.fitted run (downwards_of s u w) u (position_of s u) hit → to ≡ end_below [] s.breaks hit
+    below : (hit : Option Hit) → IsLastStop (StopsDownwards run s u w) (position_of s u) hit → to ≡ end_below [] s.breaks hit
         → to.position < position_of s u
     below None finds is = absurd (true≢false (sym told ∙ ap (λ (x : Stopped). is_hit x.reason) is))
     below (Some h) finds is = let down = finds.0 in let at = ap (λ (x : Stopped). x.position) is ∙ stop_below_is_at_hit s.breaks h in omega (arith, down, at)

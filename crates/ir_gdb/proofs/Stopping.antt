@@ -11,15 +11,14 @@ use Rattle.ir_hits.specs.Hits.{Numbered, IsFirstHit, IsLastHit, Finds}
 use Rattle.ir_hits.specs.Searching.{IsNextHit}
 use Rattle.ir_debug.specs.Machine.{Desk}
 use Rattle.ir_packet.specs.declared.reply.Reason.{Reason}
-use Rattle.ir_gdb.specs.declared.point.Breakpoint.{Breakpoint}
+use Rattle.ir_gdb.specs.Guards.{Guarded}
 use Rattle.ir_gdb.specs.declared.point.Watched.{Watched}
 use Rattle.ir_gdb.specs.declared.stopped.Stopped.{Stopped}
-use Rattle.ir_gdb.specs.Points.{watch_points, points_downwards}
+use Rattle.ir_gdb.specs.Points.{watch_points, points_downwards, watches_if, downwards_of, upwards_of}
 use Rattle.ir_gdb.specs.Serving.{Serving}
 use Rattle.ir_gdb.specs.Stub.{Stub, stub_spoken}
-use Rattle.ir_gdb.specs.Stops.{watches_if, downwards_of, position_of, WatchNext, StepsBy, StepsTo, after_step, StepsBackBy, StepsBackTo}
-use Rattle.ir_gdb.specs.Stops.{after_back, StopsBelow, BackBy, ContinuesBackBy, ContinuesBackTo, upwards_of, ContinuesTo, end_above}
-use Rattle.ir_gdb.specs.Stops.{end_below, watch_reason}
+use Rattle.ir_gdb.specs.Stops.{position_of, WatchNext, StepsBy, StepsTo, after_step, StepsBackBy, StepsBackTo, after_back, StopsBelow}
+use Rattle.ir_gdb.specs.Stops.{BackBy, ContinuesBackBy, ContinuesBackTo, ContinuesTo, end_above, end_below, watch_reason}
 use Rattle.ir_gdb.proofs.Bounds.{end_above_within_last}
 
 -- the value seen of what a function holds
@@ -122,19 +121,19 @@ stops_below_from_spoken : (run : List Step) (s : Stub) (t : ℕ) (w : Bool) (to 
 stops_below_from_spoken run s t true to stops = stops
 stops_below_from_spoken run s t false to stops = stops
 
-pub search_is_downwards_of : (u : Stub) (t : ℕ) (w : Bool) (points : List Numbered) (ws : List Watched) (bs : List Breakpoint) (own : List Numbered)
+pub search_is_downwards_of : (u : Stub) (t : ℕ) (w : Bool) (points : List Numbered) (ws : List Watched) (bs : List Guarded) (own : List Numbered)
     → points ≡ points_downwards t ws bs own → ws ≡ watches_if u w → bs ≡ u.breaks → own ≡ u.desk.points → points ≡ downwards_of u t w
 search_is_downwards_of u t w points ws bs own is watches breaks mine =
-    is ∙ ap (λ (x : List Watched). points_downwards t x bs own) watches ∙ ap (λ (x : List Breakpoint). points_downwards t (watches_if u w) x own) breaks
+    is ∙ ap (λ (x : List Watched). points_downwards t x bs own) watches ∙ ap (λ (x : List Guarded). points_downwards t (watches_if u w) x own) breaks
     ∙ ap (λ (x : List Numbered). points_downwards t (watches_if u w) u.breaks x) mine
 
-pub search_end_stops_below : (s u : Stub) (e : Desk) (t : ℕ) (w : Bool) (points : List Numbered) (hit : Option Hit) (ws : List Watched) (bs : List Breakpoint)
+pub search_end_stops_below : (s u : Stub) (e : Desk) (t : ℕ) (w : Bool) (points : List Numbered) (hit : Option Hit) (ws : List Watched) (bs : List Guarded)
     (to : Stopped) → u ≡ stub_spoken s → points ≡ downwards_of u t w
     → EachRun u.desk.fitted (λ run. IsLastHit u.desk.fitted run points t (position_of u t) hit) → ws ≡ watches_if (record u { desk = e }) w
     → bs ≡ u.breaks → to ≡ end_below ws bs hit → EachRun s.desk.fitted (λ run. StopsBelow run s t w to)
 search_end_stops_below s u e t w points hit ws bs to same are finds watches breaks is run whole =
     let end = is ∙ ap (λ (x : List Watched). end_below x bs hit) (watches ∙ watches_if_ignores_desk u e w)
-    ∙ ap (λ (x : List Breakpoint). end_below (watches_if u w) x hit) breaks in
+    ∙ ap (λ (x : List Guarded). end_below (watches_if u w) x hit) breaks in
     let stops : EachRun u.desk.fitted (λ r. StopsBelow r u t w to) = λ r all.
     (hit, subst (λ (ps : List Numbered). IsLastHit u.desk.fitted r ps t (position_of u t) hit) are (finds r all), end) in
     stops_below_from_spoken run s t w to (subst (λ (x : Stub). EachRun x.desk.fitted (λ r. StopsBelow r x t w to)) same stops run whole)
@@ -161,20 +160,20 @@ continues_from_spoken : (run : List Step) (s : Stub) (t : ℕ) (w : Bool) (to : 
 continues_from_spoken run s t true to stops = stops
 continues_from_spoken run s t false to stops = stops
 
-pub continues_to_search_end : (s u v : Stub) (e : Desk) (t last : ℕ) (w : Bool) (points : List Numbered) (hit : Option Hit) (ws : List Watched) (bs : List Breakpoint)
+pub continues_to_search_end : (s u v : Stub) (e : Desk) (t last : ℕ) (w : Bool) (points : List Numbered) (hit : Option Hit) (ws : List Watched) (bs : List Guarded)
     (to : Stopped) → u ≡ stub_spoken s → v ≡ stub_spoken s → points ≡ upwards_of v t w
     → EachRun u.desk.fitted (λ run. IsFirstHit u.desk.fitted run points t (position_of u t) hit) → ws ≡ watches_if (record u { desk = e }) w
     → bs ≡ u.breaks → last ≡ last_of u.desk.fitted t → to ≡ end_above ws bs last hit → EachRun s.desk.fitted (λ run. ContinuesTo run s t w to)
 continues_to_search_end s u v e t last w points hit ws bs to same other are finds watches breaks at is run whole =
     let end = is ∙ ap (λ (x : List Watched). end_above x bs last hit) (watches ∙ watches_if_ignores_desk u e w)
-    ∙ ap (λ (x : List Breakpoint). end_above (watches_if u w) x last hit) breaks ∙ ap (λ (n : ℕ). end_above (watches_if u w) u.breaks n hit) at in
+    ∙ ap (λ (x : List Guarded). end_above (watches_if u w) x last hit) breaks ∙ ap (λ (n : ℕ). end_above (watches_if u w) u.breaks n hit) at in
     let mine = are ∙ ap (λ (x : Stub). upwards_of x t w) (other ∙ sym same) in
     let stops : EachRun u.desk.fitted (λ r. ContinuesTo r u t w to) = λ r all.
     (hit, subst (λ (ps : List Numbered). IsFirstHit u.desk.fitted r ps t (position_of u t) hit) mine (finds r all), end) in
     continues_from_spoken run s t w to (subst (λ (x : Stub). EachRun x.desk.fitted (λ r. ContinuesTo r x t w to)) same stops run whole)
 
 -- the end of a search upwards is at a position of the thread
-pub search_end_within_last : (f other : FittedTrace) (points : List Numbered) (t p last : ℕ) (ws : List Watched) (bs : List Breakpoint) (hit : Option Hit)
+pub search_end_within_last : (f other : FittedTrace) (points : List Numbered) (t p last : ℕ) (ws : List Watched) (bs : List Guarded) (hit : Option Hit)
     (to : Stopped) → f ≡ other → HasRun f → t < threads_of f → EachRun f (λ run. Finds run f points t p Forwards hit) → last ≡ last_of f t
     → to ≡ end_above ws bs last hit → to.position ≤ last_of other t
 search_end_within_last f other points t p last ws bs hit to same has l finds at is =

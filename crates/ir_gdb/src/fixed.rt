@@ -15,7 +15,7 @@ pub fn fixed_reply(request: Request) -> Option<Reply>
         Request::Offsets => Some(Reply::Offsets),
         Request::Motions => Some(Reply::Motions),
         Request::Change => Some(Reply::ReadOnly),
-        Request::Malformed => Some(Reply::NotPermitted),
+        Request::SetBreakIf(_, _) | Request::Malformed => Some(Reply::NotPermitted),
         Request::Unknown => Some(Reply::Nothing),
         _ => None,
     }

@@ -6,13 +6,14 @@ ghost use Rattle.ir_cut.specs.Positions.{EachRun, cut_of, threads_of, last_of, t
 ghost use Rattle.ir_hits.specs.Watchable.{AreWatchable};
 ghost use Rattle.ir_timeline.specs.Hand.{IsCutOf};
 ghost use Rattle.ir_gdb.specs.Stub.{IsWatched, most_stub_points, stub_spoken};
-ghost use Rattle.ir_gdb.specs.Stops.{watches_if, Leaves, WatchNext, position_of, StepsTo, RangesTo, ContinuesTo, StepsBackTo, StopsBelow, ContinuesBackTo, StopsInDirection, MovesTo, upwards_of};
+ghost use Rattle.ir_gdb.specs.Points.{watches_if, upwards_of};
+ghost use Rattle.ir_gdb.specs.Stops.{Leaves, WatchNext, position_of, StepsTo, RangesTo, ContinuesTo, StepsBackTo, StopsBelow, ContinuesBackTo, StopsInDirection, MovesTo};
 
-use crate::numbered::{Halts, points_downwards, points_upwards, watch_points};
+use crate::numbered::{Halts, points_upwards, watch_points};
 use crate::point::Watched;
 use crate::remote::Remote;
 use crate::stopped::{Stopped, after_range, end_above, end_below, reason_of_hit, stop_above};
-use ir_command::Direction;
+use ir_command::{Direction, Hit};
 use ir_cut::Cut;
 use ir_hits::NumberedPoint;
 use ir_object::Hands;
@@ -22,7 +23,7 @@ use std::alloc::{AllocError, Global};
 impl Remote {
     // The watches that count for a thread: all for the one that moves, and those of the objects for another.
     #[tactic(auto, using(crate::proofs::Setting::shared_are_watched))]
-    fn watches_if(&self, watched: bool) -> &[Watched]
+    pub(crate) fn watches_if(&self, watched: bool) -> &[Watched]
         ensures value { result.now ≡ watches_if self.now.stub watched }
         ensures watched { AllByRecursion IsWatched result.now }
         ensures few { length self.now.stub.breaks + length result.now ≤ most_stub_points }
@@ -51,7 +52,7 @@ impl Remote {
     }
 
     // The points of a thread for a search upwards.
-    fn upwards(
+    pub(crate) fn upwards(
         &self,
         alloc: Global,
         thread: u32,
@@ -194,17 +195,32 @@ impl Remote {
         self.position(thread);
         let last = self.last(thread);
         let end = after_range(last, left);
-        let here = self.here()?;
-        let points = self.upwards(hands.alloc(), thread, watched)?;
-        let points = points.as_slice();
-        let to = end.position;
-        let hit = self
-            .debugger
-            .search_up_to(hands, &here, thread, to, points)?;
-        if let Some(hit) = hit {
+        if let Some(hit) = self.next_stop(hands, thread, end.position, watched)? {
             return Ok(stop_above(self.watches_if(watched), self.breaks.as_slice(), hit));
         }
         Ok(end)
+    }
+
+    // Where a point stops a thread next. Without conditions the search keeps states on its way.
+    fn first_stop_above<H: Hands>(
+        &mut self,
+        hands: &H,
+        thread: u32,
+        watched: bool,
+    ) -> Result<Option<Hit>, AllocError>
+        requires { thread < threads_of self.old.stub.desk.fitted }
+        ensures stub { self.new.stub ≡ stub_spoken self.old.stub }
+        ensures stop { IfOk result (λ hit. EachRun self.old.stub.desk.fitted (λ run. IsFirstStop (StopsUpwards run self.old.stub thread watched) (position_of self.old.stub thread) hit)) }
+    {
+        if self.has_conditions() {
+            self.position(thread);
+            let last = self.last(thread);
+            return self.next_stop(hands, thread, last, watched);
+        }
+        let points = self.upwards(hands.alloc(), thread, watched)?;
+        let forwards = Direction::Forwards;
+        self.debugger
+            .search(hands, thread, forwards, points.as_slice())
     }
 
     // To the next stop.
@@ -221,11 +237,8 @@ impl Remote {
     {
         self.speak();
         self.debugger.fitted().known();
-        let points = self.upwards(hands.alloc(), thread, watched)?;
-        let forwards = Direction::Forwards;
-        let points = points.as_slice();
-        let hit = self.debugger.search(hands, thread, forwards, points)?;
         let last = self.last(thread);
+        let hit = self.first_stop_above(hands, thread, watched)?;
         Ok(end_above(self.watches_if(watched), self.breaks.as_slice(), last, hit))
     }
 
@@ -292,10 +305,7 @@ impl Remote {
     {
         self.speak();
         self.debugger.fitted().known();
-        let points = points_downwards(hands.alloc(), thread, self.halts(watched))?;
-        let backwards = Direction::Backwards;
-        let points = points.as_slice();
-        let hit = self.debugger.search(hands, thread, backwards, points)?;
+        let hit = self.last_stop(hands, thread, watched)?;
         Ok(end_below(self.watches_if(watched), self.breaks.as_slice(), hit))
     }
 

@@ -4,12 +4,13 @@ use Rattle.ir_cut.specs.Positions.{EachRun, cut_of, last_of}
 use Rattle.ir_command.specs.declared.hit.Hit.{Hit}
 use Rattle.ir_hits.specs.Searching.{IsNextHit}
 use Rattle.ir_timeline.specs.Hand.{IsCutOf}
-use Rattle.ir_gdb.specs.declared.point.Breakpoint.{Breakpoint}
+use Rattle.ir_gdb.specs.Guards.{Guarded}
 use Rattle.ir_gdb.specs.declared.point.Watched.{Watched}
 use Rattle.ir_gdb.specs.declared.stopped.Stopped.{Stopped}
 use Rattle.ir_gdb.specs.Serving.{Serving}
 use Rattle.ir_gdb.specs.Stub.{Stub, stub_spoken}
-use Rattle.ir_gdb.specs.Stops.{watches_if, stop_above, ranged}
+use Rattle.ir_gdb.specs.Points.{watches_if}
+use Rattle.ir_gdb.specs.Stops.{stop_above, ranged}
 use Rattle.ir_gdb.proofs.Bounds.{stop_above_within_last}
 use Rattle.ir_gdb.proofs.Stopping.{serving_seen, watches_if_ignores_both}
 use Rattle.ir_gdb.proofs.Ranging.{after_range_ignores_spoken, after_range_between, ranges_to_found_stop, next_hit_within_target}
@@ -52,7 +53,7 @@ returns-in-Some-clause-stops g c =
     let mine = c.watches_if.ensures.value ∙ watches_if_ignores_both s u c.search_up_to.new.self.desk w same in
     let breaks = c.as_slice.ensures ∙ ap (λ (x : Stub). x.breaks) same in
     let ends = c.stop_above.ensures ∙ ap (λ (x : List Watched). stop_above x c.as_slice.result.now h) mine
-    ∙ ap (λ (x : List Breakpoint). stop_above (watches_if s w) x h) breaks ∙ ap (λ (x : Option Hit). ranged s t w left x) (sym c.in-Some.is) in
+    ∙ ap (λ (x : List Guarded). stop_above (watches_if s w) x h) breaks ∙ ap (λ (x : Option Hit). ranged s t w left x) (sym c.in-Some.is) in
     ranges_to_found_stop s v v t c.args.low c.args.high w left c.in_ok-here.here e c.stop_above.result c.as_slice-points.result.now c.in_ok-hit.hit said said
     c.in_ok-left.ensures.leaves c.in_ok-here.ensures.value is (c.as_slice-points.ensures.value ∙ c.in_ok-points.ensures.points)
     (subst (λ (x : Serving). EachRun x.stub.desk.fitted (λ run. IsNextHit x.stub.desk.fitted run c.as_slice-points.result.now t (cut_of c.in_ok-here.here t) e.position c.in_ok-hit.hit))

@@ -1,0 +1,65 @@
+-- What a thread in hand has is what it has at the cut.
+use Rattle.std.proofs.Common.{◌≡◌, ◌<◌, ◌-◌, ◌/◌, ◌%◌, ◌∙◌, ℕ, Bool, true, false, List, length, slice_index_or, slice_index, slice_get, Option, Some, None, option_map, refl, sym, ap, arith}
+use Rattle.std.specs.Prelude.{nat_lt, if◌then◌else◌}
+use Rattle.std.proofs.lemmas.Bool.Decides.{nat_tests}
+use Rattle.std.proofs.lemmas.Option.{slice_get-get_or}
+use Rattle.std.proofs.Math.Path.{fun_ext}
+use Rattle.ir_image.specs.Guest.{object_count, object_words}
+use Rattle.ir_mach.specs.Core.{Core}
+use Rattle.ir_mach.specs.Execution.{byte_at}
+use Rattle.ir_object.specs.Cell.{Cell}
+use Rattle.ir_object.specs.Empty.{empty}
+use Rattle.ir_runs.specs.Machine.{Object}
+use Rattle.ir_runs.specs.Run.{Step, Cut, object_at}
+use Rattle.ir_flat.specs.Flat.{idle}
+use Rattle.ir_fit.specs.Fit.{FittedTrace, IsRunOf}
+use Rattle.ir_cut.specs.Positions.{EachRun, machine_of, start_of, thread_at}
+use Rattle.ir_weave.specs.Standing.{Standing, StandsAtCut}
+use Rattle.ir_agent.specs.Evaluation.{Seen, seen_of}
+use Rattle.ir_hits.specs.Hits.{objects_start, object_size}
+use Rattle.ir_gdb.specs.Reads.{register_words, word_byte, object_byte, byte_at_cut}
+use Rattle.ir_gdb.specs.Sight.{Sight, sight_of, object_byte_seen, byte_in_sight, register_in_sight, seen_in}
+use Rattle.ir_gdb.specs.Conditions.{seen_at}
+
+module _ (f : FittedTrace) (p : Cut) (state : Standing) (run : List Step) (stands : StandsAtCut f p state) (whole : IsRunOf f.guest f.recorded run) where
+  object_in_hand : (core : Core) (offset : ℕ) → object_byte_seen (sight_of f.guest core state.objects) offset ≡ object_byte run f p offset
+  object_in_hand core offset = by (nat_lt o (object_count f.guest)) refl
+    where
+      o : ℕ
+      o = offset / object_size
+
+      byte_of_words : (ℕ → ℕ) → ℕ
+      byte_of_words words = word_byte (object_words f.guest) words (offset % object_size)
+
+      there : Option ℕ
+      there = option_map (λ (cell : Cell). byte_of_words (slice_index cell.words)) (slice_get state.objects o)
+
+      at_cut : Option ℕ
+      at_cut = Some (byte_of_words (object_at (machine_of f) (start_of f) run p o).words)
+
+      by : (b : Bool) → nat_lt o (object_count f.guest) ≡ b → (if b then there else None) ≡ (if b then at_cut else None)
+      by false test = refl
+      by true test =
+          let below : o < object_count f.guest = grind (arith, nat_tests, test) in
+          let count = stands.at.objects in
+          let inside : o < length state.objects = omega (arith, below, count) in
+          ap (option_map (λ (cell : Cell). byte_of_words (slice_index cell.words))) (slice_get-get_or state.objects o empty inside)
+          ∙ ap (λ (b : Object). Some (byte_of_words b.words)) ((stands.at.each run whole).objects o)
+
+  byte_in_hand : (t : ℕ) (core : Core) (address : ℕ) → core ≡ (thread_at f run t (p t)).core
+      → byte_in_sight (sight_of f.guest core state.objects) address ≡ byte_at_cut run f p t address
+  byte_in_hand t core address same = by (nat_lt address objects_start)
+    where
+      by : (b : Bool) → (if b then byte_at f.guest.code core.memory address else object_byte_seen (sight_of f.guest core state.objects) (address - objects_start))
+          ≡ (if b then byte_at f.guest.code (thread_at f run t (p t)).core.memory address else object_byte run f p (address - objects_start))
+      by true = ap (λ (c : Core). byte_at f.guest.code c.memory address) same
+      by false = object_in_hand core (address - objects_start)
+
+  seen_in_hand : (t : ℕ) (core : Core) → core ≡ (thread_at f run t (p t)).core → seen_in (sight_of f.guest core state.objects) ≡ seen_at run f p t
+  seen_in_hand t core same =
+      ap (λ (c : Core). seen_of (slice_get (register_words c)) (byte_in_sight (sight_of f.guest core state.objects))) same
+      ∙ ap (seen_of (slice_get (register_words (thread_at f run t (p t)).core))) (fun_ext (λ a. byte_in_hand t core a same))
+
+pub sight_sees_what_is_at_cut : (f : FittedTrace) (p : Cut) (state : Standing) (t : ℕ) (core : Core) → StandsAtCut f p state
+    → EachRun f (λ run. core ≡ (thread_at f run t (p t)).core) → EachRun f (λ run. seen_in (sight_of f.guest core state.objects) ≡ seen_at run f p t)
+sight_sees_what_is_at_cut f p state t core stands same run whole = seen_in_hand f p state run stands whole t core (same run whole)
