@@ -1,5 +1,5 @@
 -- Room for numbers that were taken off the stack.
-use Rattle.std.proofs.Common.{◌≡◌, ◌<◌, ◌+◌, ◌∙◌, ℕ, suc, List, ◌∷◌, length, ap, arith}
+use Rattle.std.proofs.Common.{◌≡◌, ◌<◌, ℕ, suc, List, ◌∷◌, length, ap, arith}
 use Rattle.ir_agent.specs.Evaluation.{most_stack}
 
 -- in the place of the second that was taken

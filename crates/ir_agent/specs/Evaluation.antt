@@ -16,7 +16,7 @@ use Rattle.ir_agent.specs.declared.operation.Operation.TheVariants as operation
 use Rattle.ir_agent.specs.declared.fetched.Fetched.{Fetched}
 use Rattle.ir_agent.specs.declared.turn.Turn.{Turn}
 use Rattle.ir_agent.specs.declared.turn.Turn.TheVariants as turn
-use Rattle.ir_agent.specs.Operations.{operation_of, behind, bytes_in, number_from, wrapped}
+use Rattle.ir_agent.specs.Operations.{operation_of, bytes_behind, bytes_in, number_from, wrapped}
 use Rattle.ir_agent.specs.Arithmetic.{binary_value, unary_value}
 
 -- what an expression reads: registers by their numbers, and bytes by their addresses, where there are such
@@ -24,26 +24,26 @@ pub record Seen : Type 0 where
   pub register : ℕ → Option ℕ
   pub byte : ℕ → Option ℕ
 
-abbrev pub seen_of : (ℕ → Option ℕ) → (ℕ → Option ℕ) → Seen
-seen_of register byte = record { register = register; byte = byte }
+abbrev pub scene_of : (ℕ → Option ℕ) → (ℕ → Option ℕ) → Seen
+scene_of register byte = record { register = register; byte = byte }
 
 -- the most numbers on the stack
 abbrev pub most_stack : ℕ
 most_stack = 100
 
 -- the most steps of an evaluation
-abbrev pub most_steps : ℕ
-most_steps = 4096
+abbrev pub most_expression_steps : ℕ
+most_expression_steps = 4096
 
 -- ---- reading the bytecodes
 
-abbrev pub fetched : Operation → ℕ → ℕ → Fetched
-fetched o number next = record { operation = o; number = number; next = next }
+abbrev pub bytecode_with : Operation → ℕ → ℕ → Fetched
+bytecode_with o number next = record { operation = o; number = number; next = next }
 
 -- a bytecode, with the number in the bytes behind it, which are at this place
 abbrev pub with_number : Operation → ℕ → List ℕ → Result Fetched EvaluateErr
 with_number o start rest =
-    if nat_le (behind o) (length rest) then Ok (fetched o (number_from 0 (take (behind o) rest)) (start + behind o)) else Err Outside
+    if nat_le (bytes_behind o) (length rest) then Ok (bytecode_with o (number_from 0 (take (bytes_behind o) rest)) (start + bytes_behind o)) else Err Outside
 
 abbrev pub fetched_by : List ℕ → ℕ → Option Operation → Result Fetched EvaluateErr
 fetched_by code place None = Err UnknownBytecode
@@ -77,14 +77,14 @@ after_unary o n [] = Err StackEmpty
 after_unary o n (a ∷ rest) = Ok (unary_value o n a ∷ rest)
 
 -- the byte at an address of 32 bits
-abbrev pub byte_at : Seen → ℕ → Option ℕ
-byte_at seen address = if nat_lt address (2 ^ 32) then seen.byte address else None
+abbrev pub seen_byte : Seen → ℕ → Option ℕ
+seen_byte seen address = if nat_lt address (2 ^ 32) then seen.byte address else None
 
 -- the number that bytes from an address on write, the lowest first, if they are all there
-unfoldable pub number_at : Seen → ℕ → ℕ → Option ℕ
-number_at seen zero address = Some 0
-number_at seen (suc count) address =
-    option_and_then (λ low. option_map (λ high. wrapped (low + 256 * high)) (number_at seen count (address + 1))) (byte_at seen address)
+unfoldable pub number_in_memory : Seen → ℕ → ℕ → Option ℕ
+number_in_memory seen zero address = Some 0
+number_in_memory seen (suc count) address =
+    option_and_then (λ low. option_map (λ high. wrapped (low + 256 * high)) (number_in_memory seen count (address + 1))) (seen_byte seen address)
 
 abbrev pub or_no_memory : Option ℕ → List ℕ → Result (List ℕ) EvaluateErr
 or_no_memory None rest = Err NoMemory
@@ -97,7 +97,7 @@ or_no_register (Some n) stack = pushed n stack
 -- the memory that a number of the stack is the address of; a constant; a register
 abbrev pub after_source : Seen → Source → ℕ → List ℕ → Result (List ℕ) EvaluateErr
 after_source seen (source.Memory width) n [] = Err StackEmpty
-after_source seen (source.Memory width) n (address ∷ rest) = or_no_memory (number_at seen (bytes_in width) address) rest
+after_source seen (source.Memory width) n (address ∷ rest) = or_no_memory (number_in_memory seen (bytes_in width) address) rest
 after_source seen (source.Constant width) n stack = pushed n stack
 after_source seen source.Register n stack = or_no_register (seen.register n) stack
 
@@ -131,9 +131,9 @@ goes_on place (Ok stack) = Goes place stack
 goes_on place (Err e) = Ends (Err e)
 
 -- end: the top is the value
-abbrev pub ended : List ℕ → Course
-ended [] = Ends (Err StackEmpty)
-ended (value ∷ rest) = Ends (Ok value)
+abbrev pub ended_with : List ℕ → Course
+ended_with [] = Ends (Err StackEmpty)
+ended_with (value ∷ rest) = Ends (Ok value)
 
 -- if_goto, by the number that it takes off the stack
 abbrev pub branched : ℕ → ℕ → List ℕ → Course
@@ -143,7 +143,7 @@ branched target next (a ∷ rest) = Goes (if a == 0 then next else target) rest
 abbrev pub flowed : Flow → ℕ → ℕ → List ℕ → Course
 flowed flow.GotoIf n next stack = branched n next stack
 flowed flow.Goto n next stack = Goes n stack
-flowed flow.End n next stack = ended stack
+flowed flow.End n next stack = ended_with stack
 
 abbrev pub performed : Seen → Operation → ℕ → ℕ → List ℕ → Course
 performed seen (operation.Binary o) n next stack = goes_on next (after_binary o stack)
@@ -157,21 +157,21 @@ step_by seen stack (Err e) = Ends (Err e)
 step_by seen stack (Ok f) = performed seen f.operation f.number f.next stack
 
 -- one step, at a place with a stack
-abbrev pub step : Seen → List ℕ → ℕ → List ℕ → Course
-step seen code place stack = step_by seen stack (fetch code place)
+abbrev pub expression_step : Seen → List ℕ → ℕ → List ℕ → Course
+expression_step seen code place stack = step_by seen stack (fetch code place)
 
-abbrev pub rest_of : (ℕ → List ℕ → Result ℕ EvaluateErr) → Course → Result ℕ EvaluateErr
-rest_of more (Goes place stack) = more place stack
-rest_of more (Ends result) = result
+abbrev pub course_result : (ℕ → List ℕ → Result ℕ EvaluateErr) → Course → Result ℕ EvaluateErr
+course_result more (Goes place stack) = more place stack
+course_result more (Ends result) = result
 
 -- at most so many steps from a place on
 unfoldable pub evaluates_from : Seen → List ℕ → ℕ → ℕ → List ℕ → Result ℕ EvaluateErr
 evaluates_from seen code zero place stack = Err TooManySteps
-evaluates_from seen code (suc n) place stack = rest_of (evaluates_from seen code n) (step seen code place stack)
+evaluates_from seen code (suc n) place stack = course_result (evaluates_from seen code n) (expression_step seen code place stack)
 
 -- what an expression evaluates to, from its first byte on with nothing on the stack
 abbrev pub evaluates : Seen → List ℕ → Result ℕ EvaluateErr
-evaluates seen code = evaluates_from seen code most_steps 0 []
+evaluates seen code = evaluates_from seen code most_expression_steps 0 []
 
 -- ---- conditions
 
@@ -181,17 +181,17 @@ is_met (Ok n) = not (n == 0)
 is_met (Err e) = true
 
 -- whether a condition is met
-abbrev pub holds : Seen → List ℕ → Bool
-holds seen code = is_met (evaluates seen code)
+abbrev pub condition_holds : Seen → List ℕ → Bool
+condition_holds seen code = is_met (evaluates seen code)
 
 -- ---- calls
 
 -- the stack that a call leaves
-abbrev pub Leaves : {A : Type 0} → Result A EvaluateErr → List ℕ → Result (List ℕ) EvaluateErr → Type 0
-Leaves (Ok a) stack outcome = outcome ≡ Ok stack
-Leaves (Err e) stack outcome = outcome ≡ Err e
+abbrev pub LeavesStack : {A : Type 0} → Result A EvaluateErr → List ℕ → Result (List ℕ) EvaluateErr → Type 0
+LeavesStack (Ok a) stack outcome = outcome ≡ Ok stack
+LeavesStack (Err e) stack outcome = outcome ≡ Err e
 
 -- a step leads so, and leaves this stack
-abbrev pub Follows : Turn → List ℕ → Course → Type 0
-Follows (turn.Goes place) stack course = course ≡ Goes place stack
-Follows (turn.Ends result) stack course = course ≡ Ends result
+abbrev pub IsTurnOf : Turn → List ℕ → Course → Type 0
+IsTurnOf (turn.Goes place) stack course = course ≡ Goes place stack
+IsTurnOf (turn.Ends result) stack course = course ≡ Ends result

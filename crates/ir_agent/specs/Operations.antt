@@ -17,8 +17,8 @@ use Rattle.ir_agent.specs.declared.operation.Operation.TheVariants as operation
 
 -- of two numbers: add, sub, mul, div_signed, div_unsigned, rem_signed, rem_unsigned, lsh, rsh_signed, rsh_unsigned, bit_and, bit_or, bit_xor,
 -- equal, less_signed, less_unsigned
-abbrev pub binary_of : ℕ → Option Binary
-binary_of code =
+abbrev pub binary_bytecode : ℕ → Option Binary
+binary_bytecode code =
     if code == 0x02 then Some binary.Add else
     if code == 0x03 then Some binary.Subtract else
     if code == 0x04 then Some binary.Multiply else
@@ -37,16 +37,16 @@ binary_of code =
     if code == 0x15 then Some binary.LessUnsigned else None
 
 -- of a number: log_not, bit_not, ext, zero_ext
-abbrev pub unary_of : ℕ → Option Unary
-unary_of code =
+abbrev pub unary_bytecode : ℕ → Option Unary
+unary_bytecode code =
     if code == 0x0e then Some unary.LogicalNot else
     if code == 0x12 then Some unary.BitwiseNot else
     if code == 0x16 then Some unary.Extend else
     if code == 0x2a then Some unary.ZeroExtend else None
 
 -- what puts a number on the stack: ref8, ref16, ref32, ref64 in the place of an address, const8, const16, const32, const64, reg
-abbrev pub source_of : ℕ → Option Source
-source_of code =
+abbrev pub source_bytecode : ℕ → Option Source
+source_bytecode code =
     if code == 0x17 then Some (source.Memory Byte) else
     if code == 0x18 then Some (source.Memory Half) else
     if code == 0x19 then Some (source.Memory Word) else
@@ -58,8 +58,8 @@ source_of code =
     if code == 0x26 then Some source.Register else None
 
 -- what orders the stack: dup, pop, swap, pick, rot
-abbrev pub order_of : ℕ → Option Order
-order_of code =
+abbrev pub order_bytecode : ℕ → Option Order
+order_bytecode code =
     if code == 0x28 then Some order.Duplicate else
     if code == 0x29 then Some order.Pop else
     if code == 0x2b then Some order.Swap else
@@ -67,8 +67,8 @@ order_of code =
     if code == 0x33 then Some order.Rotate else None
 
 -- where the next bytecode is, or that there is none: if_goto, goto, end
-abbrev pub flow_of : ℕ → Option Flow
-flow_of code =
+abbrev pub flow_bytecode : ℕ → Option Flow
+flow_bytecode code =
     if code == 0x20 then Some flow.GotoIf else
     if code == 0x21 then Some flow.Goto else
     if code == 0x27 then Some flow.End else None
@@ -81,10 +81,10 @@ or_operation (Some o) next = Some o
 -- manual gives those of floating point a number only
 abbrev pub operation_of : ℕ → Option Operation
 operation_of code =
-    or_operation (option_map operation.Binary (binary_of code))
-    (or_operation (option_map operation.Unary (unary_of code))
-    (or_operation (option_map operation.Source (source_of code))
-    (or_operation (option_map operation.Order (order_of code)) (option_map operation.Flow (flow_of code)))))
+    or_operation (option_map operation.Binary (binary_bytecode code))
+    (or_operation (option_map operation.Unary (unary_bytecode code))
+    (or_operation (option_map operation.Source (source_bytecode code))
+    (or_operation (option_map operation.Order (order_bytecode code)) (option_map operation.Flow (flow_bytecode code)))))
 
 -- ---- the number behind a bytecode
 
@@ -119,12 +119,12 @@ behind_flow flow.Goto = 2
 behind_flow flow.End = 0
 
 -- how many bytes the number behind a bytecode has
-abbrev pub behind : Operation → ℕ
-behind (operation.Binary o) = 0
-behind (operation.Unary o) = behind_unary o
-behind (operation.Source o) = behind_source o
-behind (operation.Order o) = behind_order o
-behind (operation.Flow o) = behind_flow o
+abbrev pub bytes_behind : Operation → ℕ
+bytes_behind (operation.Binary o) = 0
+bytes_behind (operation.Unary o) = behind_unary o
+bytes_behind (operation.Source o) = behind_source o
+bytes_behind (operation.Order o) = behind_order o
+bytes_behind (operation.Flow o) = behind_flow o
 
 -- a number as the stack has it
 abbrev pub wrapped : ℕ → ℕ

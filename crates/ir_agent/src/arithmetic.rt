@@ -1,25 +1,25 @@
 //! What the bytecodes compute.
 
 ghost use Rattle.std.specs.Prelude.{◌≡◌, int_lt};
-ghost use Rattle.ir_agent.specs.Arithmetic.{signed, shifted_left, shifted_right, shifted_right_signed, zero_extended, extended};
+ghost use Rattle.ir_agent.specs.Arithmetic.{signed_64, shifted_left_64, shifted_right_64, shifted_right_signed_64, zero_filled, sign_filled};
 ghost use Rattle.ir_agent.specs.Arithmetic as arithmetic;
 
 use crate::operation::{Binary, Unary};
 
 fn shifted_left(a: u64, amount: u64) -> u64
-    ensures { result ≡ shifted_left a amount }
+    ensures { result ≡ shifted_left_64 a amount }
 {
     if amount < 64 { a << amount } else { 0 }
 }
 
 fn shifted_right(a: u64, amount: u64) -> u64
-    ensures { result ≡ shifted_right a amount }
+    ensures { result ≡ shifted_right_64 a amount }
 {
     if amount < 64 { a >> amount } else { 0 }
 }
 
 fn shifted_right_signed(a: u64, amount: u64) -> u64
-    ensures { result ≡ shifted_right_signed a amount }
+    ensures { result ≡ shifted_right_signed_64 a amount }
 {
     if a < 1 << 63 {
         return shifted_right(a, amount);
@@ -28,7 +28,7 @@ fn shifted_right_signed(a: u64, amount: u64) -> u64
 }
 
 fn is_less(a: u64, b: u64) -> bool
-    ensures { result ≡ int_lt (signed a) (signed b) }
+    ensures { result ≡ int_lt (signed_64 a) (signed_64 b) }
 {
     a.cast_signed() < b.cast_signed()
 }
@@ -84,13 +84,13 @@ pub fn binary_value(operation: Binary, a: u64, b: u64) -> Option<u64>
 }
 
 fn zero_extended(bits: u64, a: u64) -> u64
-    ensures { result ≡ zero_extended bits a }
+    ensures { result ≡ zero_filled bits a }
 {
     if bits < 64 { a % (1 << bits) } else { a }
 }
 
 fn extended(bits: u64, a: u64) -> u64
-    ensures { result ≡ extended bits a }
+    ensures { result ≡ sign_filled bits a }
 {
     if bits >= 64 {
         return a;

@@ -1,7 +1,7 @@
 //! Expressions are evaluated.
 
 ghost use Rattle.std.specs.Prelude.{◌≡◌};
-ghost use Rattle.ir_agent.specs.Evaluation.{seen_of, flowed, performed, step, evaluates, Follows};
+ghost use Rattle.ir_agent.specs.Evaluation.{scene_of, flowed, performed, expression_step, evaluates, IsTurnOf};
 ghost use Rattle.ir_agent.specs.Evaluation as evaluation;
 
 use crate::evaluate_err::EvaluateErr;
@@ -14,11 +14,11 @@ use crate::stack::Stack;
 use crate::turn::Turn;
 
 /// The most steps of an evaluation.
-pub const MOST_STEPS: usize = 4096;
+pub const MOST_EXPRESSION_STEPS: usize = 4096;
 
 // Goes to a place, or on, or ends with the top as the value.
 fn flow(flow: Flow, number: u64, next: usize, stack: &mut Stack) -> Turn
-    ensures { Follows result stack.new (flowed flow number next stack.old) }
+    ensures { IsTurnOf result stack.new (flowed flow number next stack.old) }
 {
     match flow {
         Flow::Goto => Turn::Goes(number),
@@ -33,7 +33,7 @@ fn flow(flow: Flow, number: u64, next: usize, stack: &mut Stack) -> Turn
 
 // Does to the stack what a bytecode does that isn't of flow.
 fn perform<S: Seen>(seen: &S, fetched: Fetched, stack: &mut Stack) -> Turn
-    ensures { Follows result stack.new (performed (seen_of (S.registers seen.now) (S.bytes seen.now)) fetched.operation fetched.number fetched.next stack.old) }
+    ensures { IsTurnOf result stack.new (performed (scene_of (S.registers seen.now) (S.bytes seen.now)) fetched.operation fetched.number fetched.next stack.old) }
 {
     let number = fetched.number;
     let done = match fetched.operation {
@@ -51,7 +51,7 @@ fn perform<S: Seen>(seen: &S, fetched: Fetched, stack: &mut Stack) -> Turn
 
 // One step, at a place.
 fn step<S: Seen>(seen: &S, code: &[u8], place: u64, stack: &mut Stack) -> Turn
-    ensures { Follows result stack.new (step (seen_of (S.registers seen.now) (S.bytes seen.now)) code.now place stack.old) }
+    ensures { IsTurnOf result stack.new (expression_step (scene_of (S.registers seen.now) (S.bytes seen.now)) code.now place stack.old) }
 {
     if place >= code.len() as u64 {
         return Turn::Ends(Err(EvaluateErr::Outside));
@@ -67,11 +67,11 @@ fn step<S: Seen>(seen: &S, code: &[u8], place: u64, stack: &mut Stack) -> Turn
 /// # Errors
 /// The expression has no value.
 pub fn evaluate<S: Seen>(seen: &S, code: &[u8]) -> Result<u64, EvaluateErr>
-    ensures { result ≡ evaluates (seen_of (S.registers seen.now) (S.bytes seen.now)) code.now }
+    ensures { result ≡ evaluates (scene_of (S.registers seen.now) (S.bytes seen.now)) code.now }
 {
     let mut stack = Stack::new();
     let mut place = 0;
-    'steps: for taken in 0..MOST_STEPS {
+    'steps: for taken in 0..MOST_EXPRESSION_STEPS {
         match step(seen, code, place, &mut stack) {
             Turn::Goes(next) => place = next,
             Turn::Ends(result) => return result,
@@ -82,7 +82,7 @@ pub fn evaluate<S: Seen>(seen: &S, code: &[u8]) -> Result<u64, EvaluateErr>
 
 /// Whether a condition is met: it evaluates to something else than 0, or has no value.
 pub fn holds<S: Seen>(seen: &S, code: &[u8]) -> bool
-    ensures { result ≡ evaluation.holds (seen_of (S.registers seen.now) (S.bytes seen.now)) code.now }
+    ensures { result ≡ evaluation.condition_holds (scene_of (S.registers seen.now) (S.bytes seen.now)) code.now }
 {
     match evaluate(seen, code) {
         Ok(value) => value != 0,

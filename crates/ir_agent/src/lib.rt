@@ -15,6 +15,6 @@ mod tests;
 mod turn;
 
 pub use evaluate_err::EvaluateErr;
-pub use evaluating::{MOST_STEPS, evaluate, holds};
+pub use evaluating::{MOST_EXPRESSION_STEPS, evaluate, holds};
 pub use seen::Seen;
 pub use stack::MOST_STACK;

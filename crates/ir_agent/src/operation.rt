@@ -79,7 +79,7 @@ pub enum Operation {
 }
 
 fn binary_of(code: u8) -> Option<Binary>
-    ensures { result ≡ operations.binary_of code }
+    ensures { result ≡ operations.binary_bytecode code }
 {
     match code {
         0x02 => Some(Binary::Add),
@@ -103,7 +103,7 @@ fn binary_of(code: u8) -> Option<Binary>
 }
 
 fn unary_of(code: u8) -> Option<Unary>
-    ensures { result ≡ operations.unary_of code }
+    ensures { result ≡ operations.unary_bytecode code }
 {
     match code {
         0x0e => Some(Unary::LogicalNot),
@@ -115,7 +115,7 @@ fn unary_of(code: u8) -> Option<Unary>
 }
 
 fn source_of(code: u8) -> Option<Source>
-    ensures { result ≡ operations.source_of code }
+    ensures { result ≡ operations.source_bytecode code }
 {
     match code {
         0x17 => Some(Source::Memory(Width::Byte)),
@@ -132,7 +132,7 @@ fn source_of(code: u8) -> Option<Source>
 }
 
 fn order_of(code: u8) -> Option<Order>
-    ensures { result ≡ operations.order_of code }
+    ensures { result ≡ operations.order_bytecode code }
 {
     match code {
         0x28 => Some(Order::Duplicate),
@@ -145,7 +145,7 @@ fn order_of(code: u8) -> Option<Order>
 }
 
 fn flow_of(code: u8) -> Option<Flow>
-    ensures { result ≡ operations.flow_of code }
+    ensures { result ≡ operations.flow_bytecode code }
 {
     match code {
         0x20 => Some(Flow::GotoIf),
@@ -188,7 +188,7 @@ pub fn bytes_in(width: Width) -> usize
 
 /// How many bytes the number behind a bytecode has.
 pub fn behind(operation: Operation) -> usize
-    ensures { result ≡ operations.behind operation }
+    ensures { result ≡ operations.bytes_behind operation }
 {
     match operation {
         Operation::Unary(Unary::Extend | Unary::ZeroExtend) | Operation::Order(Order::Pick) => 1,

@@ -1,7 +1,7 @@
 //! What each bytecode does to the stack.
 
 ghost use Rattle.std.specs.Prelude.{◌≡◌, ◌<◌, ◌+◌, ◌*◌, ◌∷◌, [], length, MatchResult, OnOk, slice_get};
-ghost use Rattle.ir_agent.specs.Evaluation.{seen_of, after_binary, after_unary, after_source, after_order, or_empty, number_at, byte_at, most_stack, Leaves};
+ghost use Rattle.ir_agent.specs.Evaluation.{scene_of, after_binary, after_unary, after_source, after_order, or_empty, number_in_memory, seen_byte, most_stack, LeavesStack};
 ghost use Rattle.ir_agent.specs.Operations.{wrapped};
 
 use crate::arithmetic::{binary_value, unary_value};
@@ -23,7 +23,7 @@ fn take(stack: &mut Stack) -> Result<u64, EvaluateErr>
 /// # Errors
 /// `StackEmpty`, `DivisionByZero`.
 pub fn do_binary(operation: Binary, stack: &mut Stack) -> Result<(), EvaluateErr>
-    ensures { Leaves result stack.new (after_binary operation stack.old) }
+    ensures { LeavesStack result stack.new (after_binary operation stack.old) }
 {
     let b = take(stack)?;
     let a = take(stack)?;
@@ -39,7 +39,7 @@ pub fn do_binary(operation: Binary, stack: &mut Stack) -> Result<(), EvaluateErr
 /// # Errors
 /// `StackEmpty`.
 pub fn do_unary(operation: Unary, number: u64, stack: &mut Stack) -> Result<(), EvaluateErr>
-    ensures { Leaves result stack.new (after_unary operation number stack.old) }
+    ensures { LeavesStack result stack.new (after_unary operation number stack.old) }
 {
     let a = take(stack)?;
     stack.put_back(unary_value(operation, number, a));
@@ -48,7 +48,7 @@ pub fn do_unary(operation: Unary, number: u64, stack: &mut Stack) -> Result<(), 
 
 // The byte at an address of 32 bits.
 fn byte_at<S: Seen>(seen: &S, address: u64) -> Option<u8>
-    ensures { result ≡ byte_at (seen_of (S.registers seen.now) (S.bytes seen.now)) address }
+    ensures { result ≡ seen_byte (scene_of (S.registers seen.now) (S.bytes seen.now)) address }
 {
     if address >= 1 << 32 {
         return None;
@@ -64,9 +64,9 @@ fn joined(low: u8, high: u64) -> u64
 }
 
 // The number that bytes from an address on write, the lowest first, if they are all there.
-#[tactic(auto, unfolding(crate::specs::Evaluation::number_at))]
+#[tactic(auto, unfolding(crate::specs::Evaluation::number_in_memory))]
 fn number_at<S: Seen>(seen: &S, count: usize, address: u64) -> Option<u64>
-    ensures { result ≡ number_at (seen_of (S.registers seen.now) (S.bytes seen.now)) count address }
+    ensures { result ≡ number_in_memory (scene_of (S.registers seen.now) (S.bytes seen.now)) count address }
 {
     if count == 0 {
         return Some(0);
@@ -86,7 +86,7 @@ pub fn do_source<S: Seen>(
     number: u64,
     stack: &mut Stack,
 ) -> Result<(), EvaluateErr>
-    ensures { Leaves result stack.new (after_source (seen_of (S.registers seen.now) (S.bytes seen.now)) source number stack.old) }
+    ensures { LeavesStack result stack.new (after_source (scene_of (S.registers seen.now) (S.bytes seen.now)) source number stack.old) }
 {
     match source {
         Source::Memory(width) => {
@@ -109,7 +109,7 @@ pub fn do_source<S: Seen>(
 
 // The number of a place below the top again.
 fn repeat(depth: u64, stack: &mut Stack) -> Result<(), EvaluateErr>
-    ensures { Leaves result stack.new (or_empty (slice_get stack.old depth) stack.old) }
+    ensures { LeavesStack result stack.new (or_empty (slice_get stack.old depth) stack.old) }
 {
     let Some(value) = stack.below_top(depth) else {
         return Err(EvaluateErr::StackEmpty);
@@ -120,7 +120,7 @@ fn repeat(depth: u64, stack: &mut Stack) -> Result<(), EvaluateErr>
 // The two upper numbers exchanged.
 #[tactic(auto, using(crate::proofs::Room::room_for_another))]
 fn swap(stack: &mut Stack) -> Result<(), EvaluateErr>
-    ensures { Leaves result stack.new (after_order Order.Swap 0 stack.old) }
+    ensures { LeavesStack result stack.new (after_order Order.Swap 0 stack.old) }
 {
     let b = take(stack)?;
     let a = take(stack)?;
@@ -132,7 +132,7 @@ fn swap(stack: &mut Stack) -> Result<(), EvaluateErr>
 // The top below the next two.
 #[tactic(auto, using(crate::proofs::Room::room_for_another, crate::proofs::Room::room_for_a_third))]
 fn rotate(stack: &mut Stack) -> Result<(), EvaluateErr>
-    ensures { Leaves result stack.new (after_order Order.Rotate 0 stack.old) }
+    ensures { LeavesStack result stack.new (after_order Order.Rotate 0 stack.old) }
 {
     let c = take(stack)?;
     let b = take(stack)?;
@@ -148,7 +148,7 @@ fn rotate(stack: &mut Stack) -> Result<(), EvaluateErr>
 /// # Errors
 /// `StackEmpty`, `StackFull`.
 pub fn do_order(order: Order, number: u64, stack: &mut Stack) -> Result<(), EvaluateErr>
-    ensures { Leaves result stack.new (after_order order number stack.old) }
+    ensures { LeavesStack result stack.new (after_order order number stack.old) }
 {
     match order {
         Order::Duplicate => repeat(0, stack),

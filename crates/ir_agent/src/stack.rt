@@ -1,7 +1,7 @@
 //! The stack of an evaluation.
 
 ghost use Rattle.std.specs.Prelude.{◌≡◌, ◌<◌, [], ◌∷◌, length, MatchOption, OnSome, slice_get};
-ghost use Rattle.ir_agent.specs.Evaluation.{most_stack, pushed, Leaves};
+ghost use Rattle.ir_agent.specs.Evaluation.{most_stack, pushed, LeavesStack};
 
 use crate::evaluate_err::EvaluateErr;
 use arrayvec::ArrayVec;
@@ -39,7 +39,7 @@ impl Stack {
     /// # Errors
     /// `StackFull`.
     pub fn push(&mut self, number: u64) -> Result<(), EvaluateErr>
-        ensures { Leaves result self.new (pushed number self.old) }
+        ensures { LeavesStack result self.new (pushed number self.old) }
     {
         if self.numbers.is_full() {
             return Err(EvaluateErr::StackFull);

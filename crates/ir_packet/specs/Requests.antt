@@ -158,13 +158,13 @@ abbrev pub conditions : List ℕ → Option (List (List ℕ))
 conditions text = conditions_in (length text) text
 
 -- an address and a kind, by what is behind them: nothing, or `;` and conditions
-abbrev pub breakpoint_with : Bool → List ℕ → List ℕ → Request
-breakpoint_with hardware place [] = two_with_comma (λ a kind. request.SetBreak a hardware) place
-breakpoint_with hardware place (b ∷ text) =
+abbrev pub break_request_with : Bool → List ℕ → List ℕ → Request
+break_request_with hardware place [] = two_with_comma (λ a kind. request.SetBreak a hardware) place
+break_request_with hardware place (b ∷ text) =
     if is_some (conditions text) then two_with_comma (λ a kind. request.SetBreakIf a hardware) place else request.Malformed
 
-unfoldable pub breakpoint : Bool → List ℕ → Request
-breakpoint hardware rest = breakpoint_with hardware (number_before 59 rest) (drop (digit_index_of 59 rest) rest)
+unfoldable pub break_request : Bool → List ℕ → Request
+break_request hardware rest = break_request_with hardware (number_before 59 rest) (drop (digit_index_of 59 rest) rest)
 
 -- a restart, by the argument behind the program's name, if there is one
 abbrev pub restart_with : List ℕ → Request
@@ -219,8 +219,8 @@ commands =
 -- breakpoints and watches
 abbrev pub points : List PacketRow
 points =
-    packet_row (codes "Z0,") (breakpoint false) ∷
-    packet_row (codes "Z1,") (breakpoint true) ∷
+    packet_row (codes "Z0,") (break_request false) ∷
+    packet_row (codes "Z1,") (break_request true) ∷
     packet_row (codes "Z2,") (two_with_comma request.SetWatch) ∷
     packet_row (codes "z0,") (two_with_comma (λ a kind. request.ClearBreak a false)) ∷
     packet_row (codes "z1,") (two_with_comma (λ a kind. request.ClearBreak a true)) ∷

@@ -111,9 +111,9 @@ fn asked_named(payload: &[u8]) -> Option<Request>
 }
 
 // A breakpoint, by the address and the kind and what is behind them.
-#[tactic(auto, unfolding(crate::specs::Requests::breakpoint))]
+#[tactic(auto, unfolding(crate::specs::Requests::break_request))]
 fn breakpoint(hardware: bool, rest: &[u8]) -> Request
-    ensures { result ≡ requests.breakpoint hardware rest.now }
+    ensures { result ≡ requests.break_request hardware rest.now }
 {
     let (place, behind) = cut(b';', rest);
     match behind {
