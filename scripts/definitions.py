@@ -104,7 +104,7 @@ CLAIMS = [
     ], (1385, 548)),
     Claim("gdb", "`ir gdb` answers gdb, and its moves are a session's.", {
         "ir_gdb/src/session.rt": ["connect"],
-        "ir_gdb/src/laws.rt": ["alone_is_session", "no_hit_is_passed", "none_is_blocked", "each_hit_is_shown_once", "no_bad_end_is_hidden"],
+        "ir_gdb/src/laws.rt": ["alone_is_session", "no_hit_is_passed", "none_is_blocked", "each_hit_is_shown_once", "shown_condition_is_met", "no_bad_end_is_hidden"],
     }, [
         ("ir_gdb", "Stub", "`Stub`: the small machine, and what gdb has set"),
         ("ir_gdb", "Stops", "where a thread stops"),

@@ -28,7 +28,7 @@ use Rattle.ir_gdb.specs.Together.{Halt, Comes, MovesAlone}
 use Rattle.ir_gdb.specs.Over.{PassesHit, stepped_over, StepsOver, LeadsBy}
 use Rattle.ir_gdb.specs.Laws.{SessionGoes, LeadsLone, StaysWhereItIs}
 use Rattle.ir_gdb.proofs.Finding.{position_in, upwards_as_session, downwards_as_session}
-use Rattle.ir_gdb.proofs.Unguarded.{AreUnguarded, first_stop_is_first_hit, last_stop_is_last_hit}
+use Rattle.ir_gdb.proofs.Unguarded.{AreUnguarded, first_stop_is_first_hit}
 
 -- ---- where no watch is set
 
@@ -85,16 +85,16 @@ end_below_is_stop f t breaks (Some h) (Some k) same = stop_below_is_at_hit break
 
 -- ---- `c`
 
-pub continue_as_session : (run : List Step) (s : Stub) (t : ℕ) (h : Halt) → LeadsLone run s t motion.Continue h
+pub continue_as_session : (run : List Step) (s : Stub) (t : ℕ) (h : Halt) → IsStub s → AreUnguarded s.breaks → LeadsLone run s t motion.Continue h
     → (h.thread ≡ t) × SessionGoes run s t (command.Continue t Forwards) h.cut
-continue_as_session run s t h lone = by (subst (λ (b : Bool). LeadsBy b false run s t motion.Continue h) lone.free lone.leads)
+continue_as_session run s t h stub free lone = by (subst (λ (b : Bool). LeadsBy b false run s t motion.Continue h) lone.free lone.leads)
   where
     f : FittedTrace
     f = s.desk.fitted
 
     by : MovesAlone run s t motion.Continue h → (h.thread ≡ t) × SessionGoes run s t (command.Continue t Forwards) h.cut
     by (to, (hit, finds, ends), comes, is) =
-        let first = first_stop_is_first_hit run s t lone.watches lone.conditions lone.is.few (position_of s t) hit finds in
+        let first = first_stop_is_first_hit run s t lone.watches free stub.few (position_of s t) hit finds in
         let bare = subst (λ (ws : List Watched). IsFirstHit f run (points_upwards t ws s.breaks s.desk.points) t (position_of s t) hit) lone.watches first in
         let found = upwards_as_session run f s.breaks s.desk.points t (position_of s t) (s.desk.last_point + 1) hit bare in
         let at = ap (λ (x : Stopped). x.position) (ends ∙ ap (λ (ws : List Watched). end_above ws s.breaks (last_of f t) hit) lone.watches)
@@ -103,11 +103,11 @@ continue_as_session run s t h lone = by (subst (λ (b : Bool). LeadsBy b false r
 
 -- ---- `bc`
 
-stops_below_as_session : (run : List Step) (s : Stub) (t n : ℕ) (to : Stopped) → s.watches ≡ [] → AreUnguarded s.breaks → IsStub s → n ≡ position_of s t → ContinuesBackBy run s t true n to
+stops_below_as_session : (run : List Step) (s : Stub) (t n : ℕ) (to : Stopped) → s.watches ≡ [] → n ≡ position_of s t → ContinuesBackBy run s t true n to
     → (hit : Option Hit) × IsLastHit s.desk.fitted run (s.desk.points ++ break_points t (s.desk.last_point + 1) s.breaks) t (position_of s t) hit
     × (to.position ≡ stop_of s.desk.fitted t Backwards hit)
-stops_below_as_session run s t zero to none free stub here is = (None, λ j n low high. absurd (omega (arith, high, here)), ap (λ (x : Stopped). x.position) is)
-stops_below_as_session run s t (suc p) to none free stub here (why, next, back) = by (subst (λ (w : Option Reason). BackBy run s t true (suc p) w to)
+stops_below_as_session run s t zero to none here is = (None, λ j n low high. absurd (omega (arith, high, here)), ap (λ (x : Stopped). x.position) is)
+stops_below_as_session run s t (suc p) to none here (why, next, back) = by (subst (λ (w : Option Reason). BackBy run s t true (suc p) w to)
     (no_watch_is_next run s t p true why none next) back)
   where
     f : FittedTrace
@@ -117,8 +117,7 @@ stops_below_as_session run s t (suc p) to none free stub here (why, next, back) 
         × IsLastHit s.desk.fitted run (s.desk.points ++ break_points t (s.desk.last_point + 1) s.breaks) t (position_of s t) hit
         × (to.position ≡ stop_of s.desk.fitted t Backwards hit)
     by (hit, finds, ends) =
-        let last = last_stop_is_last_hit run s t none free stub.few (position_of s t) hit finds in
-        let bare = subst (λ (ws : List Watched). IsLastHit f run (points_downwards t ws s.breaks s.desk.points) t (position_of s t) hit) none last in
+        let bare = subst (λ (ws : List Watched). IsLastHit f run (points_downwards t ws s.breaks s.desk.points) t (position_of s t) hit) none finds in
         let found = downwards_as_session run f s.breaks s.desk.points t (position_of s t) (s.desk.last_point + 1) hit bare in (
           found.0,
           found.1,
@@ -132,7 +131,7 @@ continue_back_as_session run s t h lone = by (subst (λ (b : Bool). LeadsBy b fa
   where
     by : MovesAlone run s t motion.ContinueBack h → (h.thread ≡ t) × SessionGoes run s t (command.Continue t Backwards) h.cut
     by (to, moves, comes, is) =
-        let found = stops_below_as_session run s t (position_of s t) to lone.watches lone.conditions lone.is refl moves in
+        let found = stops_below_as_session run s t (position_of s t) to lone.watches refl moves in
         (ap (λ (x : Halt). x.thread) is, (_, (h.cut, found.0, (found.1, subst (λ (k : ℕ). Comes run s Backwards t k h.cut) found.2 comes), (refl, refl))))
 
 -- ---- `bs`

@@ -7,7 +7,7 @@ use Rattle.ir_stream.specs.Endings.{flow_after}
 use Rattle.ir_stream.specs.declared.serving.Flow.{Flow}
 use Rattle.ir_packet.specs.Packets.{packet_of}
 use Rattle.ir_packet.specs.Replies.{reply_text}
-use Rattle.ir_packet.specs.Requests.{request_of, console_line}
+use Rattle.ir_packet.specs.Requests.{request_of, console_line, break_conditions}
 use Rattle.ir_packet.specs.Reading.{item_found}
 use Rattle.ir_packet.specs.Stream.{Item}
 use Rattle.ir_packet.specs.Stream as stream
@@ -17,9 +17,11 @@ use Rattle.ir_packet.specs.declared.reply.Reply.TheVariants as reply
 use Rattle.ir_packet.specs.declared.request.Request.{Request}
 use Rattle.ir_packet.specs.declared.request.Request.TheVariants as request
 use Rattle.ir_debug.specs.Machine.{quits}
+use Rattle.ir_gdb.specs.Guards.{guarded}
+use Rattle.ir_gdb.specs.Replies.{breakpoint}
 use Rattle.ir_gdb.proofs.Answering.{sent_answer_to_packet, packet_answer_in_part}
 use Rattle.ir_gdb.specs.Connection.{Link, sent, resent, sign, unacknowledged, is_copy, is_packet, before_new_reply, before_reply_by}
-use Rattle.ir_gdb.specs.Connection.{before_reply, AnswersLine, RepliesToItem, AnswersRequest, AnswersPacket, AnswersNew, AnswersItem}
+use Rattle.ir_gdb.specs.Connection.{before_reply, AnswersLine, SetsBreak, RepliesToItem, AnswersRequest, AnswersPacket, AnswersNew, AnswersItem}
 use Rattle.ir_gdb.specs.Connection.{AnswersItemBy, ends_request, request_ends, item_ends, Sent, SentInPart}
 
 -- ---- requests
@@ -129,6 +131,16 @@ module _ (l : Link) (payload : List ℕ) (asked : Request) (next : Link) (w w' :
   pub console_part : asked ≡ request.Console → SentInPart (AnswersLine (quits (console_line payload)) l (console_line payload)) [] w w'
       → SentInPart (AnswersRequest l payload asked) [] w w'
   console_part is s = subst (λ (r : Request). SentInPart (AnswersRequest l payload r) [] w w') (sym is)
+      (record { text = s.text; is = s.is; grown = s.grown })
+
+  pub guarded_sent : (a : ℕ) (hardware : Bool) → asked ≡ request.SetBreakIf a hardware
+      → Sent (SetsBreak l (guarded (breakpoint a hardware) (break_conditions payload))) next w w' → Sent (AnswersRequest l payload asked) next w w'
+  guarded_sent a hardware is s = subst (λ (r : Request). Sent (AnswersRequest l payload r) next w w') (sym is)
+      (record { text = s.text; is = s.is; grown = s.grown })
+
+  pub guarded_part : (a : ℕ) (hardware : Bool) → asked ≡ request.SetBreakIf a hardware
+      → SentInPart (SetsBreak l (guarded (breakpoint a hardware) (break_conditions payload))) [] w w' → SentInPart (AnswersRequest l payload asked) [] w w'
+  guarded_part a hardware is s = subst (λ (r : Request). SentInPart (AnswersRequest l payload r) [] w w') (sym is)
       (record { text = s.text; is = s.is; grown = s.grown })
 
   pub quiet_sent : asked ≡ request.NoAcknowledgements → next ≡ unacknowledged (sent l l.stub (packet_of (reply_text reply.Done)))

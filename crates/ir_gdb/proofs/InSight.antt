@@ -4,7 +4,7 @@ use Rattle.std.specs.Prelude.{nat_lt, if◌then◌else◌}
 use Rattle.std.proofs.lemmas.Bool.Decides.{nat_tests}
 use Rattle.std.proofs.lemmas.Option.{slice_get-get_or}
 use Rattle.std.proofs.Math.Path.{fun_ext}
-use Rattle.ir_image.specs.Guest.{object_count, object_words}
+use Rattle.ir_image.specs.Guest.{Guest, object_count, object_words}
 use Rattle.ir_mach.specs.Core.{Core}
 use Rattle.ir_mach.specs.Execution.{byte_at}
 use Rattle.ir_object.specs.Cell.{Cell}
@@ -13,13 +13,16 @@ use Rattle.ir_runs.specs.Machine.{Object}
 use Rattle.ir_runs.specs.Run.{Step, Cut, object_at}
 use Rattle.ir_flat.specs.Flat.{idle}
 use Rattle.ir_fit.specs.Fit.{FittedTrace, IsRunOf}
-use Rattle.ir_cut.specs.Positions.{EachRun, machine_of, start_of, thread_at}
+use Rattle.ir_cut.specs.Positions.{EachRun, machine_of, start_of, cut_of, thread_at}
 use Rattle.ir_weave.specs.Standing.{Standing, StandsAtCut}
-use Rattle.ir_agent.specs.Evaluation.{Seen, seen_of}
+use Rattle.ir_agent.specs.Evaluation.{Seen, scene_of}
 use Rattle.ir_hits.specs.Hits.{objects_start, object_size}
-use Rattle.ir_gdb.specs.Reads.{register_words, word_byte, object_byte, byte_at_cut}
+use Rattle.ir_gdb.specs.Guards.{Guarded}
+use Rattle.ir_gdb.specs.Serving.{Serving}
+use Rattle.ir_gdb.specs.Stub.{Stub, stub_spoken}
+use Rattle.ir_gdb.specs.Reads.{register_words, word_byte, object_byte, byte_at_cut, byte_seen}
 use Rattle.ir_gdb.specs.Sight.{Sight, sight_of, object_byte_seen, byte_in_sight, register_in_sight, seen_in}
-use Rattle.ir_gdb.specs.Conditions.{seen_at}
+use Rattle.ir_gdb.specs.Conditions.{seen_at, first_met_place, first_met_at}
 
 module _ (f : FittedTrace) (p : Cut) (state : Standing) (run : List Step) (stands : StandsAtCut f p state) (whole : IsRunOf f.guest f.recorded run) where
   object_in_hand : (core : Core) (offset : ℕ) → object_byte_seen (sight_of f.guest core state.objects) offset ≡ object_byte run f p offset
@@ -57,9 +60,36 @@ module _ (f : FittedTrace) (p : Cut) (state : Standing) (run : List Step) (stand
 
   seen_in_hand : (t : ℕ) (core : Core) → core ≡ (thread_at f run t (p t)).core → seen_in (sight_of f.guest core state.objects) ≡ seen_at run f p t
   seen_in_hand t core same =
-      ap (λ (c : Core). seen_of (slice_get (register_words c)) (byte_in_sight (sight_of f.guest core state.objects))) same
-      ∙ ap (seen_of (slice_get (register_words (thread_at f run t (p t)).core))) (fun_ext (λ a. byte_in_hand t core a same))
+      ap (λ (c : Core). scene_of (slice_get (register_words c)) (byte_in_sight (sight_of f.guest core state.objects))) same
+      ∙ ap (scene_of (slice_get (register_words (thread_at f run t (p t)).core))) (fun_ext (λ a. byte_in_hand t core a same))
 
 pub sight_sees_what_is_at_cut : (f : FittedTrace) (p : Cut) (state : Standing) (t : ℕ) (core : Core) → StandsAtCut f p state
     → EachRun f (λ run. core ≡ (thread_at f run t (p t)).core) → EachRun f (λ run. seen_in (sight_of f.guest core state.objects) ≡ seen_at run f p t)
 sight_sees_what_is_at_cut f p state t core stands same run whole = seen_in_hand f p state run stands whole t core (same run whole)
+
+-- the sight of a thread in hand, by its parts
+pub sight_by_parts : (s : Serving) (cut : List ℕ) (t : ℕ) (guest : Guest) (core : Core) (objects : List Cell) (sight : Sight)
+    → StandsAtCut s.stub.desk.fitted (cut_of cut) s.state → sight ≡ sight_of guest core objects → guest ≡ s.stub.desk.fitted.guest → objects ≡ s.state.objects
+    → EachRun s.stub.desk.fitted (λ run. core ≡ (thread_at s.stub.desk.fitted run t (cut_of cut t)).core)
+    → EachRun s.stub.desk.fitted (λ run. seen_in sight ≡ seen_at run s.stub.desk.fitted (cut_of cut) t)
+sight_by_parts s cut t guest core objects sight stands is one all same run whole =
+    ap seen_in (is ∙ ap (λ (g : Guest). sight_of g core objects) one ∙ ap (λ (xs : List Cell). sight_of s.stub.desk.fitted.guest core xs) all)
+    ∙ sight_sees_what_is_at_cut s.stub.desk.fitted (cut_of cut) s.state t core stands same run whole
+
+-- a byte of it is the general thread's
+pub byte_in_sight_is_seen : (s : Stub) (sight : Sight) (address : ℕ) (byte : Option ℕ)
+    → EachRun s.desk.fitted (λ run. seen_in sight ≡ seen_at run s.desk.fitted (cut_of s.desk.at) s.general) → byte ≡ byte_in_sight sight address
+    → EachRun s.desk.fitted (λ run. byte ≡ byte_seen run s address)
+byte_in_sight_is_seen s sight address byte seen is run whole = is ∙ ap (λ (x : Seen). x.byte address) (seen run whole)
+
+-- the first breakpoint of which a condition is met
+pub met_place_in_sight : (s u : Stub) (cut : List ℕ) (t pc : ℕ) (sight : Sight) (breaks : List Guarded) (place : Option ℕ) → u ≡ stub_spoken s → breaks ≡ u.breaks
+    → EachRun u.desk.fitted (λ run. seen_in sight ≡ seen_at run u.desk.fitted (cut_of cut) t)
+    → EachRun u.desk.fitted (λ run. pc ≡ (thread_at u.desk.fitted run t (cut_of cut t)).core.pc) → place ≡ first_met_place (seen_in sight) pc breaks
+    → EachRun s.desk.fitted (λ run. place ≡ first_met_at run s cut t)
+met_place_in_sight s u cut t pc sight breaks place same are seen at is =
+    let found : EachRun u.desk.fitted (λ run. place ≡ first_met_at run u cut t) = λ run whole.
+    is ∙ ap (λ (bs : List Guarded). first_met_place (seen_in sight) pc bs) are
+    ∙ ap (λ (x : Seen). first_met_place x pc u.breaks) (seen run whole)
+    ∙ ap (λ (n : ℕ). first_met_place (seen_at run u.desk.fitted (cut_of cut) t) n u.breaks) (at run whole) in
+    subst (λ (x : Stub). EachRun x.desk.fitted (λ run. place ≡ first_met_at run x cut t)) same found

@@ -35,4 +35,7 @@ mod Unguarded
 mod Farther
 mod Met
 mod InSight
+mod MetPlaces
 mod Deciding
+mod Nexts
+mod Lasts

@@ -9,15 +9,12 @@ use Rattle.ir_fit.specs.Fit.{FittedTrace}
 use Rattle.ir_command.specs.declared.command.Point.TheVariants.{Break}
 use Rattle.ir_hits.specs.Hits.{Numbered, HitBy, HitByNumber}
 use Rattle.ir_gdb.specs.declared.point.Watched.{Watched}
-use Rattle.ir_gdb.specs.Guards.{Guarded, is_guarded, guard_offset, number_at, has_guard}
-use Rattle.ir_gdb.specs.Points.{word_points, watched_words, watch_points, break_points, own_points, points_upwards, points_downwards}
+use Rattle.ir_gdb.specs.Guards.{Guarded, is_guarded, guard_offset, break_number, has_guard}
+use Rattle.ir_gdb.specs.Points.{word_points, watched_words, watch_points, break_points, own_points, points_upwards}
 use Rattle.ir_gdb.specs.Stub.{most_stub_points}
 use Rattle.ir_gdb.proofs.Finding.{first_point_hits, later_point_hits, first_or_later_hits}
 
 module _ (f : FittedTrace) (run : List Step) (t k : ℕ) where
-  Hits : List Numbered → ℕ → Type 0
-  Hits points n = HitByNumber f run points t k n
-
   hit_of_appended : (xs ys : List Numbered) (n : ℕ) → HitByNumber f run (xs ++ ys) t k n → HitByNumber f run xs t k n ⊎ HitByNumber f run ys t k n
   hit_of_appended [] ys n hits = inr hits
   hit_of_appended (x ∷ xs) ys n hits = elim (first_or_later_hits f run x (xs ++ ys) t k n hits) [
@@ -72,7 +69,7 @@ module _ (f : FittedTrace) (run : List Step) (t k : ℕ) where
   -- the breakpoint at a place hits under this number
   pub record IsHitBreak (place : ℕ) (bs : List Guarded) (n i : ℕ) (b : Guarded) : Type 0 where
     pub at : slice_get bs i ≡ Some b
-    pub number : n ≡ number_at b (place + i)
+    pub number : n ≡ break_number b (place + i)
     pub hits : HitBy f run t k (Break t b.point.address)
 
   hit_break : (place : ℕ) (bs : List Guarded) (n : ℕ) → HitByNumber f run (break_points t place bs) t k n → (i : ℕ) × (b : Guarded) × IsHitBreak place bs n i b
@@ -81,36 +78,36 @@ module _ (f : FittedTrace) (run : List Step) (t k : ℕ) where
   hit_break place (b ∷ bs) n hits = elim (first_or_later_hits f run _ (break_points t (place + 1) bs) t k n hits) [
     | inl first ↦ (
         let here : place ≡ place + 0 = omega arith in
-        (0, b, record { at = refl; number = sym first.0 ∙ ap (number_at b) here; hits = first.1 })
+        (0, b, record { at = refl; number = sym first.0 ∙ ap (break_number b) here; hits = first.1 })
         )
     | inr later ↦ (
         let rest = hit_break (place + 1) bs n later in
         let next : place + 1 + rest.0 ≡ place + suc rest.0 = omega arith in
-        (suc rest.0, rest.1, record { at = rest.2.at; number = rest.2.number ∙ ap (number_at rest.1) next; hits = rest.2.hits })
+        (suc rest.0, rest.1, record { at = rest.2.at; number = rest.2.number ∙ ap (break_number rest.1) next; hits = rest.2.hits })
         )
   ]
 
   break_hits : (place : ℕ) (bs : List Guarded) (i : ℕ) (b : Guarded) → slice_get bs i ≡ Some b → HitBy f run t k (Break t b.point.address)
-      → HitByNumber f run (break_points t place bs) t k (number_at b (place + i))
+      → HitByNumber f run (break_points t place bs) t k (break_number b (place + i))
   unfolding break_points
   break_hits place [] i b at hits = absurd (cc at)
   break_hits place (x ∷ bs) zero b at hits =
       let same : x ≡ b = cc at in
       let here : place ≡ place + 0 = omega arith in
-      subst (λ m. HitByNumber f run (break_points t place (x ∷ bs)) t k (number_at b m)) here
-      (subst (λ y. HitByNumber f run (break_points t place (x ∷ bs)) t k (number_at y place)) same
+      subst (λ m. HitByNumber f run (break_points t place (x ∷ bs)) t k (break_number b m)) here
+      (subst (λ y. HitByNumber f run (break_points t place (x ∷ bs)) t k (break_number y place)) same
       (first_point_hits f run _ (break_points t (place + 1) bs) t k (subst (λ y. HitBy f run t k (Break t y.point.address)) (sym same) hits)))
   break_hits place (x ∷ bs) (suc i) b at hits =
       let next : place + 1 + i ≡ place + suc i = omega arith in
-      subst (λ m. HitByNumber f run (break_points t place (x ∷ bs)) t k (number_at b m)) next
+      subst (λ m. HitByNumber f run (break_points t place (x ∷ bs)) t k (break_number b m)) next
       (later_point_hits f run _ (break_points t (place + 1) bs) t k _ (break_hits (place + 1) bs i b at hits))
 
   -- ---- those with conditions
 
-  guarded_number : (b : Guarded) (place : ℕ) → is_guarded b ≡ true → number_at b place ≡ place + guard_offset
+  guarded_number : (b : Guarded) (place : ℕ) → is_guarded b ≡ true → break_number b place ≡ place + guard_offset
   guarded_number b place is = ap (λ (g : Bool). if g then place + guard_offset else place) is
 
-  guarded_by_number : (b : Guarded) (place n : ℕ) → n ≡ number_at b place → has_guard n ≡ true → place < guard_offset
+  guarded_by_number : (b : Guarded) (place n : ℕ) → n ≡ break_number b place → has_guard n ≡ true → place < guard_offset
       → (is_guarded b ≡ true) × (n ≡ place + guard_offset)
   guarded_by_number b place n number guard low = by (is_guarded b) refl
     where
@@ -153,25 +150,8 @@ module _ (f : FittedTrace) (run : List Step) (t k : ℕ) where
         ]
       ]
 
-  pub guarded_hit_downwards : (ws : List Watched) (bs : List Guarded) (own : List Numbered) (n : ℕ) → length bs + length ws ≤ most_stub_points → has_guard n ≡ true
-      → HitByNumber f run (points_downwards t ws bs own) t k n → (i : ℕ) × (b : Guarded) × IsHitGuarded 0 bs n i b
-  guarded_hit_downwards ws bs own n few guard hits =
-      elim (hit_of_appended (break_points t 0 bs ++ watch_points t (length bs) ws) (own_points (length bs + length ws) own) n hits) [
-        | inr mine ↦ (let is = number_of_own (length bs + length ws) own n mine in absurd (not_guarded_below n (omega (arith, is, few)) guard))
-        | inl both ↦ elim (hit_of_appended (break_points t 0 bs) (watch_points t (length bs) ws) n both) [
-          | inl break ↦ guarded_of_break 0 bs n (omega (arith, few)) guard break
-          | inr watch ↦ (let less = number_of_watches (length bs) ws n watch in absurd (not_guarded_below n (omega (arith, less, few)) guard))
-        ]
-      ]
-
   pub guarded_hits_upwards : (ws : List Watched) (bs : List Guarded) (own : List Numbered) (i : ℕ) (b : Guarded) → slice_get bs i ≡ Some b → is_guarded b ≡ true
       → HitBy f run t k (Break t b.point.address) → HitByNumber f run (points_upwards t ws bs own) t k (length ws + i + guard_offset)
   guarded_hits_upwards ws bs own i b at is hits = subst (λ m. HitByNumber f run (points_upwards t ws bs own) t k m) (guarded_number b (length ws + i) is)
       (hit_in_left (watch_points t 0 ws ++ break_points t (length ws) bs) (own_points (length ws + length bs) own) _
       (hit_in_right (watch_points t 0 ws) (break_points t (length ws) bs) _ (break_hits (length ws) bs i b at hits)))
-
-  pub guarded_hits_downwards : (ws : List Watched) (bs : List Guarded) (own : List Numbered) (i : ℕ) (b : Guarded) → slice_get bs i ≡ Some b → is_guarded b ≡ true
-      → HitBy f run t k (Break t b.point.address) → HitByNumber f run (points_downwards t ws bs own) t k (i + guard_offset)
-  guarded_hits_downwards ws bs own i b at is hits = subst (λ m. HitByNumber f run (points_downwards t ws bs own) t k m) (guarded_number b i is)
-      (hit_in_left (break_points t 0 bs ++ watch_points t (length bs) ws) (own_points (length bs + length ws) own) _
-      (hit_in_left (break_points t 0 bs) (watch_points t (length bs) ws) _ (break_hits 0 bs i b at hits)))

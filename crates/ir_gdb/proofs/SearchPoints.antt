@@ -59,7 +59,7 @@ watches_are_watchable t number (w ∷ ws) all =
     (word_points_watchable t number (watched_words w) (w.address / 4 * 4) (omega arith) (omega (arith, first.low)) (words_end_in_memory w first))
     (watches_are_watchable t (number + 1) ws all.1)
 
-breaks_are_watchable : (t place : ℕ) (bs : List Guarded) → AreWatchable (break_points t number bs)
+breaks_are_watchable : (t place : ℕ) (bs : List Guarded) → AreWatchable (break_points t place bs)
 unfolding break_points
 breaks_are_watchable t place [] = tt
 breaks_are_watchable t place (b ∷ bs) = (tt, breaks_are_watchable t (place + 1) bs)

@@ -1,6 +1,6 @@
 -- What the stub always holds, with a point more or fewer.
 use Rattle.std.proofs.Common.{◌≡◌, ◌<◌, ◌≤◌, ◌+◌, ◌*◌, ◌∙◌, ℕ, suc, Some, Bool, true, false, true≢false, not, ltb, leb, List, [], ◌∷◌, ◌++◌, length, refl, sym, ap, arith, ltb-true, leb-true}
-use Rattle.std.specs.Prelude.{◌&&◌, ◌||◌, find, is_some, if◌then◌else◌}
+use Rattle.std.specs.Prelude.{◌&&◌, ◌||◌, nat_lt, find, is_some, if◌then◌else◌}
 use Rattle.std.specs.List.{AllByRecursion, filter}
 use Rattle.std.proofs.lemmas.List.Elements.{filter-append}
 use Rattle.ir_lemmas.proofs.CallerLemmas.{all_of_push, length_of_append_item, conjuncts_are_true}
@@ -13,7 +13,9 @@ use Rattle.ir_gdb.specs.declared.point.Breakpoint.{Breakpoint}
 use Rattle.ir_gdb.specs.Guards.{Guarded}
 use Rattle.ir_gdb.specs.declared.point.Watched.{Watched}
 use Rattle.ir_gdb.specs.Stub.{Stub, IsStub, IsWatched, is_shared_break, shared_breaks, most_stub_points, most_watched}
-use Rattle.ir_gdb.specs.Setting.{lies_in_objects, can_watch, is_same_break, is_same_watch, has_break, breaks_without, watches_without}
+use Rattle.ir_gdb.specs.Setting.{is_code_word, lies_in_objects, can_watch, is_same_break, is_same_watch, has_break, breaks_without, watches_without, room_setting, break_setting}
+use Rattle.ir_gdb.specs.declared.point.Setting.{Setting}
+use Rattle.ir_gdb.specs.declared.point.Setting.TheVariants as setting
 
 -- ---- a point more
 
@@ -28,7 +30,7 @@ stub_with_break_is_stub s b is room = record {
   few = let more = length_of_append_item s.breaks b in omega (arith, more, room);
 }
 
-each_of_three_is_true : (a b c : Bool) → (a && (b && c)) ≡ true → (a ≡ true) × (b ≡ true) × (c ≡ true)
+pub each_of_three_is_true : (a b c : Bool) → (a && (b && c)) ≡ true → (a ≡ true) × (b ≡ true) × (c ≡ true)
 each_of_three_is_true true true true e = (refl, refl, refl)
 each_of_three_is_true true true false e = absurd cc
 each_of_three_is_true true false c e = absurd cc
@@ -199,3 +201,21 @@ filters_commute p q (w ∷ ws) = filters_commute_on_cons p q w ws (p w) (q w) re
 
 pub shared_of_fewer : (ws shared : List Watched) (w : Watched) → shared ≡ shared_breaks ws → watches_without shared w ≡ shared_breaks (watches_without ws w)
 shared_of_fewer ws shared w same = ap (λ xs. watches_without xs w) same ∙ filters_commute (λ x. not (is_same_watch x w)) is_shared_break ws
+
+pub room_without_break : (s : Stub) (p : Breakpoint) → IsStub s → has_break s.breaks p ≡ true → length (breaks_without s.breaks p) < most_stub_points
+room_without_break s p is there =
+    let less = shorter_without_break s.breaks p there in
+    let all = is.few in
+    omega (arith, less, all)
+
+room_is_not_there : (b : Bool) → (if b then setting.New else setting.Full) ≡ setting.There → ⊥
+room_is_not_there true is = absurd cc
+room_is_not_there false is = absurd cc
+
+pub break_is_there : (s : Stub) (p : Breakpoint) (set : Setting) → set ≡ break_setting s p → set ≡ setting.There → has_break s.breaks p ≡ true
+break_is_there s p set is there = by (is_code_word s.desk.fitted.guest p.address) (has_break s.breaks p) refl (sym is ∙ there)
+  where
+    by : (code found : Bool) → has_break s.breaks p ≡ found → (if code then room_setting s found else setting.BadAddress) ≡ setting.There → has_break s.breaks p ≡ true
+    by true true same is = same
+    by true false same is = absurd (room_is_not_there (nat_lt (length s.breaks + length s.watches) most_stub_points) is)
+    by false found same is = absurd cc

@@ -6,12 +6,10 @@ use Rattle.std.proofs.lemmas.Bool.{cases_lt}
 use Rattle.std.proofs.lemmas.Bool.Decides.{nat_tests}
 use Rattle.ir_runs.specs.Run.{Step}
 use Rattle.ir_command.specs.declared.hit.Hit.{Hit}
-use Rattle.ir_command.specs.declared.command.Direction.{Direction}
-use Rattle.ir_command.specs.declared.command.Direction.TheVariants.{Forwards, Backwards}
-use Rattle.ir_hits.specs.Hits.{Numbered, HitByNumber, IsFirstHit, IsLastHit}
-use Rattle.ir_gdb.specs.Guards.{Guarded, is_guarded, guard_offset, number_at, has_guard, conditions_at}
-use Rattle.ir_gdb.specs.Points.{word_points, watch_points, break_points, own_points, watches_if, upwards_of, downwards_of}
-use Rattle.ir_gdb.specs.Conditions.{IsMetBy, StopsUpwards, StopsDownwards, IsFirstStop, IsLastStop}
+use Rattle.ir_hits.specs.Hits.{Numbered, HitByNumber, IsFirstHit}
+use Rattle.ir_gdb.specs.Guards.{Guarded, is_guarded, guard_offset, break_number, has_guard, conditions_at}
+use Rattle.ir_gdb.specs.Points.{word_points, watch_points, break_points, own_points, watches_if, upwards_of}
+use Rattle.ir_gdb.specs.Conditions.{IsMetBy, StopsUpwards, IsFirstStop}
 use Rattle.ir_gdb.specs.Stops.{position_of}
 use Rattle.ir_gdb.specs.Stub.{Stub, most_stub_points}
 
@@ -53,7 +51,7 @@ plain_at (x ∷ points) (suc i) p all at = plain_at points i p all.1 at
 plain_has_no_guard : (n : ℕ) → n < guard_offset → has_guard n ≡ false
 plain_has_no_guard n low = grind (arith, nat_tests, low)
 
--- ---- upwards and downwards, without watches
+-- ---- upwards, without watches
 
 upwards_are_plain : (s : Stub) (t : ℕ) → s.watches ≡ [] → AreUnguarded s.breaks → length s.breaks + length s.watches ≤ most_stub_points
     → AllByRecursion IsPlain (upwards_of s t true)
@@ -62,15 +60,6 @@ upwards_are_plain s t none free few =
     subst (λ ws. AllByRecursion IsPlain (watch_points t 0 ws ++ break_points t (length ws) s.breaks ++ own_points (length ws + length s.breaks) s.desk.points)) (sym none)
     (appended_are_plain (break_points t 0 s.breaks) (own_points (0 + length s.breaks) s.desk.points)
     (breaks_are_plain t 0 s.breaks free (omega (arith, few))) (own_are_plain (0 + length s.breaks) s.desk.points (omega (arith, few))))
-
-downwards_are_plain : (s : Stub) (t : ℕ) → s.watches ≡ [] → AreUnguarded s.breaks → length s.breaks + length s.watches ≤ most_stub_points
-    → AllByRecursion IsPlain (downwards_of s t true)
-unfolding watch_points
-downwards_are_plain s t none free few =
-    subst (λ ws. AllByRecursion IsPlain (break_points t 0 s.breaks ++ watch_points t (length s.breaks) ws ++ own_points (length s.breaks + length ws) s.desk.points)) (sym none)
-    (appended_are_plain (break_points t 0 s.breaks ++ []) (own_points (length s.breaks + 0) s.desk.points)
-    (appended_are_plain (break_points t 0 s.breaks) [] (breaks_are_plain t 0 s.breaks free (omega (arith, few))) tt)
-    (own_are_plain (length s.breaks + 0) s.desk.points (omega (arith, few))))
 
 hit_is_plain : (s : Stub) (run : List Step) (t k n : ℕ) (points : List Numbered) → AllByRecursion IsPlain points
     → HitByNumber s.desk.fitted run points t k n → has_guard n ≡ false
@@ -82,15 +71,8 @@ module _ (run : List Step) (s : Stub) (t : ℕ) (none : s.watches ≡ []) (free 
   stops_upwards : (k n : ℕ) → HitByNumber s.desk.fitted run (upwards_of s t true) t k n → StopsUpwards run s t true k n
   stops_upwards k n hits = (
     hits,
-    subst (λ (b : Bool). IsMetBy b run s Forwards t k (conditions_at s.breaks (length (watches_if s true)) n))
+    subst (λ (b : Bool). IsMetBy b run s t k (conditions_at s.breaks (length (watches_if s true)) n))
         (sym (hit_is_plain s run t k n (upwards_of s t true) (upwards_are_plain s t none free few) hits)) tt,
-  )
-
-  stops_downwards : (k n : ℕ) → HitByNumber s.desk.fitted run (downwards_of s t true) t k n → StopsDownwards run s t true k n
-  stops_downwards k n hits = (
-    hits,
-    subst (λ (b : Bool). IsMetBy b run s Backwards t k (conditions_at s.breaks 0 n))
-        (sym (hit_is_plain s run t k n (downwards_of s t true) (downwards_are_plain s t none free few) hits)) tt,
   )
 
   pub first_stop_is_first_hit : (p : ℕ) (hit : Option Hit) → IsFirstStop (StopsUpwards run s t true) p hit → IsFirstHit s.desk.fitted run (upwards_of s t true) t p hit
@@ -99,12 +81,4 @@ module _ (run : List Step) (s : Stub) (t : ℕ) (none : s.watches ≡ []) (free 
     finds.0,
     λ j n low high hits. finds.1 j n low high (stops_upwards j n hits),
     record { hits = finds.2.stops.0; lowest = λ m hits. finds.2.lowest m (stops_upwards h.position m hits) },
-  )
-
-  pub last_stop_is_last_hit : (p : ℕ) (hit : Option Hit) → IsLastStop (StopsDownwards run s t true) p hit → IsLastHit s.desk.fitted run (downwards_of s t true) t p hit
-  last_stop_is_last_hit p None finds = λ j n low high hits. finds j n low high (stops_downwards j n hits)
-  last_stop_is_last_hit p (Some h) finds = (
-    finds.0,
-    λ j n low high hits. finds.1 j n low high (stops_downwards j n hits),
-    record { hits = finds.2.stops.0; lowest = λ m hits. finds.2.lowest m (stops_downwards h.position m hits) },
   )

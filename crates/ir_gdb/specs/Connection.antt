@@ -102,13 +102,15 @@ AnswersLine false l line text next =
 
 -- ---- a breakpoint with conditions
 
--- a reply that is always the same is written, and the stub is then so
-abbrev pub SaysAs : Reply → Link → Stub → List ℕ → Link → Type 0
-SaysAs r l s text next = (text ≡ packet_of (reply_text r)) × (next ≡ sent l s (packet_of (reply_text r)))
+-- the reply, and the link before it is written: there may be no memory to keep the conditions
+abbrev pub IsBreakSet : Link → Guarded → Reply → Link → Type 0
+IsBreakSet l b r mid = ((r ≡ setting_reply (break_setting l.stub b.point)) × (mid ≡ record l { stub = with_break l.stub b }))
+    ⊎ ((r ≡ reply.NoMemory) × (mid ≡ l))
 
--- `Z0`, `Z1` with conditions; or there was no memory to keep these
+-- `Z0`, `Z1` with conditions
 abbrev pub SetsBreak : Link → Guarded → List ℕ → Link → Type 0
-SetsBreak l b text next = SaysAs (setting_reply (break_setting l.stub b.point)) l (with_break l.stub b) text next ⊎ SaysAs reply.NoMemory l l.stub text next
+SetsBreak l b text next = (r : Reply) × (mid : Link) × IsBreakSet l b r mid × (text ≡ packet_of (reply_text r))
+    × (next ≡ sent mid mid.stub (packet_of (reply_text r)))
 
 -- ---- packets
 

@@ -16,11 +16,11 @@ is_guarded b = nat_lt 0 (length b.conditions)
 
 -- what the number of a breakpoint with conditions is more than its place says: where points without conditions hit too, these are told
 abbrev pub guard_offset : ℕ
-guard_offset = 128
+guard_offset = 192
 
 -- the number of a breakpoint at a place among the points
-abbrev pub number_at : Guarded → ℕ → ℕ
-number_at b place = if is_guarded b then place + guard_offset else place
+abbrev pub break_number : Guarded → ℕ → ℕ
+break_number b place = if is_guarded b then place + guard_offset else place
 
 -- whether it is the number of a breakpoint with conditions
 abbrev pub has_guard : ℕ → Bool

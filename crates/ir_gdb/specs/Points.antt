@@ -3,7 +3,7 @@ use Rattle.std.specs.Prelude.{Bool, true, false, ℕ, zero, suc, ◌+◌, ◌-�
 use Rattle.ir_command.specs.declared.command.Point.TheVariants.{Break, Watch}
 use Rattle.ir_hits.specs.Hits.{Numbered}
 use Rattle.ir_gdb.specs.declared.point.Watched.{Watched}
-use Rattle.ir_gdb.specs.Guards.{Guarded, number_at}
+use Rattle.ir_gdb.specs.Guards.{Guarded, break_number}
 use Rattle.ir_gdb.specs.Stub.{Stub, shared_breaks}
 
 -- n words from an address on, of the private memory of thread t or of the objects, under one number
@@ -23,7 +23,7 @@ watch_points t number (w ∷ ws) = word_points t number (watched_words w) (w.add
 -- the breakpoints of thread t, the first at this place among the points, the others at the next
 unfoldable pub break_points : ℕ → ℕ → List Guarded → List Numbered
 break_points t place [] = []
-break_points t place (b ∷ bs) = record { number = number_at b place; point = Break t b.point.address } ∷ break_points t (place + 1) bs
+break_points t place (b ∷ bs) = record { number = break_number b place; point = Break t b.point.address } ∷ break_points t (place + 1) bs
 
 -- points of a session, under one number
 unfoldable pub own_points : ℕ → List Numbered → List Numbered

@@ -4,7 +4,7 @@ use Rattle.ir_image.specs.Guest.{Guest, object_words, object_count}
 use Rattle.ir_mach.specs.Core.{Core}
 use Rattle.ir_mach.specs.Execution.{byte_at}
 use Rattle.ir_object.specs.Cell.{Cell}
-use Rattle.ir_agent.specs.Evaluation.{Seen, seen_of}
+use Rattle.ir_agent.specs.Evaluation.{Seen, scene_of}
 use Rattle.ir_hits.specs.Hits.{objects_start, object_size}
 use Rattle.ir_gdb.specs.Reads.{register_words, word_byte}
 
@@ -35,4 +35,4 @@ register_in_sight s n = slice_get (register_words s.core) n
 
 -- what a condition reads
 abbrev pub seen_in : Sight → Seen
-seen_in s = seen_of (register_in_sight s) (byte_in_sight s)
+seen_in s = scene_of (register_in_sight s) (byte_in_sight s)

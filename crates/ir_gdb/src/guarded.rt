@@ -8,7 +8,7 @@ use ir_packet::Condition;
 use std::marker::Model;
 
 /// What the number of a breakpoint with conditions is more than its place says.
-pub const GUARD_OFFSET: u32 = 128;
+pub const GUARD_OFFSET: u32 = 192;
 
 /// A breakpoint, and its conditions: without any it always stops.
 #[derive(Drop)]
@@ -57,7 +57,7 @@ impl Guarded {
     /// Its number at a place among the points.
     pub fn number_at(&self, place: u32) -> u32
         requires { place ≤ 64 }
-        ensures { result ≡ guards.number_at self.now place }
+        ensures { result ≡ guards.break_number self.now place }
     {
         if self.is_guarded() {
             place + GUARD_OFFSET

@@ -1,11 +1,11 @@
 //! What a thread in hand has: registers, and bytes at addresses.
 
-ghost use Rattle.std.specs.Prelude.{◌≡◌, ◌≤◌, ◌<◌, length, slice_index};
+ghost use Rattle.std.specs.Prelude.{◌≡◌, ◌≤◌, ◌<◌, length, slice_index, slice_get};
 ghost use Rattle.ir_image.specs.Guest.{most_object_words, word_at_pc};
 ghost use Rattle.ir_mach.specs.Core.{memory_size};
 ghost use Rattle.ir_mach.specs.Execution.{byte_at};
 ghost use Rattle.ir_mach.specs.Within.{byte_in_word};
-ghost use Rattle.ir_gdb.specs.Reads.{word_byte};
+ghost use Rattle.ir_gdb.specs.Reads.{register_words, word_byte};
 ghost use Rattle.ir_gdb.specs.Sight.{byte_in_sight, object_byte_seen, register_in_sight, seen_in};
 ghost use Rattle.ir_gdb.specs.Sight as sight;
 ghost use Rattle.ir_gdb.specs.Conditions.{any_holds};
@@ -64,6 +64,18 @@ fn object_byte(contents: &[u32], words: usize, place: u32) -> u8
     0
 }
 
+// The register of a number, as gdb numbers them, if there is one.
+#[tactic(auto, using(crate::proofs::Words::known_register_is_there, crate::proofs::Words::no_register_behind_pc))]
+fn register_of(mach: &Mach, number: u64) -> Option<u32>
+    ensures { result ≡ slice_get (register_words mach.now) number }
+{
+    mach.pc();
+    if number > 32 {
+        return None;
+    }
+    Some(word_of(mach, number as u32))
+}
+
 /// A guest, a thread of it, and its objects.
 #[derive(Drop)]
 pub struct Sight<'a> {
@@ -108,6 +120,16 @@ impl<'a> Sight<'a> {
         ))
     }
 
+    /// The byte at an address, if there is one.
+    pub fn byte_at(&self, address: u32) -> Option<u8>
+        ensures { result ≡ byte_in_sight self.now address }
+    {
+        if address >= OBJECTS_START {
+            return self.object_byte(address - OBJECTS_START);
+        }
+        byte_at(self.image.code(), self.mach.memory(), address)
+    }
+
     /// Whether one of several conditions is met.
     #[tactic(auto, unfolding(crate::specs::Conditions::any_holds))]
     pub fn any_holds(&self, conditions: &[Condition]) -> bool
@@ -128,16 +150,10 @@ impl<'a> Seen for Sight<'a> {
     ghost bytes = { λ s. byte_in_sight s };
 
     fn register(&self, number: u64) -> Option<u32> {
-        if number > 32 {
-            return None;
-        }
-        Some(word_of(self.mach, number as u32))
+        register_of(self.mach, number)
     }
 
     fn byte(&self, address: u32) -> Option<u8> {
-        if address >= OBJECTS_START {
-            return self.object_byte(address - OBJECTS_START);
-        }
-        byte_at(self.image.code(), self.mach.memory(), address)
+        self.byte_at(address)
     }
 }

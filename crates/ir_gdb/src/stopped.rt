@@ -1,6 +1,6 @@
 //! Where threads stop.
 
-ghost use Rattle.std.specs.Prelude.{◌≡◌, None, option_map};
+ghost use Rattle.std.specs.Prelude.{◌≡◌, None, option_map, MatchOption};
 ghost use Rattle.ir_gdb.specs.Stops.{stop_above, stop_below, after_range, end_above, end_below, watch_reason, break_reason, is_hit};
 
 use crate::guarded::{Guarded, place_of};
@@ -113,6 +113,21 @@ pub fn end_above(watches: &[Watched], breaks: &[Guarded], last: u64, hit: Option
             position: last,
             reason: Reason::End,
         },
+    }
+}
+
+/// Where a thread stops that would come to an end without a hit.
+pub fn stop_or_end(
+    watches: &[Watched],
+    breaks: &[Guarded],
+    end: Stopped,
+    hit: Option<Hit>,
+) -> Stopped
+    ensures { MatchOption hit (result ≡ end) (λ h. result ≡ stop_above watches.now breaks.now h) }
+{
+    match hit {
+        Some(hit) => stop_above(watches, breaks, hit),
+        None => end,
     }
 }
 

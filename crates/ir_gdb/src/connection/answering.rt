@@ -9,8 +9,8 @@ ghost use Rattle.ir_packet.specs.declared.request.Request.TheVariants.{Register}
 ghost use Rattle.ir_debug.specs.Machine.{quits};
 ghost use Rattle.ir_gdb.specs.Guards.{guarded};
 ghost use Rattle.ir_gdb.specs.Replies.{has_reply};
-ghost use Rattle.ir_gdb.specs.Connection.{sign, before_new_reply, before_reply, is_copy, is_packet, Consults, AnswersLine, SetsBreak};
-ghost use Rattle.ir_gdb.specs.Connection.{RepliesToItem, AnswersRequest, AnswersPacket, AnswersNew, AnswersItem, ends_request};
+ghost use Rattle.ir_gdb.specs.Connection.{sign, before_new_reply, before_reply, is_copy, is_packet, Consults, AnswersLine};
+ghost use Rattle.ir_gdb.specs.Connection.{IsBreakSet, SetsBreak, RepliesToItem, AnswersRequest, AnswersPacket, AnswersNew, AnswersItem, ends_request};
 ghost use Rattle.ir_gdb.specs.Connection.{request_ends, item_ends, SendsOrFails};
 
 use crate::connection::Connection;
@@ -21,7 +21,7 @@ use ir_command::{Command, parse_line};
 use ir_object::Hands;
 use ir_packet::{Found, Reply, Request, break_conditions, put_line, request_of};
 use ir_stream::{Fault, Flow, Sink};
-use std::alloc::AllocError;
+use std::alloc::{AllocError, Global};
 
 // Whether gdb sends what was found again where it has waited for the reply.
 fn is_packet(found: Found) -> bool
@@ -100,10 +100,21 @@ impl Connection {
         }
     }
 
-    // `Z0`, `Z1` with the conditions of the packet that was read last.
-    fn answer_break<H: Hands, W: Sink>(
+    // Sets a breakpoint with the conditions of the packet that was read last, if there is memory for these.
+    fn set_break(&mut self, alloc: Global, point: Breakpoint) -> Reply
+        ensures reading { self.new.reading ≡ self.old.reading }
+        ensures link { IsBreakSet self.old.link (guarded point (break_conditions self.old.reading.payload)) result self.new.link }
+    {
+        let Ok(conditions) = break_conditions(alloc, self.reader.payload()) else {
+            return Reply::NoMemory;
+        };
+        self.remote.set_break(Guarded::new(point, conditions))
+    }
+
+    // `Z0`, `Z1` with conditions.
+    fn answer_break<W: Sink>(
         &mut self,
-        hands: &H,
+        alloc: Global,
         point: Breakpoint,
         writer: &mut W,
     ) -> Result<(), Fault>
@@ -111,10 +122,7 @@ impl Connection {
         ensures writes { SendsOrFails W.written W.broken (SetsBreak self.old.link (guarded point (break_conditions self.old.reading.payload))) [] self.new.link writer.old writer.new result }
         ensures fault { IfErr result (λ f. f ≡ Fault.Write) }
     {
-        let Ok(conditions) = break_conditions(hands.alloc(), self.reader.payload()) else {
-            return self.send_reply(Reply::NoMemory, writer);
-        };
-        let reply = self.remote.set_break(Guarded::new(point, conditions));
+        let reply = self.set_break(alloc, point);
         self.send_reply(reply, writer)
     }
 
@@ -139,7 +147,7 @@ impl Connection {
                 Ok(Flow::Goes)
             }
             Request::SetBreakIf(address, hardware) => {
-                self.answer_break(hands, Breakpoint { address, hardware }, writer)?;
+                self.answer_break(hands.alloc(), Breakpoint { address, hardware }, writer)?;
                 Ok(Flow::Goes)
             }
             Request::NoAcknowledgements => {

@@ -1,91 +1,100 @@
 //! Searches in which a breakpoint with conditions stops a thread only if one of them is met where all threads come to. A hit that is none is
 //! passed here, and not by gdb.
 
-ghost use Rattle.std.specs.Prelude.{◌≡◌, ◌≤◌, ◌<◌, ◌+◌, false, length, IfOk, IfSome, MatchOption};
-ghost use Rattle.ir_cut.specs.Positions.{EachRun, cut_of, threads_of, last_of, thread_at};
+ghost use Rattle.std.specs.Prelude.{◌≡◌, ◌≤◌, ◌<◌, ◌+◌, length, IfOk, IfSome};
+ghost use Rattle.ir_cut.specs.Positions.{EachRun, cut_of, threads_of, last_of};
 ghost use Rattle.ir_debug.specs.Machine.{StopsAt};
 ghost use Rattle.ir_timeline.specs.Hand.{IsCutOf};
+ghost use Rattle.ir_hits.specs.Hits.{IsLowest, IsFirstHit};
+ghost use Rattle.ir_hits.specs.Searching.{IsNextHit};
 ghost use Rattle.ir_hits.specs.Watchable.{AreWatchable};
-ghost use Rattle.ir_command.specs.declared.command.Direction.TheVariants.{Forwards, Backwards};
-ghost use Rattle.ir_gdb.specs.Conditions.{FirstMet, FirstMetAt, StopsUpwards, StopsDownwards, IsLastStop, IsLastStopIn, IsNextStop, IsStopAtStart};
-ghost use Rattle.ir_gdb.specs.Points.{upwards_of, downwards_of, watches_if};
+ghost use Rattle.ir_command.specs.declared.command.Direction.TheVariants.{Forwards};
+ghost use Rattle.ir_gdb.specs.Conditions.{first_met_at, is_plain_hit, StopsUpwards, IsStopAt, IsNextStop, IsFirstStop};
+ghost use Rattle.ir_gdb.specs.Conditions as conditions;
+ghost use Rattle.ir_gdb.specs.Guards.{guard_offset};
+ghost use Rattle.ir_gdb.specs.Points.{upwards_of};
 ghost use Rattle.ir_gdb.specs.Sight.{seen_in};
 ghost use Rattle.ir_gdb.specs.Stub.{stub_spoken};
 ghost use Rattle.ir_gdb.specs.Stops.{position_of};
 
 use crate::guarded::{GUARD_OFFSET, Guarded, has_guard};
-use crate::numbered::points_downwards;
 use crate::remote::Remote;
 use crate::sight::Sight;
-use ir_command::{Direction, Hit, Point};
-use ir_cut::{Cut, greatest};
+use ir_command::{Direction, Hit};
+use ir_cut::Cut;
 use ir_hits::NumberedPoint;
 use ir_object::Hands;
-use std::alloc::{AllocError, Global};
+use std::alloc::AllocError;
 
-// How many steps a search downwards goes back at first, and at most, from a hit that is none.
-const FIRST_WINDOW: u64 = 1 << 12;
-
-const LAST_WINDOW: u64 = 1 << 24;
-
-// With fewer hits than this in a window the next is twice as long.
-const FEW_HITS: u64 = 64;
-
-// The place of the first breakpoint with conditions at an address of which one is met.
-fn first_met(breaks: &[Guarded], address: u32, sight: &Sight<'_>) -> Option<u32>
-    ensures { FirstMet (seen_in sight.now) breaks.now address result }
+// Whether a breakpoint with conditions stops a thread at an address: one of them is met.
+fn is_met_at(guarded: &Guarded, address: u32, sight: &Sight<'_>) -> bool
+    ensures { result ≡ conditions.is_met_at (seen_in sight.now) address guarded.now }
 {
-    for place in 0..breaks.len() {
-        let guarded = &breaks[place];
-        if guarded.is_guarded()
-            && guarded.point().address == address
-            && sight.any_holds(guarded.conditions())
-        {
-            return Some(place as u32);
+    guarded.is_guarded()
+        && guarded.point().address == address
+        && sight.any_holds(guarded.conditions())
+}
+
+// The place of the first that does.
+#[tactic(auto, unfolding(crate::specs::Conditions::first_met_place))]
+fn first_met_place(breaks: &[Guarded], address: u32, sight: &Sight<'_>) -> Option<u32>
+    requires { length breaks.now ≤ 64 }
+    ensures met { result ≡ conditions.first_met_place (seen_in sight.now) address breaks.now }
+    ensures place { IfSome result (λ place. place < length breaks.now) }
+{
+    match breaks {
+        [] => None,
+        [first, rest @ ..] => {
+            if is_met_at(first, address, sight) {
+                return Some(0);
+            }
+            let place = first_met_place(rest, address, sight)?;
+            Some(place + 1)
         }
     }
-    None
 }
 
-// The lowest number of the breakpoints of a thread without conditions at an address.
-fn lowest_at(points: &[NumberedPoint], thread: u32, address: u32) -> Option<u32> {
-    let mut lowest = None;
-    for point in points {
-        let at = Point::Break { thread, address };
-        if point.point() == at && !has_guard(point.number()) {
-            lowest = Some(match lowest {
-                Some(number) if number < point.number() => number,
-                _ => point.number(),
-            });
-        }
+// The hit of the breakpoint with conditions at a place, behind this many points.
+fn guarded_hit(position: u64, before: u32, place: u32) -> Hit
+    requires { before + place ≤ 64 }
+    ensures { result ≡ record { position = position; number = before + place + guard_offset } }
+{
+    Hit {
+        position,
+        number: before + place + GUARD_OFFSET,
     }
-    lowest
 }
 
-// A thread that moves back, and its points.
-#[derive(Clone, Copy)]
-struct Descent<'a> {
-    thread: u32,
-    watched: bool,
-    points: &'a [NumberedPoint],
-}
-
-// What a search in a window found, and how many hits there were.
-#[derive(Clone, Copy)]
-struct Looked {
-    found: Option<Hit>,
-    hits: u64,
+// Whether a hit is none of a breakpoint with conditions, or there is no hit.
+fn is_plain(found: Option<Hit>) -> bool
+    ensures { result ≡ is_plain_hit found }
+{
+    match found {
+        None => true,
+        Some(hit) => !has_guard(hit.number),
+    }
 }
 
 impl Remote {
-    // Whether a breakpoint has conditions.
-    pub(crate) fn has_conditions(&self) -> bool {
-        for guarded in self.breaks.as_slice() {
-            if guarded.is_guarded() {
-                return true;
-            }
-        }
-        false
+    // The hit that a thread finds from its position in a cut upwards, at most at another position.
+    fn next_hit<H: Hands>(
+        &mut self,
+        hands: &H,
+        from: &Cut,
+        thread: u32,
+        to: u64,
+        points: &[NumberedPoint],
+    ) -> Result<Option<Hit>, AllocError>
+        requires cut { IsCutOf self.old.stub.desk.fitted from.now }
+        requires thread { thread < threads_of self.old.stub.desk.fitted }
+        requires within { (cut_of from.now thread ≤ to) × (to ≤ last_of self.old.stub.desk.fitted thread) }
+        requires points { AreWatchable points.now }
+        ensures stub { self.new.stub ≡ stub_spoken self.old.stub }
+        ensures finds { IfOk result (λ hit. EachRun self.old.stub.desk.fitted (λ run. IsNextHit self.old.stub.desk.fitted run points.now thread (cut_of from.now thread) to hit)) }
+        ensures between { IfOk result (λ hit. IfSome hit (λ h. (cut_of from.now thread < h.position) × (h.position ≤ to))) }
+    {
+        self.has_run();
+        self.debugger.search_up_to(hands, from, thread, to, points)
     }
 
     // The place of the first breakpoint with conditions at a thread's pc of which one is met, where all threads are at a cut.
@@ -98,15 +107,46 @@ impl Remote {
         requires cut { IsCutOf self.old.stub.desk.fitted cut.now }
         requires thread { thread < threads_of self.old.stub.desk.fitted }
         ensures stub { self.new.stub ≡ stub_spoken self.old.stub }
-        ensures met { IfOk result (λ place. EachRun self.old.stub.desk.fitted (λ run. FirstMetAt run self.old.stub cut.now thread place)) }
+        ensures met { IfOk result (λ place. EachRun self.old.stub.desk.fitted (λ run. place ≡ first_met_at run self.old.stub cut.now thread)) }
+        ensures place { IfOk result (λ place. IfSome place (λ place. place < length self.old.stub.breaks)) }
     {
         self.debugger.visit(hands, cut)?;
         let pc = self.visited(cut, thread).mach().pc();
         let sight = self.sight(cut, thread);
-        Ok(first_met(self.breaks.as_slice(), pc, &sight))
+        let halts = self.halts(true);
+        Ok(first_met_place(halts.breaks, pc, &sight))
     }
 
-    // Where a point stops a thread next, at most at a position.
+    // The stop of a thread that has come to a cut, where this is the lowest number that hits it.
+    fn decide<H: Hands>(
+        &mut self,
+        hands: &H,
+        cut: &Cut,
+        thread: u32,
+        hit: Hit,
+        watched: bool,
+    ) -> Result<Option<Hit>, AllocError>
+        requires cut { IsCutOf self.old.stub.desk.fitted cut.now }
+        requires thread { thread < threads_of self.old.stub.desk.fitted }
+        requires there { cut_of cut.now thread ≡ hit.position }
+        requires comes { EachRun self.old.stub.desk.fitted (λ run. StopsAt run self.old.stub.desk.fitted self.old.stub.desk.at thread Forwards hit.position cut.now) }
+        requires lowest { EachRun self.old.stub.desk.fitted (λ run. IsLowest self.old.stub.desk.fitted run (upwards_of self.old.stub thread watched) thread hit.position hit.number) }
+        ensures stub { self.new.stub ≡ stub_spoken self.old.stub }
+        ensures stop { IfOk result (λ stop. EachRun self.old.stub.desk.fitted (λ run. IsStopAt (StopsUpwards run self.old.stub thread watched) hit.position stop)) }
+    {
+        if is_plain(Some(hit)) {
+            self.speak();
+            return Ok(Some(hit));
+        }
+        let before = self.watches_if(watched).len() as u32;
+        let Some(place) = self.met_break(hands, cut, thread)? else {
+            return Ok(None);
+        };
+        Ok(Some(guarded_hit(hit.position, before, place)))
+    }
+
+    // Where a point stops a thread next, at most at a position. Each cut is found from the one before: found from the thread's own, each
+    // would take time linear in all entries up to it.
     pub(crate) fn next_stop<H: Hands>(
         &mut self,
         hands: &H,
@@ -122,183 +162,26 @@ impl Remote {
         self.speak();
         let alloc = hands.alloc();
         let points = self.upwards(alloc, thread, watched)?;
-        let before = self.watches_if(watched).len() as u32;
+        let points = points.as_slice();
+        let mut position = self.position(thread);
         let mut at = self.here()?;
-        'hits: loop {
-            let points = points.as_slice();
-            let found = self.debugger.search_up_to(hands, &at, thread, to, points)?;
+        'hits: while position < to {
+            let found = self.next_hit(hands, &at, thread, to, points)?;
             let Some(hit) = found else {
                 return Ok(None);
             };
-            if !has_guard(hit.number) {
-                return Ok(Some(hit));
+            at = self.cut_on(alloc, &at, thread, hit.position)?;
+            let decided = self.decide(hands, &at, thread, hit, watched)?;
+            if let Some(stop) = decided {
+                return Ok(Some(stop));
             }
-            let position = hit.position;
-            at = self.cut_on(alloc, &at, thread, position)?;
-            if let Some(place) = self.met_break(hands, &at, thread)? {
-                let number = before + place + GUARD_OFFSET;
-                return Ok(Some(Hit { position, number }));
-            }
+            position = hit.position;
         }
+        Ok(None)
     }
 
-    // The greatest cut below another with a thread at a position.
-    fn cut_under(
-        &self,
-        alloc: Global,
-        from: &Cut,
-        thread: u32,
-        position: u64,
-    ) -> Result<Cut, AllocError>
-        requires thread { thread < threads_of self.now.stub.desk.fitted }
-        requires from { IsCutOf self.now.stub.desk.fitted from.now }
-        requires within { position ≤ cut_of from.now thread }
-        ensures cut { IfOk result (λ cut. IsCutOf self.now.stub.desk.fitted cut) }
-        ensures there { IfOk result (λ cut. cut_of cut thread ≡ position) }
-        ensures greatest { IfOk result (λ cut. EachRun self.now.stub.desk.fitted (λ run. StopsAt run self.now.stub.desk.fitted from.now thread Backwards position cut)) }
-    {
-        greatest(
-            alloc,
-            self.debugger.fitted(),
-            from,
-            thread as usize,
-            position,
-        )
-    }
-
-    // Where a point last stops a thread above its position in one cut and at most at its position in another, to which it has come back.
-    fn last_stop_in<H: Hands>(
-        &mut self,
-        hands: &H,
-        descent: Descent<'_>,
-        floor: &Cut,
-        ceiling: &Cut,
-    ) -> Result<Looked, AllocError>
-        requires thread { descent.thread < threads_of self.old.stub.desk.fitted }
-        requires points { descent.points.now ≡ downwards_of self.old.stub descent.thread descent.watched }
-        requires watchable { AreWatchable descent.points.now }
-        requires floor { IsCutOf self.old.stub.desk.fitted floor.now }
-        requires ceiling { IsCutOf self.old.stub.desk.fitted ceiling.now }
-        requires above { cut_of floor.now descent.thread ≤ cut_of ceiling.now descent.thread }
-        requires comes { EachRun self.old.stub.desk.fitted
-            (λ run. StopsAt run self.old.stub.desk.fitted self.old.stub.desk.at descent.thread Backwards (cut_of ceiling.now descent.thread)
-            ceiling.now) }
-        ensures stub { self.new.stub ≡ stub_spoken self.old.stub }
-        ensures stop { IfOk result
-            (λ looked. EachRun self.old.stub.desk.fitted
-            (λ run. IsLastStopIn (StopsDownwards run self.old.stub descent.entry.thread descent.entry.watched)
-            (cut_of floor.now descent.entry.thread) (cut_of ceiling.now descent.entry.thread) looked.found)) }
-    {
-        self.speak();
-        let Descent { thread, points, .. } = descent;
-        let alloc = hands.alloc();
-        let to = ceiling.position(thread as usize);
-        let mut looked = Looked {
-            found: None,
-            hits: 0,
-        };
-        let mut at = floor.copy()?;
-        'hits: loop {
-            let found = self.debugger.search_up_to(hands, &at, thread, to, points)?;
-            let Some(hit) = found else {
-                return Ok(looked);
-            };
-            looked.hits = looked.hits.saturating_add(1);
-            at = self.cut_under(alloc, ceiling, thread, hit.position)?;
-            if let Some(hit) = self.stop_below(hands, &at, thread, hit)? {
-                looked.found = Some(hit);
-            }
-        }
-    }
-
-    // The stop of a thread that moves back at a cut, where this is the lowest number that hits it.
-    fn stop_below<H: Hands>(
-        &mut self,
-        hands: &H,
-        cut: &Cut,
-        thread: u32,
-        hit: Hit,
-    ) -> Result<Option<Hit>, AllocError> {
-        if !has_guard(hit.number) {
-            return Ok(Some(hit));
-        }
-        let Some(place) = self.met_break(hands, cut, thread)? else {
-            return Ok(None);
-        };
-        Ok(Some(Hit {
-            position: hit.position,
-            number: place + GUARD_OFFSET,
-        }))
-    }
-
-    // The stop of a thread at 0, to which it has come back by a cut.
-    fn stop_at_start<H: Hands>(
-        &mut self,
-        hands: &H,
-        descent: Descent<'_>,
-        cut: &Cut,
-    ) -> Result<Option<Hit>, AllocError>
-        requires thread { descent.thread < threads_of self.old.stub.desk.fitted }
-        requires points { descent.points.now ≡ downwards_of self.old.stub descent.thread descent.watched }
-        requires cut { IsCutOf self.old.stub.desk.fitted cut.now }
-        requires left { 0 < last_of self.old.stub.desk.fitted descent.thread }
-        requires comes { EachRun self.old.stub.desk.fitted (λ run. StopsAt run self.old.stub.desk.fitted self.old.stub.desk.at descent.thread Backwards 0 cut.now) }
-        ensures stub { self.new.stub ≡ stub_spoken self.old.stub }
-        ensures stop { IfOk result (λ hit. EachRun self.old.stub.desk.fitted (λ run. IsStopAtStart (StopsDownwards run self.old.stub descent.entry.thread descent.entry.watched) hit)) }
-    {
-        let Descent { thread, points, .. } = descent;
-        let position = 0;
-        let place = self.met_break(hands, cut, thread)?;
-        let pc = self.visited(cut, thread).mach().pc();
-        let number = match lowest_at(points, thread, pc) {
-            Some(number) => Some(number),
-            None => place.map(|place| place + GUARD_OFFSET),
-        };
-        Ok(number.map(|number| Hit { position, number }))
-    }
-
-    // Where a point last stops a thread at most at a position, to which it has come back by a cut: by one window after the other.
-    fn last_stop_from<H: Hands>(
-        &mut self,
-        hands: &H,
-        descent: Descent<'_>,
-        ceiling: Cut,
-    ) -> Result<Option<Hit>, AllocError>
-        requires thread { descent.thread < threads_of self.old.stub.desk.fitted }
-        requires points { descent.points.now ≡ downwards_of self.old.stub descent.thread descent.watched }
-        requires watchable { AreWatchable descent.points.now }
-        requires ceiling { IsCutOf self.old.stub.desk.fitted ceiling }
-        requires left { cut_of ceiling descent.thread < last_of self.old.stub.desk.fitted descent.thread }
-        requires comes { EachRun self.old.stub.desk.fitted (λ run. StopsAt run self.old.stub.desk.fitted self.old.stub.desk.at descent.thread Backwards (cut_of ceiling descent.thread) ceiling) }
-        ensures stub { self.new.stub ≡ stub_spoken self.old.stub }
-        ensures stop { IfOk result
-            (λ hit. EachRun self.old.stub.desk.fitted
-            (λ run. IsLastStop (StopsDownwards run self.old.stub descent.entry.thread descent.entry.watched)
-            (cut_of ceiling descent.entry.thread + 1) hit)) }
-    {
-        self.speak();
-        let thread = descent.thread;
-        let mut ceiling = ceiling;
-        let mut size = FIRST_WINDOW;
-        'windows: loop {
-            let low = ceiling.position(thread as usize).saturating_sub(size);
-            let floor = self.cut_under(hands.alloc(), &ceiling, thread, low)?;
-            let looked = self.last_stop_in(hands, descent, &floor, &ceiling)?;
-            if looked.found.is_some() {
-                return Ok(looked.found);
-            }
-            if low == 0 {
-                return self.stop_at_start(hands, descent, &floor);
-            }
-            if looked.hits < FEW_HITS && size < LAST_WINDOW {
-                size *= 2;
-            }
-            ceiling = floor;
-        }
-    }
-
-    // Where a point last stops a thread below its position.
-    pub(crate) fn last_stop<H: Hands>(
+    // Where a point stops a thread first. The search for the first hit keeps states on its way.
+    pub(crate) fn first_stop_above<H: Hands>(
         &mut self,
         hands: &H,
         thread: u32,
@@ -306,26 +189,33 @@ impl Remote {
     ) -> Result<Option<Hit>, AllocError>
         requires { thread < threads_of self.old.stub.desk.fitted }
         ensures stub { self.new.stub ≡ stub_spoken self.old.stub }
-        ensures stop { IfOk result (λ hit. EachRun self.old.stub.desk.fitted (λ run. IsLastStop (StopsDownwards run self.old.stub thread watched) (position_of self.old.stub thread) hit)) }
+        ensures stop { IfOk result (λ hit. EachRun self.old.stub.desk.fitted (λ run. IsFirstStop (StopsUpwards run self.old.stub thread watched) (position_of self.old.stub thread) hit)) }
     {
+        self.has_run();
         self.speak();
-        let alloc = hands.alloc();
-        let points = points_downwards(alloc, thread, self.halts(watched))?;
-        let points = points.as_slice();
-        let backwards = Direction::Backwards;
-        let found = self.debugger.search(hands, thread, backwards, points)?;
-        let Some(hit) = found else {
-            return Ok(None);
-        };
-        if !has_guard(hit.number) {
-            return Ok(Some(hit));
+        let points = self.upwards(hands.alloc(), thread, watched)?;
+        let found = self.first_hit(hands, thread, points.as_slice())?;
+        if is_plain(found) {
+            return Ok(found);
         }
-        let cut = self.cut_behind(alloc, thread, hit.position)?;
-        let descent = Descent {
-            thread,
-            watched,
-            points,
-        };
-        self.last_stop_from(hands, descent, cut)
+        self.position(thread);
+        let last = self.last(thread);
+        self.next_stop(hands, thread, last, watched)
+    }
+
+    // The first hit of a thread above its position.
+    fn first_hit<H: Hands>(
+        &mut self,
+        hands: &H,
+        thread: u32,
+        points: &[NumberedPoint],
+    ) -> Result<Option<Hit>, AllocError>
+        requires thread { thread < threads_of self.old.stub.desk.fitted }
+        requires points { AreWatchable points.now }
+        ensures stub { self.new.stub ≡ stub_spoken self.old.stub }
+        ensures finds { IfOk result (λ hit. EachRun self.old.stub.desk.fitted (λ run. IsFirstHit self.old.stub.desk.fitted run points.now thread (position_of self.old.stub thread) hit)) }
+    {
+        self.debugger
+            .search(hands, thread, Direction::Forwards, points)
     }
 }

@@ -11,7 +11,6 @@ ghost use Rattle.ir_gdb.specs.Serving.{IsRemoteThere};
 use crate::remote::Remote;
 use crate::sight::Sight;
 use arrayvec::ArrayVec;
-use ir_agent::Seen;
 use ir_cut::Cut;
 
 /// The most bytes that `m` gives.
@@ -34,7 +33,8 @@ impl Remote {
         requires { IsRemoteThere self.now }
         ensures { EachRun self.now.stub.desk.fitted (λ run. result ≡ byte_seen run self.now.stub address) }
     {
-        self.sight(self.debugger.at(), self.general).byte(address)
+        let sight = self.sight(self.debugger.at(), self.general);
+        sight.byte_at(address)
     }
 
     #[tactic(auto, using(crate::proofs::Bytes::bytes_there_of_no_count, crate::proofs::Bytes::bytes_there_step, crate::proofs::Bytes::bytes_end_at_missing, crate::proofs::Seen::no_byte_at_high))]

@@ -97,7 +97,7 @@ impl Remote {
         self.setting(has_watch(self.watches.as_slice(), watched))
     }
 
-    #[tactic(auto, using(crate::proofs::Setting::stub_with_replaced_break_is_stub))]
+    #[tactic(auto, using(crate::proofs::Setting::stub_with_replaced_break_is_stub, crate::proofs::Setting::room_without_break))]
     // A breakpoint that is there gets other conditions.
     fn replace_break(&mut self, guarded: Guarded)
         requires { has_break self.old.stub.breaks guarded.point ≡ true }
@@ -107,7 +107,7 @@ impl Remote {
         self.breaks.set(guarded);
     }
 
-    #[tactic(auto, using(crate::proofs::Setting::stub_with_break_is_stub))]
+    #[tactic(auto, using(crate::proofs::Setting::stub_with_break_is_stub, crate::proofs::Setting::break_is_there))]
     /// `Z0`, `Z1`: sets a breakpoint of all threads.
     pub fn set_break(&mut self, guarded: Guarded) -> Reply
         ensures reply { result ≡ setting_reply (break_setting self.old.stub guarded.point) }

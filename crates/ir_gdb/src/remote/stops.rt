@@ -9,11 +9,11 @@ ghost use Rattle.ir_gdb.specs.Stub.{IsWatched, most_stub_points, stub_spoken};
 ghost use Rattle.ir_gdb.specs.Points.{watches_if, upwards_of};
 ghost use Rattle.ir_gdb.specs.Stops.{Leaves, WatchNext, position_of, StepsTo, RangesTo, ContinuesTo, StepsBackTo, StopsBelow, ContinuesBackTo, StopsInDirection, MovesTo};
 
-use crate::numbered::{Halts, points_upwards, watch_points};
+use crate::numbered::{Halts, points_downwards, points_upwards, watch_points};
 use crate::point::Watched;
 use crate::remote::Remote;
-use crate::stopped::{Stopped, after_range, end_above, end_below, reason_of_hit, stop_above};
-use ir_command::{Direction, Hit};
+use crate::stopped::{Stopped, after_range, end_above, end_below, reason_of_hit, stop_or_end};
+use ir_command::Direction;
 use ir_cut::Cut;
 use ir_hits::NumberedPoint;
 use ir_object::Hands;
@@ -190,37 +190,14 @@ impl Remote {
         ensures stops { IfOk result (λ to. EachRun self.old.stub.desk.fitted (λ run. RangesTo run self.old.stub thread low high watched to)) }
         ensures within { IfOk result (λ to. to.position ≤ last_of self.old.stub.desk.fitted thread) }
     {
-        let left = self.leaves(hands, thread, low, high)?;
-        self.debugger.fitted().known();
+        self.has_run();
         self.position(thread);
         let last = self.last(thread);
+        let left = self.leaves(hands, thread, low, high)?;
         let end = after_range(last, left);
-        if let Some(hit) = self.next_stop(hands, thread, end.position, watched)? {
-            return Ok(stop_above(self.watches_if(watched), self.breaks.as_slice(), hit));
-        }
-        Ok(end)
-    }
-
-    // Where a point stops a thread next. Without conditions the search keeps states on its way.
-    fn first_stop_above<H: Hands>(
-        &mut self,
-        hands: &H,
-        thread: u32,
-        watched: bool,
-    ) -> Result<Option<Hit>, AllocError>
-        requires { thread < threads_of self.old.stub.desk.fitted }
-        ensures stub { self.new.stub ≡ stub_spoken self.old.stub }
-        ensures stop { IfOk result (λ hit. EachRun self.old.stub.desk.fitted (λ run. IsFirstStop (StopsUpwards run self.old.stub thread watched) (position_of self.old.stub thread) hit)) }
-    {
-        if self.has_conditions() {
-            self.position(thread);
-            let last = self.last(thread);
-            return self.next_stop(hands, thread, last, watched);
-        }
-        let points = self.upwards(hands.alloc(), thread, watched)?;
-        let forwards = Direction::Forwards;
-        self.debugger
-            .search(hands, thread, forwards, points.as_slice())
+        let hit = self.next_stop(hands, thread, end.position, watched)?;
+        let halts = self.halts(watched);
+        Ok(stop_or_end(halts.watches, halts.breaks, end, hit))
     }
 
     // To the next stop.
@@ -235,11 +212,11 @@ impl Remote {
         ensures stops { IfOk result (λ to. EachRun self.old.stub.desk.fitted (λ run. ContinuesTo run self.old.stub thread watched to)) }
         ensures within { IfOk result (λ to. to.position ≤ last_of self.old.stub.desk.fitted thread) }
     {
-        self.speak();
-        self.debugger.fitted().known();
+        self.has_run();
         let last = self.last(thread);
         let hit = self.first_stop_above(hands, thread, watched)?;
-        Ok(end_above(self.watches_if(watched), self.breaks.as_slice(), last, hit))
+        let halts = self.halts(watched);
+        Ok(end_above(halts.watches, halts.breaks, last, hit))
     }
 
     // Why a thread that isn't at 0 stays where it is when it moves back: a watch hits it there.
@@ -305,7 +282,10 @@ impl Remote {
     {
         self.speak();
         self.debugger.fitted().known();
-        let hit = self.last_stop(hands, thread, watched)?;
+        let points = points_downwards(hands.alloc(), thread, self.halts(watched))?;
+        let backwards = Direction::Backwards;
+        let points = points.as_slice();
+        let hit = self.debugger.search(hands, thread, backwards, points)?;
         Ok(end_below(self.watches_if(watched), self.breaks.as_slice(), hit))
     }
 
