@@ -129,17 +129,6 @@ impl<'a> Sight<'a> {
         }
         byte_at(self.image.code(), self.mach.memory(), address)
     }
-
-    /// Whether one of several conditions is met.
-    #[tactic(auto, unfolding(crate::specs::Conditions::any_holds))]
-    pub fn any_holds(&self, conditions: &[Condition]) -> bool
-        ensures { result ≡ any_holds (seen_in self.now) conditions.now }
-    {
-        match conditions {
-            [] => false,
-            [first, rest @ ..] => holds(self, first.code()) || self.any_holds(rest),
-        }
-    }
 }
 
 impl<'a> Seen for Sight<'a> {
@@ -155,5 +144,16 @@ impl<'a> Seen for Sight<'a> {
 
     fn byte(&self, address: u32) -> Option<u8> {
         self.byte_at(address)
+    }
+}
+
+/// Whether one of several conditions is met.
+#[tactic(auto, unfolding(crate::specs::Conditions::any_holds))]
+pub fn any_holds(sight: &Sight<'_>, conditions: &[Condition]) -> bool
+    ensures { result ≡ any_holds (seen_in sight.now) conditions.now }
+{
+    match conditions {
+        [] => false,
+        [first, rest @ ..] => holds(sight, first.code()) || any_holds(sight, rest),
     }
 }

@@ -19,7 +19,7 @@ ghost use Rattle.ir_gdb.specs.Stops.{position_of};
 
 use crate::guarded::{GUARD_OFFSET, Guarded, has_guard};
 use crate::remote::Remote;
-use crate::sight::Sight;
+use crate::sight::{Sight, any_holds};
 use ir_command::{Direction, Hit};
 use ir_cut::Cut;
 use ir_hits::NumberedPoint;
@@ -32,7 +32,7 @@ fn is_met_at(guarded: &Guarded, address: u32, sight: &Sight<'_>) -> bool
 {
     guarded.is_guarded()
         && guarded.point().address == address
-        && sight.any_holds(guarded.conditions())
+        && any_holds(sight, guarded.conditions())
 }
 
 // The place of the first that does.

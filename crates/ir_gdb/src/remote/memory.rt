@@ -28,13 +28,20 @@ impl Remote {
         Sight::new(image, mach, self.debugger.objects())
     }
 
+    // What the general thread has where all are.
+    fn general_sight(&self) -> Sight<'_>
+        requires { IsRemoteThere self.now }
+        ensures { EachRun self.now.stub.desk.fitted (λ run. seen_in result ≡ seen_at run self.now.stub.desk.fitted (cut_of self.now.stub.desk.at) self.now.stub.general) }
+    {
+        self.sight(self.debugger.at(), self.general)
+    }
+
     // The byte that the general thread has at an address.
     fn byte(&self, address: u32) -> Option<u8>
         requires { IsRemoteThere self.now }
         ensures { EachRun self.now.stub.desk.fitted (λ run. result ≡ byte_seen run self.now.stub address) }
     {
-        let sight = self.sight(self.debugger.at(), self.general);
-        sight.byte_at(address)
+        self.general_sight().byte_at(address)
     }
 
     #[tactic(auto, using(crate::proofs::Bytes::bytes_there_of_no_count, crate::proofs::Bytes::bytes_there_step, crate::proofs::Bytes::bytes_end_at_missing, crate::proofs::Seen::no_byte_at_high))]
