@@ -1,6 +1,7 @@
 //! What holds of gdb's moves. The functions do nothing: their contracts are the laws.
 
-ghost use Rattle.ir_gdb.specs.Laws.{ContinueIsSession, ContinueBackIsSession, StepIsSession, StepBackIsSession, NoHitIsPassed, NoneIsBlocked, EachHitIsShownOnce, NoneIsShownTwice, ShownConditionIsMet, NoBadEndIsHidden};
+ghost use Rattle.ir_gdb.specs.Laws.{ContinueIsSession, ContinueBackIsSession, StepIsSession, StepBackIsSession, NoHitIsPassed};
+ghost use Rattle.ir_gdb.specs.Laws.{NoneIsBlocked, EachHitIsShownOnce, NoneIsShownTwice, ShownConditionIsMet, NoBadEndIsHidden};
 
 /// A thread that moves alone ends where a session's command leads, with gdb's breakpoints set there too; no watch is set, the
 /// thread doesn't wait, and where it continues no breakpoint has conditions.
