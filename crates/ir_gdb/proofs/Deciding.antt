@@ -17,7 +17,7 @@ use Rattle.ir_gdb.specs.Points.{watches_if, upwards_of}
 use Rattle.ir_gdb.specs.Conditions.{seen_at, any_holds, IsMetAt, IsMetBy, StopsUpwards, IsLowestThat, is_met_at, first_met_at}
 use Rattle.ir_gdb.specs.Stub.{Stub, most_stub_points}
 use Rattle.ir_gdb.proofs.Farther.{one_least_cut}
-use Rattle.ir_gdb.proofs.Met.{IsHitGuarded, guarded_hit_upwards, guarded_hits_upwards}
+use Rattle.ir_gdb.proofs.HitBreaks.{IsHitGuarded, guarded_hit_upwards, guarded_hits_upwards}
 use Rattle.ir_gdb.proofs.MetPlaces.{IsMet, met_is_guarded_here, guarded_here_is_met, found_place_is_met, none_is_met_before_found, none_is_met_if_none_found}
 
 -- a number's conditions are those of its breakpoint

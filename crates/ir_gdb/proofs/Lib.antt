@@ -33,7 +33,7 @@ mod ShownOnce
 mod Untold
 mod Unguarded
 mod Farther
-mod Met
+mod HitBreaks
 mod InSight
 mod MetPlaces
 mod Deciding
