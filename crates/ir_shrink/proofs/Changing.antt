@@ -49,7 +49,7 @@ empty_item_changes last item items none =
     ap (λ k. changes_from last (map (λ (x : Turn). x.0) (replicate k (item.thread, item.refused) ++ turns_of_items items))) e
 
 -- the rest of a list begins with its next element
-rest_begins_with : {A : Type 0} (xs : List A) (place : ℕ) (d : A) → place < length xs → drop place xs ≡ get_or xs place d ∷ drop (place + 1) xs
+pub rest_begins_with : {A : Type 0} (xs : List A) (place : ℕ) (d : A) → place < length xs → drop place xs ≡ get_or xs place d ∷ drop (place + 1) xs
 rest_begins_with [] place d l = absurd (omega (arith, l))
 rest_begins_with (x ∷ xs) zero d l = refl
 rest_begins_with (x ∷ xs) (suc place) d l = rest_begins_with xs place d (omega (arith, l))

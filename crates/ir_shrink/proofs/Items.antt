@@ -5,10 +5,7 @@ use Rattle.std.proofs.lemmas.List.Concat.{flat_map-append}
 use Rattle.ir_record.specs.Recording.{turns_of_items}
 use Rattle.ir_record.specs.Refusing.{Turn}
 use Rattle.ir_record.specs.declared.item.Item.{Item}
-
--- the turns of one item
-abbrev pub turns_of : Item → List Turn
-turns_of item = replicate item.count (item.thread, item.refused)
+use Rattle.ir_shrink.specs.Items.{turns_of}
 
 -- two items of one thread that treat tries alike are one
 pub joined_items_are_one : (first next : Item) (count : ℕ) → first.thread ≡ next.thread → first.refused ≡ next.refused → count ≡ first.count + next.count

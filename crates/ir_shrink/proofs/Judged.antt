@@ -1,11 +1,12 @@
 -- What runs by items are judged to be.
-use Rattle.std.proofs.Common.{◌≡◌, ◌≤◌, ℕ, true, false, List, map, Some, sym, ap, ◌∙◌, subst, inl, inr}
-use Rattle.std.specs.Prelude.{slice_get, option_map}
+use Rattle.std.proofs.Common.{◌≡◌, ◌≤◌, ◌<◌, ℕ, true, false, List, length, map, Some, sym, ap, ◌∙◌, subst, inl, inr}
+use Rattle.std.specs.Prelude.{slice_get, option_map, IfSome}
 use Rattle.std.specs.List.{list_all}
 use Rattle.std.proofs.lemmas.List.Folds.{list_all-map}
 use Rattle.std.proofs.lemmas.Option.{slice_get-map}
 use Rattle.ir_flat.specs.Flat.{Flat}
 use Rattle.ir_image.specs.Guest.{Guest}
+use Rattle.ir_lemmas.proofs.CallerLemmas.{element_below_length}
 use Rattle.ir_record.specs.Recording.{turns_of_items}
 use Rattle.ir_record.specs.declared.item.Item.{Item}
 use Rattle.ir_schedule.specs.Conditions.{as_condition, fulfils, end_state}
@@ -30,6 +31,11 @@ module _ (guest : Guest) (plan : ShrinkPlan) (items taken : List Item) (flat : F
     is = slice_get-map as_condition plan.conditions.now place ∙ ap (option_map as_condition) is;
     fails = fails;
   }
+
+  pub unmet_at_place : (place : ℕ) → place < length plan.conditions.now
+      → IfSome (slice_get plan.conditions.now place) (λ c. fulfils (as_condition c) (end_state flat) ≡ false) → IsVerdict (goal_of guest plan) p.run (Unmet place)
+  unmet_at_place place l h = let x = element_below_length plan.conditions.now place l in
+      unmet_is_verdict place x.0 x.1 (subst (λ o. IfSome o (λ c. fulfils (as_condition c) (end_state flat) ≡ false)) x.1 h)
 
   -- each condition is met, and what is wanted of the stale writes
   pub met_is_verdict : list_all (λ c. fulfils (as_condition c) (end_state flat)) plan.conditions.now ≡ true
@@ -63,4 +69,4 @@ module _ (guest : Guest) (plan : ShrinkPlan) (items taken : List Item) (flat : F
   pub good_is_kept : (count : ℕ) → count ≡ changes (map (λ t. t.0) (turns_of_items taken)) → IsVerdict (goal_of guest plan) p.run Good
       → IsKept (goal_of guest plan) taken count
   good_is_kept count is good =
-      record { run = p.run; of_threads = p.of_threads; in_turns = p.in_turns; fulfilled = good; switches_are = switches_of_taken count is }
+      record { run = p.run; of_threads = p.of_threads; some = p.some; in_turns = p.in_turns; fulfilled = good; switches_are = switches_of_taken count is }

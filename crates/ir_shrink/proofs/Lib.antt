@@ -5,4 +5,5 @@ mod Moves
 mod Played
 mod Recorded
 mod Steps
+mod Tests
 mod Unique

@@ -15,8 +15,8 @@ use Rattle.ir_record.proofs.CallerLemmas.{answers_in_append, in_turns_of_append}
 use Rattle.ir_runs.specs.Machine.{Machine, Private, Try, Admits, act_of, target}
 use Rattle.ir_runs.specs.Run.{State, Step, asked, after, IsRun, end, log, HasNone}
 use Rattle.ir_runs.proofs.CallerLemmas.{end_append, log_append}
-use Rattle.ir_shrink.specs.Items.{plain_item, pass_of, passes_of}
-use Rattle.ir_shrink.proofs.Items.{turns_of, turns_of_items_append, pushed_item_turns}
+use Rattle.ir_shrink.specs.Items.{turns_of, plain_item, pass_of, passes_of}
+use Rattle.ir_shrink.proofs.Items.{turns_of_items_append, pushed_item_turns}
 use Rattle.ir_shrink.specs.Moments.{Moment, Took, Followed, EachTakes, HasNoStep, IsTurn}
 use Rattle.ir_thread.specs.State.{thread_machine, ask_of, shared_ask}
 

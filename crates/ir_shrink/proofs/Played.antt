@@ -1,11 +1,12 @@
 -- A guest's run by items, at its end.
-use Rattle.std.proofs.Common.{◌≡◌, ℕ, zero, suc, ◌+◌, ◌<◌, List, [], ◌++◌, length, map, true, refl, sym, ap, ◌∙◌, subst, arith, inl, inr, append-nil}
+use Rattle.std.proofs.Common.{◌≡◌, ℕ, zero, suc, ◌+◌, ◌<◌, ◌≤◌, List, [], ◌++◌, length, map, true, refl, sym, ap, ◌∙◌, subst, arith, inl, inr, append-nil}
 use Rattle.std.proofs.lemmas.Bool.{cases_lt}
 use Rattle.std.specs.List.{AllByRecursion}
 use Rattle.std.specs.Prelude.{replicate}
 use Rattle.ir_flat.specs.Flat.{Flat, tables, machine, start_flat}
 use Rattle.ir_flat.proofs.CallerLemmas.{guest_run_not_stuck, guest_start_is_idle, length_of_start_threads}
 use Rattle.ir_image.specs.Guest.{Guest}
+use Rattle.ir_order.proofs.CallerLemmas.{complete_have_steps}
 use Rattle.ir_record.specs.Recording.{turns_of_items}
 use Rattle.ir_record.specs.Refusing.{Turn, InTurns}
 use Rattle.ir_record.specs.Worlds.{answers_at, answers_in}
@@ -57,12 +58,12 @@ none_left_is_done guest plan run b ok ends code none t =
     ]
 
 -- it was followed to its end
-pub played_to_end : (guest : Guest) (plan : Plan) (items : List Item) (count : ℕ) (a b c : Moment) (taken : List Item) (n : ℕ) → a ≡ first_moment guest plan
+pub played_to_end : (guest : Guest) (plan : Plan) (items : List Item) (count : ℕ) (a b c : Moment) (taken : List Item) (n : ℕ) → 1 ≤ length guest.entries → a ≡ first_moment guest plan
     → Followed (turns_of_items items) a b → n ≡ length b.flat.threads → Followed (turns_of_items (passes_of n (endless_of plan) count)) b c
     → ((t : ℕ) → t < n → HasNoStep c t) → c.turns ≡ turns_of_items taken
     → ((t : ℕ) → t < length guest.entries → IsAnsweredFrom (origin_of true plan.random plan.input t) (answers_at c.answers t))
     → IsPlayed guest plan items taken c.flat
-played_to_end guest plan items count a b c taken n first p threads q none noted answered = record {
+played_to_end guest plan items count a b c taken n threaded first p threads q none noted answered = record {
   run = h.took.run;
   by_items = record {
     by_items = record {
@@ -84,7 +85,8 @@ played_to_end guest plan items count a b c taken n first p threads q none noted 
     answered = given;
   };
   of_threads = subst (AllByRecursion (λ t. t.0 < length guest.entries)) all_taken (subst (λ k. AllByRecursion (λ (t : Turn). t.0 < k) h.taken) start h.took.of_threads);
-  each = threads_of_each (machine f) (tables f) h.taken h.took.run h.took.each ∙ ap (map (λ t. t.0)) all_taken;
+  some = λ none. complete_have_steps guest plan.budget plan.profile h.took.run threaded done (threads_are ∙ ap (map (λ t. t.0)) none);
+  each = threads_are;
   came = record { ends = h.took.ends; threads = h.took.threads; objects = h.took.objects };
 }
   where
@@ -103,6 +105,9 @@ played_to_end guest plan items count a b c taken n first p threads q none noted 
 
     all_taken : h.taken ≡ turns_of_items taken
     all_taken = sym h.noted ∙ noted
+
+    threads_are : map (λ e. e.0) h.took.run ≡ map (λ t. t.0) (turns_of_items taken)
+    threads_are = threads_of_each (machine f) (tables f) h.taken h.took.run h.took.each ∙ ap (map (λ t. t.0)) all_taken
 
     done : IsDone (machine f) (end (machine f) (tables f) h.took.run)
     done = none_left_is_done guest plan h.took.run c (is_run_if_in_turns (machine f) (tables f) _ h.took.run h.took.in_turns) h.took.ends h.took.code

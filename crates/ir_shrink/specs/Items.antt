@@ -1,15 +1,19 @@
 -- Runs by items, after which each thread goes on as far as it can.
-use Rattle.std.specs.Prelude.{ℕ, zero, suc, ◌+◌, false, true, List, [], ◌∷◌, ◌++◌, length}
+use Rattle.std.specs.Prelude.{ℕ, zero, suc, ◌+◌, false, true, List, [], ◌∷◌, ◌++◌, length, replicate}
 use Rattle.ir_image.specs.Guest.{Guest}
 use Rattle.ir_flat.specs.Flat.{start_flat, tables, machine}
 use Rattle.ir_order.specs.OneRun.{AreAnswered}
 use Rattle.ir_record.specs.Recording.{turns_of_items}
-use Rattle.ir_record.specs.Refusing.{InTurns}
+use Rattle.ir_record.specs.Refusing.{Turn, InTurns}
 use Rattle.ir_record.specs.declared.item.Item.{Item}
 use Rattle.ir_record_command.specs.Plan.{Plan}
 use Rattle.ir_runs.specs.Machine.{Machine}
 use Rattle.ir_runs.specs.Run.{State, Step, end, IsDone}
 use Rattle.ir_world.specs.Sources.{origin_of}
+
+-- the turns of one item
+abbrev pub turns_of : Item → List Turn
+turns_of item = replicate item.count (item.thread, item.refused)
 
 -- so many turns of a thread, in which no try is refused that may enter
 abbrev pub plain_item : ℕ → ℕ → Item

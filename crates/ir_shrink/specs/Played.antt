@@ -1,5 +1,5 @@
 -- What running a guest by items gives.
-use Rattle.std.specs.Prelude.{◌≡◌, ◌<◌, List, length, map}
+use Rattle.std.specs.Prelude.{◌≡◌, ◌≢◌, ◌<◌, List, [], length, map}
 use Rattle.std.specs.List.{AllByRecursion}
 use Rattle.ir_image.specs.Guest.{Guest}
 use Rattle.ir_flat.specs.Flat.{Flat}
@@ -18,5 +18,6 @@ pub record IsPlayed (guest : Guest) (plan : Plan) (items taken : List Item) (fla
   -- it is the run by the items as they were taken, each turn of which takes a step
   pub in_turns : IsPlannedInTurns guest plan (turns_of_items taken) run
   pub of_threads : AllByRecursion (λ t. t.0 < length guest.entries) (turns_of_items taken)
+  pub some : turns_of_items taken ≢ []
   pub each : map (λ e. e.0) run ≡ map (λ t. t.0) (turns_of_items taken)
   pub came : CameTo guest plan run flat

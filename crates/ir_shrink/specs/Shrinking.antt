@@ -1,5 +1,5 @@
 -- What a run is shrunk to.
-use Rattle.std.specs.Prelude.{◌≡◌, ◌≤◌, ◌<◌, ◌+◌, ◌⊎◌, ℕ, Bool, true, false, List, ◌∷◌, ◌++◌, length, map, take, drop, Option, Some, slice_get}
+use Rattle.std.specs.Prelude.{◌≡◌, ◌≢◌, ◌≤◌, ◌<◌, ◌+◌, ◌⊎◌, ℕ, Bool, true, false, List, [], ◌∷◌, ◌++◌, length, map, take, drop, Option, Some, slice_get}
 use Rattle.std.specs.List.{list_all, slice_index_or, AllByRecursion}
 use Rattle.ir_image.specs.Guest.{Guest}
 use Rattle.ir_flat.specs.Flat.{Flat}
@@ -49,10 +49,11 @@ pub record FailsAt (goal : Goal) (run : List Step) (place : ℕ) : Type 0 where
 abbrev pub Fails : Goal → List Step → Type 0
 Fails goal run = ((place : ℕ) × FailsAt goal run place) ⊎ FailsStale goal.guest goal.plan goal.wanted run
 
--- the run by the turns of these items, which are of the guest's threads, has so many switches, and fulfils all
+-- the run by the turns of these items, of which there are some, and which are of the guest's threads, has so many switches, and fulfils all
 pub record IsKept (goal : Goal) (items : List Item) (count : ℕ) : Type 0 where
   pub run : List Step
   pub of_threads : AllByRecursion (λ t. t.0 < length goal.guest.entries) (turns_of_items items)
+  pub some : turns_of_items items ≢ []
   pub in_turns : IsPlannedInTurns goal.guest goal.plan (turns_of_items items) run
   pub fulfilled : Fulfils goal run
   pub switches_are : switches run ≡ count

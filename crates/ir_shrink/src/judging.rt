@@ -60,7 +60,8 @@ fn first_unmet(conditions: &[Condition<'_>], flat: &Flat<'_>) -> Option<usize>
         (λ place. IfSome (slice_get conditions.now place) (λ c. fulfils (as_condition c) (end_state flat.now) ≡ false) × (place < length conditions.now)) }
 {
     'places: for place in 0..conditions.len() {
-        if !conditions[place].holds(flat) {
+        let is_met = conditions[place].holds(flat);
+        if !is_met {
             return Some(place);
         }
     }
@@ -68,6 +69,26 @@ fn first_unmet(conditions: &[Condition<'_>], flat: &Flat<'_>) -> Option<usize>
 }
 
 impl<C: Clock> Judge<'_, C> {
+    // Whether a run that fulfils each condition has what is wanted of its stale writes.
+    fn stale_judged(&self, played: &Played<'_>) -> Result<Verdict, AllocError>
+        requires { list_all (λ c. fulfils (as_condition c) (end_state played.now.flat)) self.now.plan.now.conditions.now ≡ true }
+        ensures { IfOk result (λ verdict. (items : List Item) → (p : IsPlayed self.now.image.now self.now.plan.now.record items played.now.items.items played.now.flat)
+            → IsVerdict (goal_of self.now.image.now self.now.plan.now) p.run verdict) }
+    {
+        let is_good = is_wanted(
+            self.alloc,
+            self.clock,
+            self.image,
+            &self.plan.record,
+            played.items.as_slice(),
+            self.plan.stale,
+        )?;
+        if is_good {
+            return Ok(Verdict::Good);
+        }
+        Ok(Verdict::Stale)
+    }
+
     /// Whether a run fulfils all. Its stale writes are asked only where it fulfils each condition.
     ///
     /// # Errors
@@ -76,23 +97,10 @@ impl<C: Clock> Judge<'_, C> {
         ensures { IfOk result (λ verdict. (items : List Item) → (p : IsPlayed self.now.image.now self.now.plan.now.record items played.now.items.items played.now.flat)
             → IsVerdict (goal_of self.now.image.now self.now.plan.now) p.run verdict) }
     {
-        if let Some(place) = first_unmet(self.plan.conditions, &played.flat) {
-            return Ok(Verdict::Unmet(place));
+        match first_unmet(self.plan.conditions, &played.flat) {
+            Some(place) => Ok(Verdict::Unmet(place)),
+            None => self.stale_judged(played),
         }
-        let items = played.items.as_slice();
-        let is_wanted = is_wanted(
-            self.alloc,
-            self.clock,
-            self.image,
-            &self.plan.record,
-            items,
-            self.plan.stale,
-        )?;
-        Ok(if is_wanted {
-            Verdict::Good
-        } else {
-            Verdict::Stale
-        })
     }
 
     /// The run by items, if it fulfils all and has fewer switches than `limit`.
@@ -104,16 +112,18 @@ impl<C: Clock> Judge<'_, C> {
             (λ kept. IsKeptOf (goal_of self.now.image.now self.now.plan.now) kept × (kept.switches < limit))) }
     {
         let played = play(self.alloc, self.clock, self.image, &self.plan.record, items)?;
-        let switches = switches(played.items.as_slice());
-        if switches >= limit {
+        let count = switches(played.items.as_slice());
+        if count >= limit {
             return Ok(None);
         }
-        match self.judged(&played)? {
-            Verdict::Good => {
-                let Played { items, .. } = played;
-                Ok(Some(Kept { items, switches }))
-            }
-            Verdict::Unmet(_) | Verdict::Stale => Ok(None),
+        let verdict = self.judged(&played)?;
+        match verdict {
+            Verdict::Good => Ok(Some(Kept {
+                items: played.items,
+                switches: count,
+            })),
+            Verdict::Unmet(_) => Ok(None),
+            Verdict::Stale => Ok(None),
         }
     }
 }

@@ -1,15 +1,15 @@
 //! Turns that are noted.
 
-ghost use Rattle.std.specs.Prelude.{◌≡◌, ◌++◌, replicate, OnOk, IfSome};
+ghost use Rattle.std.specs.Prelude.{◌≡◌, ◌++◌, OnOk, IfSome};
 ghost use Rattle.ir_record.specs.Recording.{turns_of_items};
+ghost use Rattle.ir_shrink.specs.Items.{turns_of};
 
 use ir_record::Item;
 use std::alloc::AllocError;
 
 // Two items as one, if they are of one thread and treat tries alike.
 fn joined(first: Item, next: Item) -> Option<Item>
-    ensures { IfSome result (λ both. replicate both.count (both.thread, both.refused)
-        ≡ replicate first.count (first.thread, first.refused) ++ replicate next.count (next.thread, next.refused)) }
+    ensures { IfSome result (λ both. turns_of both ≡ turns_of first ++ turns_of next) }
 {
     if first.thread != next.thread || first.refused != next.refused {
         return None;
@@ -20,8 +20,7 @@ fn joined(first: Item, next: Item) -> Option<Item>
 
 // Puts an item after another, with it as one if that can be.
 fn push_after(items: &mut Vec<Item>, last: Item, item: Item) -> Result<(), AllocError>
-    ensures { OnOk result (turns_of_items items.new.items ≡ turns_of_items items.old.items
-        ++ (replicate last.count (last.thread, last.refused) ++ replicate item.count (item.thread, item.refused))) }
+    ensures { OnOk result (turns_of_items items.new.items ≡ turns_of_items items.old.items ++ (turns_of last ++ turns_of item)) }
 {
     match joined(last, item) {
         Some(both) => items.push(both)?,
@@ -38,7 +37,7 @@ fn push_after(items: &mut Vec<Item>, last: Item, item: Item) -> Result<(), Alloc
 /// # Errors
 /// Out of memory.
 pub fn note(items: &mut Vec<Item>, item: Item) -> Result<(), AllocError>
-    ensures { OnOk result (turns_of_items items.new.items ≡ turns_of_items items.old.items ++ replicate item.count (item.thread, item.refused)) }
+    ensures { OnOk result (turns_of_items items.new.items ≡ turns_of_items items.old.items ++ turns_of item) }
 {
     if item.count == 0 {
         return Ok(());

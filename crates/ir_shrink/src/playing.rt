@@ -1,6 +1,6 @@
 //! A guest's run by items, to its end.
 
-ghost use Rattle.std.specs.Prelude.{◌≡◌, length, map, true, IfOk};
+ghost use Rattle.std.specs.Prelude.{◌≡◌, ◌≤◌, length, map, true, IfOk, OnOk};
 ghost use Rattle.ir_record.specs.Worlds.{NoneFailed};
 ghost use Rattle.ir_shrink.specs.Items.{endless_of};
 ghost use Rattle.ir_shrink.specs.Moments.{first_moment, moment_of};
@@ -43,6 +43,7 @@ fn start<'a, C: Clock>(
     requires { IsAllowed plan.now.profile image.now }
     ensures moment { IfOk result (λ mover. moment_of (λ w. w.answers.items) mover ≡ first_moment image.now plan.now) }
     ensures origins { IfOk result (λ mover. map (λ w. made_with w.time w.seed w.file.now) mover.worlds.items ≡ origins true plan.now.random plan.now.input (length image.now.entries)) }
+    ensures some { OnOk result (1 ≤ length image.now.entries) }
     ensures works { IfOk result (λ mover. NoneFailed (map (λ w. w.failed) mover.worlds.items)) }
 {
     let flat = Flat::start(alloc, image, plan.budget, plan.profile)?;

@@ -81,14 +81,18 @@ impl<C: Clock> Judge<'_, C> {
             plan,
             played.items.as_slice(),
         )?;
-        if !are_same(self.alloc, &own, trace)? {
+        let is_same = are_same(self.alloc, &own, trace)?;
+        if !is_same {
             return Err(Refusal::Other);
         }
-        match self.judged(&played)? {
+        let verdict = self.judged(&played)?;
+        match verdict {
             Verdict::Good => {
-                let switches = switches(played.items.as_slice());
-                let Played { items, .. } = played;
-                Ok(Kept { items, switches })
+                let count = switches(played.items.as_slice());
+                Ok(Kept {
+                    items: played.items,
+                    switches: count,
+                })
             }
             Verdict::Unmet(place) => Err(Refusal::Unmet(place)),
             Verdict::Stale => Err(Refusal::Stale),

@@ -2,7 +2,8 @@
 
 ghost use Rattle.std.specs.Prelude.{◌≡◌, ◌≤◌, ◌<◌, ℕ, Some, true, false, length, IfOk, IfSome, MatchOption};
 ghost use Rattle.ir_shrink.specs.Judging.{IsKeptOf, IsSought};
-ghost use Rattle.ir_shrink.specs.Shrinking.{goal_of, IsMinimal, IsNoneBetterAt};
+ghost use Rattle.ir_shrink.specs.Items.{endless_of};
+ghost use Rattle.ir_shrink.specs.Shrinking.{endless_at, goal_of, IsMinimal, IsNoBetter, IsNoneBetterAt, without};
 
 use crate::changes::{endless_at, without};
 use crate::judging::{Judge, Kept};
@@ -74,24 +75,52 @@ fn drawn(
 }
 
 impl<C: Clock> Judge<'_, C> {
+    // Something better where the item at a place has endless turns. Where so many items are left out there, or those after it, nothing is.
+    fn longer_at(&self, kept: &Kept, place: usize, size: usize) -> Result<Option<Kept>, AllocError>
+        requires place { place < length kept.now.items.items }
+        requires left_out { IsNoBetter (goal_of self.now.image.now self.now.plan.now) kept.now.switches (without place size kept.now.items.items) }
+        requires merged { IsNoBetter (goal_of self.now.image.now self.now.plan.now) kept.now.switches (endless_at (endless_of self.now.plan.now.record) place size kept.now.items.items) }
+        ensures { IfOk result (λ o. MatchOption o (IsNoneBetterAt (goal_of self.now.image.now self.now.plan.now) kept.now.items.items kept.now.switches place size)
+            (λ better. IsKeptOf (goal_of self.now.image.now self.now.plan.now) better × (better.switches < kept.now.switches))) }
+    {
+        let endless = endless_of(&self.plan.record);
+        let longer = endless_at(self.alloc, kept.items.as_slice(), endless, place, 0)?;
+        let found = self.better(longer.as_slice(), kept.switches)?;
+        match found {
+            Some(better) => Ok(Some(better)),
+            None => Ok(None),
+        }
+    }
+
+    // Something better where the item at a place has endless turns, without so many items after it or with them. Where so many are left out there,
+    // nothing is.
+    fn merged_at(&self, kept: &Kept, place: usize, size: usize) -> Result<Option<Kept>, AllocError>
+        requires place { place < length kept.now.items.items }
+        requires left_out { IsNoBetter (goal_of self.now.image.now self.now.plan.now) kept.now.switches (without place size kept.now.items.items) }
+        ensures { IfOk result (λ o. MatchOption o (IsNoneBetterAt (goal_of self.now.image.now self.now.plan.now) kept.now.items.items kept.now.switches place size)
+            (λ better. IsKeptOf (goal_of self.now.image.now self.now.plan.now) better × (better.switches < kept.now.switches))) }
+    {
+        let endless = endless_of(&self.plan.record);
+        let merged = endless_at(self.alloc, kept.items.as_slice(), endless, place, size)?;
+        let found = self.better(merged.as_slice(), kept.switches)?;
+        match found {
+            Some(better) => Ok(Some(better)),
+            None => self.longer_at(kept, place, size),
+        }
+    }
+
     // Something better with a turn boundary less at a place: without so many items from there on, or with endless turns of the item there.
     fn better_at(&self, kept: &Kept, place: usize, size: usize) -> Result<Option<Kept>, AllocError>
         requires { place < length kept.now.items.items }
         ensures { IfOk result (λ o. MatchOption o (IsNoneBetterAt (goal_of self.now.image.now self.now.plan.now) kept.now.items.items kept.now.switches place size)
             (λ better. IsKeptOf (goal_of self.now.image.now self.now.plan.now) better × (better.switches < kept.now.switches))) }
     {
-        let (alloc, items) = (self.alloc, kept.items.as_slice());
-        let left = without(alloc, items, place, size)?;
-        if let Some(better) = self.better(left.as_slice(), kept.switches)? {
-            return Ok(Some(better));
+        let left = without(self.alloc, kept.items.as_slice(), place, size)?;
+        let found = self.better(left.as_slice(), kept.switches)?;
+        match found {
+            Some(better) => Ok(Some(better)),
+            None => self.merged_at(kept, place, size),
         }
-        let endless = endless_of(&self.plan.record);
-        let merged = endless_at(alloc, items, endless, place, size)?;
-        if let Some(better) = self.better(merged.as_slice(), kept.switches)? {
-            return Ok(Some(better));
-        }
-        let longer = endless_at(alloc, items, endless, place, 0)?;
-        self.better(longer.as_slice(), kept.switches)
     }
 
     // Something better where the turns of the item at a place are drawn together with the next of its thread.
@@ -164,10 +193,12 @@ impl<C: Clock> Judge<'_, C> {
         ensures { IfOk result (IsSought (goal_of self.now.image.now self.now.plan.now) kept.now.items.items kept.now.switches pace.now.seconds) }
     {
         'places: for place in 0..kept.items.len() {
-            if pace.is_over(self.clock) {
+            let is_over = pace.is_over(self.clock);
+            if is_over {
                 return Ok(Sought::Over);
             }
-            if let Some(better) = self.better_at(kept, place, 1)? {
+            let found = self.better_at(kept, place, 1)?;
+            if let Some(better) = found {
                 return Ok(Sought::Better(better));
             }
         }

@@ -28,7 +28,7 @@ returns g c =
     let last = c.finish.new.self in
     let plan = c.args.plan.now in
     played_to_end c.args.image.now plan c.args.items.now h.0 (moment_of (λ w. w.answers.items) start) (moment_of (λ w. w.answers.items) mid)
-    (moment_of (λ w. w.answers.items) last) last.items.items (length mid.flat.threads) c.in_ok-mover.ensures.moment c.in_ok-follow.ensures.followed refl
+    (moment_of (λ w. w.answers.items) last) last.items.items (length mid.flat.threads) c.in_ok-mover.ensures.some c.in_ok-mover.ensures.moment c.in_ok-follow.ensures.followed refl
     (subst (λ e. Followed (turns_of_items (passes_of (length mid.flat.threads) e h.0)) (moment_of (λ w. w.answers.items) mid) (moment_of (λ w. w.answers.items) last))
     c.endless_of.ensures h.1) c.in_ok-finish.ensures.none refl
     (answered_by_own_origin (λ w. made_with w.time w.seed w.file.now) (λ w. w.answers.items) (λ w. (w.sources, w.gave)) true plan.random plan.input
