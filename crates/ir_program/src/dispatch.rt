@@ -6,11 +6,11 @@ use crate::bundles::bundle;
 use crate::debug::{debug_files, gdb_files};
 use crate::ends_once::EndsOnce;
 use crate::prompting::Prompting;
-use ir_arguments::{Asked, Explored, Make, Print, parsed};
+use ir_arguments::{Asked, Explored, Make, Print, ShrinkArguments, parsed};
 use ir_commands::{
     Surroundings, assemble_file, classes_file, convert_file, diff_files, events_file,
-    explain_image, explore_file, hunt_file, list_file, record_file, say, stale_file, trace_file,
-    until_file, view_file, who_file, why_file, within_file,
+    explain_image, explore_file, hunt_file, list_file, record_file, say, shrink_file, stale_file,
+    trace_file, until_file, view_file, who_file, why_file, within_file,
 };
 use ir_files::{ExitStatus, Folder};
 use ir_object::{Gate, Given, Hands};
@@ -172,6 +172,27 @@ where
     }
 }
 
+// Shrinks a recorded run of the guest in a file.
+fn shrink<R, D, G, O, E>(
+    around: &Surroundings<'_, R, D, G>,
+    arguments: &ShrinkArguments,
+    explains: bool,
+    out: &mut O,
+    faults: &mut E,
+) -> ExitStatus
+where
+    R: Clock + AllocGlobal,
+    D: Folder,
+    O: Sink,
+    E: Sink,
+    requires writes { O.broken out.old ≡ false }
+    requires reports { E.broken faults.old ≡ false }
+{
+    let status = shrink_file(around, arguments, explains, out, faults);
+    let image = arguments.image.as_str();
+    over_image(around.rt.alloc(), around.folder, image, status, faults)
+}
+
 // Reports why nothing is done; the exit status of that.
 fn told<E: Sink>(why: &str, status: ExitStatus, faults: &mut E) -> ExitStatus
     ensures { result ≡ status }
@@ -216,6 +237,7 @@ where
             let image = arguments.image.as_str();
             over_image(alloc, folder, image, status, faults)
         }
+        Asked::Shrink(arguments) => shrink(&around, &arguments, terminals.faults, out, faults),
         Asked::Until(arguments) => {
             let status = until_file(&around, &arguments, terminals.faults, out, faults);
             let image = arguments.explore.image.as_str();
