@@ -115,6 +115,10 @@ explore-test: ir
 	python3 tests/exploring.py ./ir
 	python3 tests/comparing.py ./ir
 
+# Runs of faults, shrunk to few context switches and recorded again.
+shrink-test: ir
+	python3 tests/shrinking.py ./ir
+
 # The tests of sessions as a program, of which those about memory are run here. Proves them too.
 TESTS := crates/ir_session_tests/out/ir_session_tests_tests
 

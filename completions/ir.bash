@@ -2,14 +2,15 @@
 _ir() {
     local word=${COMP_WORDS[COMP_CWORD]} words=
     if ((COMP_CWORD == 1)); then
-        words="asm elf list record hunt explore debug gdb trace events stale who why diff view help --help --version"
+        words="asm elf list record hunt shrink explore debug gdb trace events stale who why diff view help --help --version"
     elif [[ $word == -* ]]; then
         case ${COMP_WORDS[1]} in
             asm) words="--map --explain --help" ;;
             elf) words="--explain --help" ;;
             list) words="--map --help" ;;
             record) words="--order --order-file --chaos --by --budget --random --profile --input --output --status --help" ;;
-            hunt) words="--seeds --until --by --jobs --seconds --budget --random --profile --input --output --help" ;;
+            hunt) words="--seeds --until --by --jobs --seconds --shrink --budget --random --profile --input --output --help" ;;
+            shrink) words="--until --seconds --random --input --output --help" ;;
             explore) words="--until --states --switches --private --random --profile --input --output --within --only --help" ;;
             debug) words="--help" ;;
             gdb) words="--help" ;;

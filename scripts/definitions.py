@@ -1,6 +1,6 @@
 #!/usr/bin/env python3
 """Makes docs/internals/headline.md and claims.md of the definitions in specs/: the relations by which the main theorem is read, as they are, and the files
-on which exploring, hunting, gdb and insight rest.
+on which exploring, hunting, shrinking, gdb and insight rest.
 
 python3 scripts/definitions.py [--check | --index]
 
@@ -102,9 +102,19 @@ CLAIMS = [
         ("ir_hunt", "Hunted", "`IsNoneIn`, `IsFoundIn`"),
         ("ir_hunt", "Stopping", "`IsHuntLine`: what is printed of it"),
     ], (1385, 548)),
+    Claim("Shrinking", "`ir shrink` records a run with fewer context switches that fulfils the same conditions.", {
+        "ir_shrink/src/run.rt": ["shrink_run"],
+        "ir_shrink/src/laws.rt": ["each_run_is_no_better"],
+    }, [
+        ("ir_shrink", "Switches", "`switch_count`: which switches are counted"),
+        ("ir_shrink", "Items", "`IsPlannedByItems`: a run by items, and what follows them"),
+        ("ir_shrink", "Shrinking", "`IsShrunk`, `IsMinimal`"),
+        ("ir_shrink", "Stopping", "`RecordsShrunk`, `StopsShrink`: what is written and reported"),
+        ("ir_shrink", "Laws", "the law"),
+    ], (360, 180)),
     Claim("gdb", "`ir gdb` answers gdb, and its moves are a session's.", {
         "ir_gdb/src/session.rt": ["connect"],
-        "ir_gdb/src/laws.rt": ["alone_is_session", "no_hit_is_passed", "none_is_blocked", "each_hit_is_shown_once", "no_bad_end_is_hidden"],
+        "ir_gdb/src/laws.rt": ["alone_is_session", "no_hit_is_passed", "none_is_blocked", "each_hit_is_shown_once", "shown_condition_is_met", "no_bad_end_is_hidden"],
     }, [
         ("ir_gdb", "Stub", "`Stub`: the small machine, and what gdb has set"),
         ("ir_gdb", "Stops", "where a thread stops"),
@@ -114,7 +124,7 @@ CLAIMS = [
         ("ir_gdb", "Replies", "`RepliesTo`: the reply to each request"),
         ("ir_gdb", "Connection", "`RepliesToItems`: the bytes of packets and acknowledgements"),
         ("ir_gdb", "Laws", "the laws"),
-    ], (2389, 1250)),
+    ], (3024, 1603)),
     Claim("Insight", "The lines of `ir stale`, `who`, `why`, `diff`, `view`, `events` and `list`.", {
         "ir_past/src/run.rt": ["stale_run"],
         "ir_stale_run/src/run.rt": ["rests_run"],
@@ -151,7 +161,7 @@ CLAIMS_PAGE = PAGES / "claims.md"
 CLAIMS_HEAD = """# What the other claims rest on
 
 [The theorem](theorem.md) names the definitions on which a session, a recording, `fit` and `advance` rest.
-Here are those of exploring, hunting, gdb and insight.
+Here are those of exploring, hunting, shrinking, gdb and insight.
 Each part has only the files that neither the theorem nor the parts before it have.
 What its contracts promise in words is in [contracts](contracts.md), and how to read definitions in [the theorem](theorem.md#how-to-read-it).
 `python3 scripts/definitions.py` makes this page, and refuses a part with more lines than it may have, and a name that two files of these parts or of the headline define.

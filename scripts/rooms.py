@@ -8,8 +8,8 @@ of `proofs/` is public; a crate stands in crates.txt on each crate that its file
 `examples.rt` are those of the files of `examples`, since a test can read no file; the manual page and docs/reference agree with the texts of
 `--help`; the literals of the page of `ir view` are those of page/view.html; docs/internals names and counts what is there (scripts/definitions.py,
 scripts/facts.py); no lemma statement stands in two crates, and no line of src, specs and proofs has more than 200 characters
-(scripts/statements.py); no function has more than 7 parameters, and at most three have more than 6; and each edit of `must-fail/` and `edits/` applies, has
-no line that isn't read, and writes no name that its file doesn't have.
+(scripts/statements.py); no function has more than 6 parameters or more than 12 clauses; and each edit of `must-fail/` and `edits/` applies, has no line
+that isn't read, and writes no name that its file doesn't have.
 """
 import re
 import sys
@@ -37,7 +37,8 @@ NEEDED = re.compile(r"(?<![\w.:'])(?:([A-Z]\w*)|([a-z_]\w*)(?=::|\())")
 WORD = re.compile(r"(?<![\w.:'])[A-Za-z_]\w*")
 ALWAYS = set("Self Some None Ok Err Vec String Option Result Drop Copy Clone crate self super std if while match return".split())
 FUNCTION = re.compile(r"\bfn (\w+)\s*(?:<[^(]*>)?\(")
-MOST_PARAMETERS, MANY_PARAMETERS, MOST_WIDE = 7, 6, 3
+CLAUSE = re.compile(r"\b(?:requires|ensures)\b[^{;]*\{")
+MOST_PARAMETERS, MOST_CLAUSES = 6, 12
 EXAMPLES = TOP / "crates" / "ir_tests" / "src" / "examples.rt"
 TEXT = re.compile(r'^pub const (\w+): &str =\s+"([^"]*)";', re.MULTILINE)
 # What a tactic of the code unfolds or uses, by its path; and what a file of specs/ or proofs/ offers under a name.
@@ -146,9 +147,9 @@ def bad_edits():
 
 
 def parameters(text):
-    """How many parameters stand between the parenthesis before a text and its other half."""
+    """How many parameters stand between the parenthesis before a text and its other half, and where that half is."""
     depth, count, empty, before = 1, 0, True, ""
-    for char in text:
+    for at, char in enumerate(text):
         if char in "([{<":
             depth += 1
         elif char in ")]}" or char == ">" and before != "-":
@@ -160,26 +161,41 @@ def parameters(text):
         elif not char.isspace():
             empty = False
         before = char
-    return count + (not empty)
+    return count + (not empty), at
 
 
-def wide_functions():
-    """The functions with too many parameters, a line each: above 7, or above 6 if there are more than three of them."""
-    wide = []
+def clauses(text):
+    """How many clauses stand before the body of a function, or before the semicolon of a function of a trait."""
+    at = depth = count = 0
+    while at < len(text) and (depth or text[at] not in "{;"):
+        found = CLAUSE.match(text, at)
+        if found:
+            count, at, braces = count + 1, found.end(), 1
+            while braces:
+                braces += (text[at] == "{") - (text[at] == "}")
+                at += 1
+        else:
+            depth += (text[at] in "([") - (text[at] in ")]")
+            at += 1
+    return count
+
+
+def large_functions():
+    """The functions with more parameters or clauses than a function may have, a line each."""
     for path in sorted((TOP / "crates").glob("*/src/**/*.rt")):
         text = re.sub(r"//.*", "", path.read_text(encoding="utf-8"))
         for found in FUNCTION.finditer(text):
-            count = parameters(text[found.end():])
-            if count > MANY_PARAMETERS:
-                wide.append((count, f"{path.relative_to(TOP)}: {found[1]} has {count} parameters"))
-    if len(wide) > MOST_WIDE:
-        yield from (line for _, line in wide)
-    else:
-        yield from (line for count, line in wide if count > MOST_PARAMETERS)
+            after = text[found.end():]
+            wide, end = parameters(after)
+            many = clauses(after[end + 1:])
+            if wide > MOST_PARAMETERS:
+                yield f"{path.relative_to(TOP)}: {found[1]} has {wide} parameters"
+            if many > MOST_CLAUSES:
+                yield f"{path.relative_to(TOP)}: {found[1]} has {many} clauses"
 
 
 def main():
-    found = [*faults(), *unknown_tactics(), *wide_functions(), *examples(), *differences(), *completion_differences(), *page_differences(), *bad_edits(), *definitions.faults(), *facts.differences(), *statements.copies(), *statements.long_lines()]
+    found = [*faults(), *unknown_tactics(), *large_functions(), *examples(), *differences(), *completion_differences(), *page_differences(), *bad_edits(), *definitions.faults(), *facts.differences(), *statements.copies(), *statements.long_lines()]
     print("\n".join(found) or "rooms: each crate cites what the others offer; examples, help and definitions agree with the pages; the edits apply")
     return 1 if found else 0
 

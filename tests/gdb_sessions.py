@@ -32,6 +32,7 @@ RECORDED = {
     "lost": ("--order", "0x41,1x400,2x34"),
     "objs": ("--order", "0x5,1x200"),
     "busy": ("--budget", "10000000"),
+    "cond": ("--order", "1x3,0x20000,1x20000"),
 }
 
 
@@ -86,6 +87,23 @@ SESSIONS = {
         ["break sum if n == 1", "continue", "bt", "delete", "break over.c:17", "ignore 2 3", "continue", "print i", "tbreak square if x == 2",
          "reverse-continue", "print x"],
         [r"hit Breakpoint 1, sum \(n=1\)", r"#3 .*filler_body", "hit Breakpoint 2, fill", "= 3", r"square \(x=2\)", "= 2"],
+    ),
+    "06-conditions-of-objects": Session(
+        "cond",
+        ["break add if i == 1007", "continue", "break add if *(int *)0x80000000 == 50", "continue", "print i", "continue", "reverse-continue",
+         "reverse-continue"],
+        [r"Thread 2 .*hit Breakpoint 1, add \(i=(?:i@entry=)?1007\)", r"Thread 1 .*hit Breakpoint 2, add \(i=(?:i@entry=)?51\)", "= 51", r"add \(i=(?:i@entry=)?52\)",
+         r"Thread 1 .*add \(i=(?:i@entry=)?51\)", r"Thread 2 .*hit Breakpoint 1, add \(i=(?:i@entry=)?1007\)"],
+        locked=False,
+    ),
+    "06-conditions-without-value": Session(
+        "cond",
+        ["break add if 1 / (i - 20) == 5", "continue", "print i", "delete", "starti", "break add if *(int *)0 == 5", "continue", "print i", "delete",
+         "starti", r'dprintf add,"at %d\n", i', "condition 3 i == 30", "break add if i == 31", "continue", "condition 4 i == 35", "continue",
+         "condition 4 i == 33", "reverse-continue", "condition 4 i == 5000", "continue", "reverse-continue"],
+        ["Division by zero", "= 20", "Cannot access memory at address 0x0", "= 0", "^at 30$", r"add \(i=(?:i@entry=)?31\)", r"add \(i=(?:i@entry=)?35\)",
+         r"add \(i=(?:i@entry=)?33\)", "No more reverse-execution history", "^at 30$", "No more reverse-execution history"],
+        target="extended-remote",
     ),
     "07-watch-sizes": Session(
         "over",

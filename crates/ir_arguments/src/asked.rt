@@ -9,6 +9,7 @@ use crate::explore::{ExploreArguments, UntilArguments};
 use crate::hunt::HuntArguments;
 use crate::list::ListArguments;
 use crate::record::RecordArguments;
+use crate::shrink::ShrinkArguments;
 use crate::stale::StaleArguments;
 use crate::trace::TraceArguments;
 use crate::view::ViewArguments;
@@ -68,6 +69,8 @@ pub enum Asked {
     Record(RecordArguments),
     /// A hunt.
     Hunt(HuntArguments),
+    /// A run with fewer context switches than a recorded one.
+    Shrink(ShrinkArguments),
     /// The recording of an outcome that fulfils conditions.
     Until(UntilArguments),
     /// A session of an image and a trace in files.

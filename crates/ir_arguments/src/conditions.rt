@@ -1,5 +1,6 @@
 //! Conditions of what a run comes to.
 
+use crate::condition_text::ConditionText;
 use crate::values::UNTIL;
 use crate::wrong_condition::why_no_condition;
 use clap::ArgMatches;
@@ -46,20 +47,20 @@ fn no_condition(alloc: Global, text: &str, kinds: &str) -> Result<String, AllocE
     )
 }
 
-/// The other conditions as they are written, or that one is none.
+/// The other conditions, or that one is none.
 pub fn conditions_of(
     alloc: Global,
     matches: &ArgMatches<'_>,
-) -> Result<Result<Vec<String>, String>, AllocError> {
+) -> Result<Result<Vec<ConditionText>, String>, AllocError> {
     let mut conditions = Vec::new(alloc);
     for text in matches.get_strs(UNTIL).unwrap_or_default() {
         if stale_of(text).is_some() {
             continue;
         }
-        if condition_of(alloc, text.as_bytes())?.is_none() {
-            return Ok(Err(no_condition(alloc, text, OF_A_RUN)?));
+        match ConditionText::new(alloc, text)? {
+            Some(condition) => conditions.push(condition)?,
+            None => return Ok(Err(no_condition(alloc, text, OF_A_RUN)?)),
         }
-        conditions.push(String::from_str(alloc, text)?)?;
     }
     Ok(Ok(conditions))
 }
@@ -108,11 +109,11 @@ fn no_outcome(alloc: Global, text: &str) -> Result<Option<String>, AllocError> {
     Ok(None)
 }
 
-/// The conditions that have to hold of an outcome as they are written, or what is wrong with one.
+/// The conditions that have to hold of an outcome, or what is wrong with one.
 pub fn outcome_conditions_of(
     alloc: Global,
     matches: &ArgMatches<'_>,
-) -> Result<Result<Vec<String>, String>, AllocError> {
+) -> Result<Result<Vec<ConditionText>, String>, AllocError> {
     for text in matches.get_strs(UNTIL).unwrap_or_default() {
         if let Some(why) = no_outcome(alloc, text)? {
             return Ok(Err(why));

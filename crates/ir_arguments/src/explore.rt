@@ -3,6 +3,7 @@
 ghost use Rattle.std.specs.Prelude.{◌≤◌, IfOk};
 
 use crate::asked::{Asked, Explored};
+use crate::condition_text::ConditionText;
 use crate::conditions::{hang_by, outcome_conditions_of};
 use crate::recording::{
     INPUT, OUTPUT, input_arg, output_arg, profile_arg, profile_in, random_arg, random_in,
@@ -130,7 +131,7 @@ pub struct UntilArguments {
     /// The file that the trace is written to.
     pub trace: String,
     /// The conditions, as they are written.
-    pub until: Vec<String>,
+    pub until: Vec<ConditionText>,
     /// Whether a run that hangs is looked for in place of an outcome; then there are no conditions.
     pub hang: bool,
     /// What the paths of the files of what threads print begin with, if they are asked for.
@@ -279,7 +280,7 @@ fn conditions_besides(
     alloc: Global,
     matches: &ArgMatches<'_>,
     hang: bool,
-) -> Result<Result<Vec<String>, String>, AllocError> {
+) -> Result<Result<Vec<ConditionText>, String>, AllocError> {
     if hang {
         return Ok(Ok(Vec::new(alloc)));
     }

@@ -1,6 +1,7 @@
 //! The arguments of `ir hunt`.
 
 use crate::asked::Asked;
+use crate::condition_text::ConditionText;
 use crate::conditions::{conditions_of, stale_by};
 use crate::recording::{RecordingOptions, options_of, with_options};
 use crate::seeds::{by_arg, seeds_by, way_by};
@@ -20,6 +21,8 @@ const MOST_JOBS: u64 = 64;
 
 const SECONDS: &str = "seconds";
 
+const SHRINK: &str = "shrink";
+
 // The most seconds that can be asked for.
 const MOST_SECONDS: u64 = 1_000_000;
 
@@ -31,6 +34,8 @@ TRACE is written, and the lines of `ir record` follow. LIST is for `ir record --
 nothing is written, and the exit status isn't 0. That proves nothing of other schedules. A+N is N seeds from A on.
 After the seconds of `--seconds` no further seeds are begun: then `none A..L` is of the seeds that were tried, and
 `stopped seconds` follows, if any are left.
+With --shrink the lines of `ir shrink` follow those of what was found, and TRACE is written again, of the run that it is shrunk to.
+`--seconds` then bounds both searches, each by itself.
 Threads change places only before an entry, and when a thread is done; with P 2 also before a leave. The ways to choose:
    walk    each thread that can continue has the same chance
    pct:D   the thread of the highest priority continues. Priorities are drawn; at D - 1 drawn places the thread that would continue
@@ -49,7 +54,8 @@ Numbers are decimal, or hexadecimal after 0x:
 CLOCK, RANDOM, FILE, P and PREFIX are those of `ir record` with LIST. Ctrl-C ends a hunt, and nothing is written.
 Exit status: 0 found, 1 a file that can't be read or written or is too long, 2 bad arguments, 3 a refused image, a guest with
 more threads or objects than P allows, or a COND about what the guest hasn't, 5 none was found, 6 none was found among the seeds
-that were followed, and some were left out because their runs have too many turns, or because the time was over.
+that were followed, and some were left out because their runs have too many turns, or because the time was over. With --shrink also what
+`ir shrink` ends with.
 ";
 
 /// What the help says of it, beside its arguments.
@@ -73,13 +79,15 @@ pub struct HuntArguments {
     /// How a seed chooses which thread goes on.
     pub way: Way,
     /// The conditions, as they are written, but for those on stale writes.
-    pub until: Vec<String>,
+    pub until: Vec<ConditionText>,
     /// Whether a stale write of the run has to rest on what was read, or none; `None` if nothing is asked of them.
     pub stale: Option<bool>,
     /// The most threads that hunt at once.
     pub jobs: usize,
     /// How many seconds the hunt may take; `None` if as many as it takes.
     pub seconds: Option<u32>,
+    /// Whether what is found is shrunk.
+    pub shrinks: bool,
     /// How the guest is recorded, by whatever order.
     pub options: RecordingOptions,
 }
@@ -121,6 +129,15 @@ fn seconds_arg<'a>(alloc: Global) -> Arg<'a> {
         )
 }
 
+fn shrink_arg<'a>(alloc: Global) -> Arg<'a> {
+    Arg::new(alloc, SHRINK)
+        .long(SHRINK)
+        .action(ArgAction::SetTrue)
+        .help(
+            "Then shrinks what was found, as `ir shrink` does: TRACE is of the run with fewer context switches",
+        )
+}
+
 /// The command with its arguments.
 pub fn with_arguments<'a>(alloc: Global, command: Command<'a>) -> Result<Command<'a>, AllocError> {
     let command = command
@@ -130,7 +147,8 @@ pub fn with_arguments<'a>(alloc: Global, command: Command<'a>) -> Result<Command
         .arg(until_arg(alloc))?
         .arg(by_arg(alloc))?
         .arg(jobs_arg(alloc))?
-        .arg(seconds_arg(alloc))?;
+        .arg(seconds_arg(alloc))?
+        .arg(shrink_arg(alloc))?;
     with_options(alloc, command)
 }
 
@@ -182,7 +200,7 @@ fn bounds_by(
 fn wanted_by(
     alloc: Global,
     matches: &ArgMatches<'_>,
-) -> Result<Result<(Vec<String>, Option<bool>), String>, AllocError> {
+) -> Result<Result<(Vec<ConditionText>, Option<bool>), String>, AllocError> {
     let until = match conditions_of(alloc, matches)? {
         Ok(until) => until,
         Err(why) => return Ok(Err(why)),
@@ -224,6 +242,7 @@ pub fn asked(alloc: Global, matches: &ArgMatches<'_>) -> Result<Asked, AllocErro
         stale,
         jobs,
         seconds,
+        shrinks: matches.get_flag(SHRINK),
         options,
     }))
 }

@@ -2,8 +2,8 @@
 
 use crate::asked::Asked;
 use crate::{
-    assemble, debug, diff, elf, events, explore, gdb, hunt, list, record, stale, trace, view, who,
-    why,
+    assemble, debug, diff, elf, events, explore, gdb, hunt, list, record, shrink, stale, trace,
+    view, who, why,
 };
 use clap::{ArgMatches, Command};
 use std::alloc::{AllocError, Global};
@@ -16,6 +16,7 @@ pub enum Subcommand {
     List,
     Record,
     Hunt,
+    Shrink,
     Explore,
     Debug,
     Gdb,
@@ -29,12 +30,13 @@ pub enum Subcommand {
 }
 
 /// The subcommands, in the order in which the help lists them.
-pub const SUBCOMMANDS: [Subcommand; 15] = [
+pub const SUBCOMMANDS: [Subcommand; 16] = [
     Subcommand::Assemble,
     Subcommand::Elf,
     Subcommand::List,
     Subcommand::Record,
     Subcommand::Hunt,
+    Subcommand::Shrink,
     Subcommand::Explore,
     Subcommand::Debug,
     Subcommand::Gdb,
@@ -64,6 +66,7 @@ impl Subcommand {
             Subcommand::List => list::row(),
             Subcommand::Record => record::row(),
             Subcommand::Hunt => hunt::row(),
+            Subcommand::Shrink => shrink::row(),
             Subcommand::Explore => explore::row(),
             Subcommand::Debug => debug::row(),
             Subcommand::Gdb => gdb::row(),
@@ -89,6 +92,7 @@ impl Subcommand {
             Subcommand::List => list::with_arguments(alloc, command),
             Subcommand::Record => record::with_arguments(alloc, command),
             Subcommand::Hunt => hunt::with_arguments(alloc, command),
+            Subcommand::Shrink => shrink::with_arguments(alloc, command),
             Subcommand::Explore => explore::with_arguments(alloc, command),
             Subcommand::Debug => debug::with_arguments(alloc, command),
             Subcommand::Gdb => gdb::with_arguments(alloc, command),
@@ -110,6 +114,7 @@ impl Subcommand {
             Subcommand::List => list::asked(alloc, matches),
             Subcommand::Record => record::asked(alloc, matches),
             Subcommand::Hunt => hunt::asked(alloc, matches),
+            Subcommand::Shrink => shrink::asked(alloc, matches),
             Subcommand::Explore => explore::asked(alloc, matches),
             Subcommand::Debug => debug::asked(alloc, matches),
             Subcommand::Gdb => gdb::asked(alloc, matches),

@@ -11,7 +11,7 @@ use ir_cut::{Cut, consistent};
 use ir_fit::{Fitted, coherent, fit};
 use ir_image::{Image, read_image};
 use ir_object::{Given, OpenGate};
-use ir_record::{record, record_in_order};
+use ir_record::{Limits, record, record_in_order};
 use ir_replay::{Pace, State, advance, advance_in_order};
 use ir_thread::{Ask, Profile, Reply, Thread};
 use ir_trace::{ThreadTrace, Trace, read_trace};
@@ -25,6 +25,12 @@ const BUDGET: u64 = 1_000_000_000;
 
 // The second one has all system calls.
 const PROFILE: Profile = Profile::Two;
+
+// What a recorded run may take.
+const LIMITS: Limits = Limits {
+    budget: BUDGET,
+    profile: PROFILE,
+};
 
 // Takes all steps, private ones many at a time or each one by itself.
 fn finish(thread: &mut Thread, image: &Image, one_by_one: bool) {
@@ -57,7 +63,7 @@ fn recorded<R: Threads + Wait + Sync>(
     ensure!(PROFILE.allows(image), "a guest that the profile allows");
     let worlds = quiet::worlds(alloc, image.entries().len())?;
     let recording = if by_threads {
-        record(rt, alloc, image, worlds, &OpenGate, BUDGET, PROFILE)
+        record(rt, alloc, image, worlds, &OpenGate, LIMITS)
     } else {
         record_in_order(alloc, image, &[], worlds, BUDGET, PROFILE)
     };

@@ -1,1 +1,4 @@
+mod Explored
 mod Listed
+mod Versions
+mod Written

@@ -1,2 +1,5 @@
+pub mod Conditions
+pub mod Exploring
 pub mod Files
 pub mod Listing
+pub mod Printing

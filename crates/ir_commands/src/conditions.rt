@@ -1,21 +1,24 @@
 //! Conditions that arguments give.
 
-ghost use Rattle.std.specs.Prelude.{◌≡◌, OnOk};
+ghost use Rattle.std.specs.Prelude.{◌≡◌, OnOk, IfOk};
+ghost use Rattle.ir_commands.specs.Conditions.{AreWritten};
 
 use crate::files::say;
+use ir_arguments::ConditionText;
 use ir_files::ExitStatus;
 use ir_record_command::ParsedImage;
-use ir_schedule::{Condition, condition_of};
+use ir_schedule::Condition;
 use ir_stream::Sink;
 use std::alloc::{AllocError, Global};
 
 // The conditions that these texts write.
-fn read_conditions(alloc: Global, texts: &[String]) -> Result<Vec<Condition<'_>>, AllocError> {
-    let mut conditions = Vec::with_capacity(alloc, texts.len())?;
+fn read_conditions(alloc: Global, texts: &[ConditionText]) -> Result<Vec<Condition<'_>>, AllocError>
+    ensures { IfOk result (λ conditions. AreWritten texts.now conditions.items) }
+{
+    let mut conditions = Vec::new(alloc);
     for text in texts {
-        if let Some(condition) = condition_of(alloc, text.as_bytes())? {
-            conditions.push(condition)?;
-        }
+        let condition = text.condition(alloc)?;
+        conditions.push(condition)?;
     }
     Ok(conditions)
 }
@@ -24,7 +27,7 @@ fn read_conditions(alloc: Global, texts: &[String]) -> Result<Vec<Condition<'_>>
 fn about_nothing<'a>(
     image: &ParsedImage<'_>,
     conditions: &[Condition<'_>],
-    texts: &'a [String],
+    texts: &'a [ConditionText],
 ) -> Option<&'a str> {
     let guest = image.guest()?;
     let place = conditions
@@ -38,9 +41,10 @@ pub fn conditions_of<'a, E: Sink>(
     alloc: Global,
     faults: &mut E,
     image: &ParsedImage<'_>,
-    texts: &'a [String],
+    texts: &'a [ConditionText],
 ) -> Result<Vec<Condition<'a>>, ExitStatus>
     ensures kept { OnOk result (faults.new ≡ faults.old) }
+    ensures read { IfOk result (λ conditions. AreWritten texts.now conditions.items) }
 {
     let Ok(conditions) = read_conditions(alloc, texts) else {
         say(faults, "memory ran out", "", "");
@@ -52,4 +56,16 @@ pub fn conditions_of<'a, E: Sink>(
         return Err(ExitStatus::Refused);
     }
     Ok(conditions)
+}
+
+/// Copies of the texts.
+///
+/// # Errors
+/// Out of memory.
+pub fn copied_texts(alloc: Global, texts: &[ConditionText]) -> Result<Vec<String>, AllocError> {
+    let mut copies = Vec::new(alloc);
+    for text in texts {
+        copies.push(String::from_str(alloc, text.as_str())?)?;
+    }
+    Ok(copies)
 }

@@ -1,6 +1,11 @@
 //! `ir events`: the events of a recorded run are printed with their places.
 
-ghost use Rattle.std.specs.Prelude.{◌≡◌, false};
+ghost use Rattle.std.specs.Prelude.{◌≡◌, ◌⊎◌, false};
+ghost use Rattle.ir_files.specs.Writers.{writer_of};
+ghost use Rattle.ir_files.specs.declared.exit_status.ExitStatus.TheVariants as status;
+ghost use Rattle.ir_opened.specs.Answers.{IsFitAnswerOf};
+ghost use Rattle.ir_listing.specs.Events.{AreEventLines};
+ghost use Rattle.ir_commands.specs.Printing.{Printed, PrintsEvents, IsStatusOfNoImage, LeavesUnread};
 
 use crate::explaining::explain_files;
 use crate::files::{bytes_of, image_of_file};
@@ -9,7 +14,28 @@ use ir_arguments::EventsArguments;
 use ir_files::{ExitStatus, Folder, MOST_FILE_BYTES};
 use ir_listing::events_run;
 use ir_stream::Sink;
+use ir_symbols::SymbolTable;
 use std::alloc::Global;
+
+// Prints the events of a run of the image.
+fn of_run<O: Sink, E: Sink>(
+    alloc: Global,
+    image: &[u8],
+    trace: &[u8],
+    symbols: &SymbolTable,
+    out: &mut O,
+    faults: &mut E,
+) -> ExitStatus
+    requires writes { O.broken out.old ≡ false }
+    requires reports { E.broken faults.old ≡ false }
+    ensures prints { Printed (IsFitAnswerOf (AreEventLines symbols.now) image.now trace.now) result
+        (writer_of (O.written out.old) (O.written out.new) (O.broken out.new)) (writer_of (E.written faults.old) (E.written faults.new) (E.broken faults.new)) }
+    ensures quiet { result ≡ status.Done → faults.new ≡ faults.old }
+{
+    let status = events_run(alloc, image, trace, symbols, out, faults);
+    explain_files(alloc, image, trace, status, faults);
+    status
+}
 
 // Prints the events of the run in two files, with the names of a map or of an ELF file. It is reported why there is none.
 pub fn events_file<D: Folder, O: Sink, E: Sink>(
@@ -21,6 +47,11 @@ pub fn events_file<D: Folder, O: Sink, E: Sink>(
 ) -> ExitStatus
     requires writes { O.broken out.old ≡ false }
     requires reports { E.broken faults.old ≡ false }
+    ensures prints { PrintsEvents (D.bytes_at folder.now) arguments.now result
+        (writer_of (O.written out.old) (O.written out.new) (O.broken out.new)) (writer_of (E.written faults.old) (E.written faults.new) (E.broken faults.new))
+        ⊎ LeavesUnread (IsStatusOfNoImage (D.bytes_at folder.now) arguments.now.image arguments.now.map result) (out.new ≡ out.old)
+        (writer_of (E.written faults.old) (E.written faults.new) (E.broken faults.new)) }
+    ensures quiet { result ≡ status.Done → faults.new ≡ faults.old }
 {
     let path = arguments.image.as_str();
     let Some(file) = bytes_of(alloc, folder, faults, path, MOST_FILE_BYTES) else {
@@ -35,7 +66,7 @@ pub fn events_file<D: Folder, O: Sink, E: Sink>(
     ) else {
         return ExitStatus::Failed;
     };
-    let symbols = match names_in(alloc, folder, faults, &file, arguments.map.as_ref()) {
+    let symbols = match names_in(alloc, folder, faults, &file, &arguments.map) {
         Ok(symbols) => symbols,
         Err(status) => return status,
     };
@@ -43,8 +74,12 @@ pub fn events_file<D: Folder, O: Sink, E: Sink>(
         Ok(image) => image,
         Err(status) => return status,
     };
-    let (image, trace) = (image.as_slice(), trace.as_slice());
-    let status = events_run(alloc, image, trace, &symbols, out, faults);
-    explain_files(alloc, image, trace, status, faults);
-    status
+    of_run(
+        alloc,
+        image.as_slice(),
+        trace.as_slice(),
+        &symbols,
+        out,
+        faults,
+    )
 }

@@ -1,5 +1,8 @@
 //! Why files are refused, in words.
 
+ghost use Rattle.std.specs.Prelude.{◌≡◌, ◌≢◌};
+ghost use Rattle.ir_files.specs.declared.exit_status.ExitStatus.TheVariants as exit;
+
 use crate::files::say;
 use ir_files::ExitStatus;
 use ir_image::read_image;
@@ -42,7 +45,9 @@ fn explain_refusal<E: Sink>(alloc: Global, files: Files<'_>, faults: &mut E) {
 }
 
 // Says in words why a session opened nothing, if it didn't.
-fn explain<E: Sink>(alloc: Global, files: Files<'_>, status: ExitStatus, faults: &mut E) {
+fn explain<E: Sink>(alloc: Global, files: Files<'_>, status: ExitStatus, faults: &mut E)
+    ensures { status ≢ exit.Refused → status ≢ exit.NotFit → faults.new ≡ faults.old }
+{
     match status {
         ExitStatus::Refused => explain_refusal(alloc, files, faults),
         ExitStatus::NotFit => {
@@ -64,7 +69,9 @@ pub fn explain_trace<E: Sink>(
     trace: &[u8],
     status: ExitStatus,
     faults: &mut E,
-) {
+)
+    ensures { status ≢ exit.Refused → faults.new ≡ faults.old }
+{
     if status != ExitStatus::Refused {
         return;
     }
@@ -83,6 +90,8 @@ pub fn explain_files<E: Sink>(
     trace: &[u8],
     status: ExitStatus,
     faults: &mut E,
-) {
+)
+    ensures { status ≢ exit.Refused → status ≢ exit.NotFit → faults.new ≡ faults.old }
+{
     explain(alloc, Files { image, trace }, status, faults);
 }

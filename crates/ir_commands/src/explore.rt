@@ -1,6 +1,11 @@
 //! `ir explore`: the outcomes of a guest are printed.
 
-ghost use Rattle.std.specs.Prelude.{◌≡◌, false};
+ghost use Rattle.std.specs.Prelude.{◌≡◌, ◌⊎◌, false};
+ghost use Rattle.std.specs.String.{string_bytes};
+ghost use Rattle.ir_files.specs.Writers.{writer_of};
+ghost use Rattle.ir_commands.specs.Exploring.{Explores, IsPlanOf};
+ghost use Rattle.ir_commands.specs.Files.{IsStatusOfNone};
+ghost use Rattle.ir_commands.specs.Printing.{LeavesUnread};
 
 use crate::files::image_in;
 use crate::recording::input_of;
@@ -13,12 +18,7 @@ use ir_stream::Sink;
 
 // How a guest is explored, which reads these bytes.
 pub fn plan_of<'a>(arguments: &ExploreArguments, input: &'a [u8]) -> ExplorePlan<'a>
-    ensures states { result.bounds.nodes ≡ arguments.now.reach.states }
-    ensures private { result.bounds.private ≡ arguments.now.reach.private }
-    ensures switches { result.switches ≡ arguments.now.reach.switches }
-    ensures profile { result.profile ≡ arguments.now.profile }
-    ensures random { result.random ≡ arguments.now.random }
-    ensures input { result.input ≡ input.now }
+    ensures { IsPlanOf arguments.now input.now result }
 {
     let Reach {
         states,
@@ -51,13 +51,17 @@ where
     E: Sink,
     requires writes { O.broken out.old ≡ false }
     requires reports { E.broken faults.old ≡ false }
+    ensures prints { Explores (D.bytes_at around.now.folder.now) arguments.now result
+        (writer_of (O.written out.old) (O.written out.new) (O.broken out.new)) (writer_of (E.written faults.old) (E.written faults.new) (E.broken faults.new))
+        ⊎ LeavesUnread (IsStatusOfNone (D.bytes_at around.now.folder.now (string_bytes arguments.now.image)) result) (out.new ≡ out.old)
+        (writer_of (E.written faults.old) (E.written faults.new) (E.broken faults.new)) }
 {
     let (alloc, folder) = (around.rt.alloc(), around.folder);
     let image = match image_in(alloc, folder, faults, arguments.image.as_str()) {
         Ok(image) => image,
         Err(status) => return status,
     };
-    let Some(input) = input_of(alloc, folder, faults, arguments.input.as_ref()) else {
+    let Some(input) = input_of(alloc, folder, faults, &arguments.input) else {
         return ExitStatus::Failed;
     };
     let plan = plan_of(arguments, input.as_slice());

@@ -1,7 +1,9 @@
 //! Files that commands read, places that they write, and what is said of both.
 
-ghost use Rattle.std.specs.Prelude.{◌≡◌, OnSome, OnOk, IfSome, IfOk, IfErr, Ok, false};
-ghost use Rattle.ir_commands.specs.Files.{IsImageIn, IsFileIn, IsUnreadStatus};
+ghost use Rattle.std.specs.Prelude.{◌≡◌, ◌≢◌, ◌⊎◌, OnSome, OnOk, OnErr, IfSome, IfOk, IfErr, Ok, None, true, false};
+ghost use Rattle.ir_files.specs.Writers.{writer_of};
+ghost use Rattle.ir_files.specs.declared.exit_status.ExitStatus.TheVariants as exit;
+ghost use Rattle.ir_commands.specs.Files.{IsImageIn, IsFileIn, IsNoGuest, IsStatusOfNone, TellsFault};
 ghost use Rattle.ir_make.specs.Opening.{image_bytes};
 
 use ir_elf::ElfErr;
@@ -11,7 +13,10 @@ use ir_stream::Sink;
 use std::alloc::Global;
 
 // Reports what failed, or is wrong, and why, in one line; if faults can't be reported any more, nothing is.
-pub fn say<E: Sink>(faults: &mut E, name: &str, what: &str, why: &str) {
+pub fn say<E: Sink>(faults: &mut E, name: &str, what: &str, why: &str)
+    ensures told { E.broken faults.old ≡ false → TellsFault (writer_of (E.written faults.old) (E.written faults.new) (E.broken faults.new)) }
+    ensures kept { E.broken faults.old ≡ true → faults.new ≡ faults.old }
+{
     if !faults.failed() {
         tell_of(faults, "", name, what, why);
     }
@@ -27,6 +32,7 @@ pub fn bytes_of<D: Folder, E: Sink>(
 ) -> Option<Vec<u8>>
     ensures kept { OnSome result (faults.new ≡ faults.old) }
     ensures bytes { IfSome result (λ v. IsFileIn (D.bytes_at folder.now path.now) v.items) }
+    ensures told { result ≡ None → E.broken faults.old ≡ false → TellsFault (writer_of (E.written faults.old) (E.written faults.new) (E.broken faults.new)) }
 {
     match read_file(alloc, folder, path, most) {
         Ok(bytes) => Some(bytes),
@@ -50,7 +56,8 @@ pub fn image_of_file<E: Sink>(
 ) -> Result<Vec<u8>, ExitStatus>
     ensures kept { OnOk result (faults.new ≡ faults.old) }
     ensures bytes { IfOk result (λ v. image_bytes file.items ≡ Ok v.items) }
-    ensures status { IfErr result IsUnreadStatus }
+    ensures status { IfErr result (λ answered. (answered ≡ exit.Failed) ⊎ ((answered ≡ exit.Refused) × IsNoGuest file.items)) }
+    ensures told { OnErr result (E.broken faults.old ≡ false → TellsFault (writer_of (E.written faults.old) (E.written faults.new) (E.broken faults.new))) }
 {
     match image_bytes(alloc, file) {
         Ok(bytes) => Ok(bytes),
@@ -79,7 +86,8 @@ pub fn image_in<D: Folder, E: Sink>(
 ) -> Result<Vec<u8>, ExitStatus>
     ensures kept { OnOk result (faults.new ≡ faults.old) }
     ensures bytes { IfOk result (λ v. IsImageIn (D.bytes_at folder.now path.now) v.items) }
-    ensures status { IfErr result IsUnreadStatus }
+    ensures status { IfErr result (IsStatusOfNone (D.bytes_at folder.now path.now)) }
+    ensures told { OnErr result (E.broken faults.old ≡ false → TellsFault (writer_of (E.written faults.old) (E.written faults.new) (E.broken faults.new))) }
 {
     match bytes_of(alloc, folder, faults, path, MOST_FILE_BYTES) {
         Some(file) => image_of_file(alloc, faults, path, file),
@@ -94,7 +102,9 @@ pub fn explain_image<D: Folder, E: Sink>(
     path: &str,
     status: ExitStatus,
     faults: &mut E,
-) {
+)
+    ensures { status ≢ exit.Refused → faults.new ≡ faults.old }
+{
     if status != ExitStatus::Refused {
         return;
     }

@@ -2,15 +2,17 @@
 
 ghost use Rattle.std.specs.Prelude.{◌≡◌, false};
 
-use crate::conditions::conditions_of;
+use crate::conditions::{conditions_of, copied_texts};
 use crate::ends::recorded_status;
-use crate::files::image_in;
+use crate::files::{image_in, say};
 use crate::recording::{Places, RecordingPaths, beside_of, loses_input, record_files};
+use crate::shrink::{shrunk_into, shrunk_status};
 use crate::surroundings::Surroundings;
 use ir_arguments::HuntArguments;
 use ir_files::{ExitStatus, Folder};
 use ir_hunt::{HuntPlan, hunt_run};
-use ir_record_command::ParsedImage;
+use ir_record_command::{ParsedImage, RecordPlan};
+use ir_shrink::{GivenRun, ShrinkPlan, Shrunk};
 use ir_stream::Sink;
 use ir_trace::Trace;
 use std::thread::Threads;
@@ -21,7 +23,7 @@ fn paths(arguments: &HuntArguments) -> RecordingPaths<'_> {
     RecordingPaths {
         image: arguments.image.as_str(),
         trace: arguments.trace.as_str(),
-        input: arguments.options.input.as_ref(),
+        input: &arguments.options.input,
         list: None,
         output: arguments.options.output.as_ref(),
     }
@@ -49,14 +51,97 @@ where
     hunt_run(rt, image, plan, &mut files, out, faults)
 }
 
-// Hunts for a run of a guest, and records it into a file, and what its threads print into others where they are asked for.
-pub fn hunt_file<R, D, G, O, E>(
+// What is hunted, and what of it is written where.
+#[derive(Clone, Copy)]
+struct Hunted<'a, 'i> {
+    image: &'a ParsedImage<'i>,
+    plan: &'a HuntPlan<'a>,
+    arguments: &'a HuntArguments,
+}
+
+// Shrinks a run that was found, whose trace and outputs go into files at these paths, over what was found.
+fn shrunk<R, D, G, O, E>(
+    around: &Surroundings<'_, R, D, G>,
+    places: Places<'_, '_>,
+    hunted: Hunted<'_, '_>,
+    found: &Trace,
+    out: &mut O,
+    faults: &mut E,
+) -> Result<Shrunk, ExitStatus>
+where
+    R: Clock + AllocGlobal,
+    D: Folder,
+    O: Sink,
+    E: Sink,
+    requires writes { O.broken out.old ≡ false }
+    requires reports { E.broken faults.old ≡ false }
+{
+    let Hunted {
+        image,
+        plan,
+        arguments,
+    } = hunted;
+    let until = arguments.until.as_slice();
+    let Ok(texts) = copied_texts(around.rt.alloc(), until) else {
+        say(faults, "memory ran out", "", "");
+        return Err(ExitStatus::Failed);
+    };
+    let shrinking = ShrinkPlan {
+        record: RecordPlan {
+            order: None,
+            budget: plan.record.budget,
+            random: plan.record.random,
+            input: plan.record.input,
+            profile: plan.record.profile,
+        },
+        conditions: plan.conditions,
+        texts: texts.as_slice(),
+        stale: plan.stale,
+        seconds: plan.seconds,
+    };
+    let run = GivenRun {
+        image,
+        trace: found,
+    };
+    shrunk_into(around, places, &run, &shrinking, out, faults)
+}
+
+// The exit status of a hunt. What was found is shrunk, if that is asked for.
+fn ended<R, D, G, O, E>(
+    around: &Surroundings<'_, R, D, G>,
+    places: Places<'_, '_>,
+    hunted: Hunted<'_, '_>,
+    found: Result<Trace, ExitStatus>,
+    out: &mut O,
+    faults: &mut E,
+) -> ExitStatus
+where
+    R: Clock + AllocGlobal,
+    D: Folder,
+    O: Sink,
+    E: Sink,
+{
+    let alloc = around.rt.alloc();
+    let explains = hunted.plan.is_shown;
+    match found {
+        Ok(found) if hunted.arguments.shrinks && !out.failed() && !faults.failed() => {
+            match shrunk(around, places, hunted, &found, out, faults) {
+                Ok(shrunk) => shrunk_status(alloc, explains, &shrunk, faults),
+                Err(status) => status,
+            }
+        }
+        found => recorded_status(alloc, found, explains, faults),
+    }
+}
+
+// Hunts for a run of a guest; the exit status.
+fn hunted_by<R, D, G, O, E>(
     around: &Surroundings<'_, R, D, G>,
     arguments: &HuntArguments,
     explains: bool,
     out: &mut O,
     faults: &mut E,
-) -> ExitStatus
+) -> Result<ExitStatus, ExitStatus>
 where
     R: Threads + Sync + Clock + Eprint + AllocGlobal,
     D: Folder,
@@ -65,25 +150,15 @@ where
     requires writes { O.broken out.old ≡ false }
     requires reports { E.broken faults.old ≡ false }
 {
-    let folder = around.folder;
-    let alloc = around.rt.alloc();
+    let (alloc, folder) = (around.rt.alloc(), around.folder);
     let paths = paths(arguments);
     if loses_input(folder, faults, &paths) {
-        return ExitStatus::BadArguments;
+        return Err(ExitStatus::BadArguments);
     }
-    let image = match image_in(alloc, folder, faults, paths.image) {
-        Ok(image) => image,
-        Err(status) => return status,
-    };
+    let image = image_in(alloc, folder, faults, paths.image)?;
     let image = ParsedImage::new(alloc, image.as_slice());
-    let conditions = match conditions_of(alloc, faults, &image, arguments.until.as_slice()) {
-        Ok(conditions) => conditions,
-        Err(status) => return status,
-    };
-    let (outputs, input) = match beside_of(alloc, folder, faults, &paths, &image) {
-        Ok(beside) => beside,
-        Err(status) => return status,
-    };
+    let conditions = conditions_of(alloc, faults, &image, arguments.until.as_slice())?;
+    let (outputs, input) = beside_of(alloc, folder, faults, &paths, &image)?;
     let places = Places {
         trace: paths.trace,
         outputs: outputs.as_ref().map(|each| each.as_slice()),
@@ -99,5 +174,32 @@ where
         is_shown: explains,
     };
     let found = hunted_into(around, places, &image, &plan, out, faults);
-    recorded_status(alloc, found, explains, faults)
+    let hunted = Hunted {
+        image: &image,
+        plan: &plan,
+        arguments,
+    };
+    Ok(ended(around, places, hunted, found, out, faults))
+}
+
+// Hunts for a run of a guest, and records it into a file, and what its threads print into others where they are asked for. What was found is shrunk,
+// if that is asked for.
+pub fn hunt_file<R, D, G, O, E>(
+    around: &Surroundings<'_, R, D, G>,
+    arguments: &HuntArguments,
+    explains: bool,
+    out: &mut O,
+    faults: &mut E,
+) -> ExitStatus
+where
+    R: Threads + Sync + Clock + Eprint + AllocGlobal,
+    D: Folder,
+    O: Sink,
+    E: Sink,
+    requires writes { O.broken out.old ≡ false }
+    requires reports { E.broken faults.old ≡ false }
+{
+    match hunted_by(around, arguments, explains, out, faults) {
+        Ok(status) | Err(status) => status,
+    }
 }

@@ -1,6 +1,9 @@
 //! `ir list`: the code of an image is printed.
 
-ghost use Rattle.std.specs.Prelude.{◌≡◌, false};
+ghost use Rattle.std.specs.Prelude.{◌≡◌, ◌⊎◌, false};
+ghost use Rattle.ir_files.specs.Writers.{writer_of};
+ghost use Rattle.ir_files.specs.declared.exit_status.ExitStatus.TheVariants as status;
+ghost use Rattle.ir_commands.specs.Printing.{PrintsCode, IsStatusOfNoImage, LeavesUnread};
 
 use crate::files::{bytes_of, image_of_file};
 use crate::maps::names_in;
@@ -20,12 +23,17 @@ pub fn list_file<D: Folder, O: Sink, E: Sink>(
 ) -> ExitStatus
     requires writes { O.broken out.old ≡ false }
     requires reports { E.broken faults.old ≡ false }
+    ensures prints { PrintsCode (D.bytes_at folder.now) arguments.now result
+        (writer_of (O.written out.old) (O.written out.new) (O.broken out.new)) (writer_of (E.written faults.old) (E.written faults.new) (E.broken faults.new))
+        ⊎ LeavesUnread (IsStatusOfNoImage (D.bytes_at folder.now) arguments.now.image arguments.now.map result) (out.new ≡ out.old)
+        (writer_of (E.written faults.old) (E.written faults.new) (E.broken faults.new)) }
+    ensures quiet { result ≡ status.Done → faults.new ≡ faults.old }
 {
     let path = arguments.image.as_str();
     let Some(file) = bytes_of(alloc, folder, faults, path, MOST_FILE_BYTES) else {
         return ExitStatus::Failed;
     };
-    let symbols = match names_in(alloc, folder, faults, &file, arguments.map.as_ref()) {
+    let symbols = match names_in(alloc, folder, faults, &file, &arguments.map) {
         Ok(symbols) => symbols,
         Err(status) => return status,
     };

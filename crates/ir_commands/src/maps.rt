@@ -1,11 +1,14 @@
 //! Maps of names: those that are read, and the one of a source's labels.
 
-ghost use Rattle.std.specs.Prelude.{◌≡◌, [], OnOk, IfOk, false, if◌then◌else◌};
+ghost use Rattle.std.specs.Prelude.{◌≡◌, ◌⊎◌, [], OnOk, OnErr, IfOk, IfErr, false, if◌then◌else◌};
 ghost use Rattle.std.specs.List.{All};
 ghost use Rattle.ir_symbols.specs.Tables.{IsSortOf};
 ghost use Rattle.ir_elf_symbols.specs.Symbols.{elf_symbols};
 ghost use Rattle.ir_make.specs.Mapping.{IsNamed};
 ghost use Rattle.ir_make.specs.Opening.{is_elf};
+ghost use Rattle.ir_files.specs.Writers.{writer_of};
+ghost use Rattle.ir_files.specs.declared.exit_status.ExitStatus.TheVariants as exit;
+ghost use Rattle.ir_commands.specs.Files.{AreNames, IsStatusOfNoNames, map_status, TellsFault};
 
 use crate::files::{bytes_of, put_in_place, say};
 use ir_asm::Labels;
@@ -17,7 +20,10 @@ use ir_symbols::{MapErr, SymbolTable, read_map};
 use std::alloc::Global;
 
 // Says why a map isn't read; the status.
-fn refused<E: Sink>(alloc: Global, faults: &mut E, path: &str, why: MapErr) -> ExitStatus {
+fn refused<E: Sink>(alloc: Global, faults: &mut E, path: &str, why: MapErr) -> ExitStatus
+    ensures status { result ≡ map_status why }
+    ensures told { E.broken faults.old ≡ false → TellsFault (writer_of (E.written faults.old) (E.written faults.new) (E.broken faults.new)) }
+{
     let MapErr::Line(number) = why else {
         say(faults, "memory ran out", "", "");
         return ExitStatus::Failed;
@@ -33,6 +39,8 @@ fn refused<E: Sink>(alloc: Global, faults: &mut E, path: &str, why: MapErr) -> E
 fn own_names<E: Sink>(alloc: Global, faults: &mut E, file: &[u8]) -> Result<SymbolTable, ExitStatus>
     ensures kept { OnOk result (faults.new ≡ faults.old) }
     ensures symbols { IfOk result (λ table. IsSortOf (if is_elf file.now then elf_symbols file.now else []) table) }
+    ensures status { IfErr result (λ answered. answered ≡ exit.Failed) }
+    ensures told { OnErr result (E.broken faults.old ≡ false → TellsFault (writer_of (E.written faults.old) (E.written faults.new) (E.broken faults.new))) }
 {
     let symbols = if is_elf(file) {
         elf_symbols(alloc, file)
@@ -55,11 +63,14 @@ pub fn names_in<D: Folder, E: Sink>(
     folder: &D,
     faults: &mut E,
     file: &[u8],
-    path: Option<&String>,
+    map: &Option<String>,
 ) -> Result<SymbolTable, ExitStatus>
     ensures kept { OnOk result (faults.new ≡ faults.old) }
+    ensures names { IfOk result (λ table. AreNames (D.bytes_at folder.now) map.now file.now table) }
+    ensures status { IfErr result (IsStatusOfNoNames (D.bytes_at folder.now) map.now) }
+    ensures told { OnErr result (E.broken faults.old ≡ false → TellsFault (writer_of (E.written faults.old) (E.written faults.new) (E.broken faults.new))) }
 {
-    let Some(path) = path else {
+    let Some(path) = map else {
         return own_names(alloc, faults, file);
     };
     let path = path.as_str();

@@ -109,7 +109,7 @@ fn paths(arguments: &RecordArguments) -> RecordingPaths<'_> {
     RecordingPaths {
         image: arguments.image.as_str(),
         trace: arguments.trace.as_str(),
-        input: arguments.options.input.as_ref(),
+        input: &arguments.options.input,
         list: arguments.order_file.as_ref(),
         output: arguments.options.output.as_ref(),
     }

@@ -1,6 +1,9 @@
 //! What a recording reads and writes.
 
-ghost use Rattle.std.specs.Prelude.{◌≡◌, OnSome, OnOk, false};
+ghost use Rattle.std.specs.Prelude.{◌≡◌, OnSome, OnOk, IfSome, None, false};
+ghost use Rattle.ir_files.specs.Writers.{writer_of};
+ghost use Rattle.ir_commands.specs.Exploring.{IsInput};
+ghost use Rattle.ir_commands.specs.Files.{TellsFault};
 
 use crate::files::{bytes_of, is_lost, say};
 use ir_files::{ExitStatus, Folder, MOST_GUEST_INPUT, OutputFiles, WholeFile, output_paths};
@@ -16,7 +19,7 @@ pub struct RecordingPaths<'a> {
     /// The trace.
     pub trace: &'a str,
     /// The file that guests read, if there is one.
-    pub input: Option<&'a String>,
+    pub input: &'a Option<String>,
     /// The file with the list, if there is one.
     pub list: Option<&'a String>,
     /// What the paths of the files of what threads print begin with, if they are asked for.
@@ -57,9 +60,11 @@ pub fn input_of<D: Folder, E: Sink>(
     alloc: Global,
     folder: &D,
     faults: &mut E,
-    file: Option<&String>,
+    file: &Option<String>,
 ) -> Option<Vec<u8>>
     ensures kept { OnSome result (faults.new ≡ faults.old) }
+    ensures input { IfSome result (λ v. IsInput (D.bytes_at folder.now) file.now v.items) }
+    ensures told { result ≡ None → E.broken faults.old ≡ false → TellsFault (writer_of (E.written faults.old) (E.written faults.new) (E.broken faults.new)) }
 {
     match file {
         Some(path) => bytes_of(alloc, folder, faults, path.as_str(), MOST_GUEST_INPUT),
@@ -96,7 +101,7 @@ pub fn loses_input<D: Folder, E: Sink>(
     const OVER_LIST: &str = "TRACE would be written over LISTFILE";
     let trace = paths.trace;
     is_lost(folder, faults, OVER_IMAGE, paths.image, trace)
-        || loses_given(folder, faults, OVER_FILE, paths.input, trace)
+        || loses_given(folder, faults, OVER_FILE, paths.input.as_ref(), trace)
         || loses_given(folder, faults, OVER_LIST, paths.list, trace)
 }
 
@@ -128,7 +133,7 @@ fn loses_other<D: Folder, E: Sink>(
     const OVER_LIST: &str = "PREFIX.T would be written over LISTFILE";
     is_lost(folder, faults, OVER_IMAGE, paths.image, path)
         || is_lost(folder, faults, OVER_TRACE, paths.trace, path)
-        || loses_given(folder, faults, OVER_FILE, paths.input, path)
+        || loses_given(folder, faults, OVER_FILE, paths.input.as_ref(), path)
         || loses_given(folder, faults, OVER_LIST, paths.list, path)
 }
 

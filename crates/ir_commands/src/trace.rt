@@ -1,6 +1,9 @@
 //! `ir trace`: the trace in a file is printed.
 
-ghost use Rattle.std.specs.Prelude.{◌≡◌, false};
+ghost use Rattle.std.specs.Prelude.{◌≡◌, ◌⊎◌, false};
+ghost use Rattle.ir_files.specs.Writers.{writer_of};
+ghost use Rattle.ir_files.specs.declared.exit_status.ExitStatus.TheVariants as status;
+ghost use Rattle.ir_commands.specs.Printing.{PrintsTrace, LeavesUnread};
 
 use crate::explaining::{THE_TRACE, explain_trace};
 use crate::files::bytes_of;
@@ -20,6 +23,11 @@ pub fn trace_file<D: Folder, O: Sink, E: Sink>(
 ) -> ExitStatus
     requires writes { O.broken out.old ≡ false }
     requires reports { E.broken faults.old ≡ false }
+    ensures prints { PrintsTrace (D.bytes_at folder.now) arguments.now result
+        (writer_of (O.written out.old) (O.written out.new) (O.broken out.new)) (writer_of (E.written faults.old) (E.written faults.new) (E.broken faults.new))
+        ⊎ LeavesUnread (result ≡ status.Failed) (out.new ≡ out.old)
+        (writer_of (E.written faults.old) (E.written faults.new) (E.broken faults.new)) }
+    ensures quiet { result ≡ status.Done → faults.new ≡ faults.old }
 {
     let Some(bytes) = bytes_of(
         alloc,

@@ -22,7 +22,7 @@ fn paths(arguments: &UntilArguments) -> RecordingPaths<'_> {
     RecordingPaths {
         image: arguments.explore.image.as_str(),
         trace: arguments.trace.as_str(),
-        input: arguments.explore.input.as_ref(),
+        input: &arguments.explore.input,
         list: None,
         output: arguments.output.as_ref(),
     }

@@ -1,13 +1,17 @@
 //! `ir explore --within`: the outcomes of a guest that another guest doesn't have are printed; and `--only`: outcomes by classes.
 
-ghost use Rattle.std.specs.Prelude.{◌≡◌, false};
+ghost use Rattle.std.specs.Prelude.{◌≡◌, ◌≤◌, ℕ, IsSomeAnd, true, false};
+ghost use Rattle.std.specs.List.{Contains};
+ghost use Rattle.ir_image.specs.Guest.{object_count};
+ghost use Rattle.ir_within.specs.Plans.{aspects_of};
+ghost use Rattle.ir_commands.specs.Exploring.{LacksCounted, counted_asked};
 
 use crate::explore::plan_of;
 use crate::files::{image_in, say};
 use crate::recording::input_of;
 use crate::surroundings::Surroundings;
 use ir_arguments::{ClassesArguments, Counted, WithinArguments};
-use ir_explore::guest_of;
+use ir_explore::{ExplorePlan, guest_of};
 use ir_files::{ExitStatus, Folder};
 use ir_image::Image;
 use ir_record_command::ParsedImage;
@@ -17,7 +21,9 @@ use ir_within::{Aspects, ClassesPlan, WithinPlan, classes_run, within_run};
 use std::alloc::Global;
 
 // What counts of outcomes.
-fn aspects_of(counted: &Counted) -> Aspects<'_> {
+fn aspects_of(counted: &Counted) -> Aspects<'_>
+    ensures { aspects_of result ≡ counted_asked counted.now }
+{
     Aspects {
         outputs: counted.outputs,
         ends: counted.ends,
@@ -34,6 +40,7 @@ fn lacks_object<E: Sink>(
     faults: &mut E,
 ) -> bool
     ensures kept { result ≡ false → faults.new ≡ faults.old }
+    ensures lacks { result ≡ true → IsSomeAnd counted.now.objects (λ objects. (o : ℕ) × Contains objects.items o × (object_count guest.now ≤ o)) }
 {
     let Some(objects) = &counted.objects else {
         return false;
@@ -51,18 +58,19 @@ fn lacks_object<E: Sink>(
     true
 }
 
-// The same of one of the guests of a comparison, if it is one that can be explored.
-fn lacks_counted<W, E: Sink>(
+// The same of the guest of an image, if it can be explored.
+fn lacks_counted<E: Sink>(
     alloc: Global,
-    plan: &WithinPlan<'_, '_, '_, W>,
+    explore: &ExplorePlan<'_>,
     image: &ParsedImage<'_>,
     counted: &Counted,
     path: &str,
     faults: &mut E,
 ) -> bool
     ensures kept { result ≡ false → faults.new ≡ faults.old }
+    ensures lacks { result ≡ true → LacksCounted image.now counted.now }
 {
-    match guest_of(image, &plan.explore) {
+    match guest_of(image, explore) {
         Ok(guest) => lacks_object(alloc, guest, counted, path, faults),
         Err(_) => false,
     }
@@ -76,17 +84,13 @@ struct BothFiles {
 }
 
 // The images of two guests, as far as their bytes are any.
-#[derive(Drop)]
-struct BothImages<'i> {
-    image: ParsedImage<'i>,
-    other: ParsedImage<'i>,
-}
-
-fn both_images(alloc: Global, files: &BothFiles) -> BothImages<'_> {
-    BothImages {
-        image: ParsedImage::new(alloc, files.image.as_slice()),
-        other: ParsedImage::new(alloc, files.other.as_slice()),
-    }
+fn both_images(alloc: Global, files: &BothFiles) -> (ParsedImage<'_>, ParsedImage<'_>)
+    ensures { (result.0 ≡ files.now.image.items) × (result.1 ≡ files.now.other.items) }
+{
+    (
+        ParsedImage::new(alloc, files.image.as_slice()),
+        ParsedImage::new(alloc, files.other.as_slice()),
+    )
 }
 
 // Compares the outcomes of the guests in two files.
@@ -115,7 +119,7 @@ where
         Ok(other) => other,
         Err(status) => return status,
     };
-    let Some(input) = input_of(alloc, folder, faults, arguments.explore.input.as_ref()) else {
+    let Some(input) = input_of(alloc, folder, faults, &arguments.explore.input) else {
         return ExitStatus::Failed;
     };
     let files = BothFiles { image, other };
@@ -123,15 +127,15 @@ where
     let explore = plan_of(&arguments.explore, input.as_slice());
     let counted = &arguments.counted;
     let plan = WithinPlan {
-        image: &both.image,
-        other: &both.other,
+        image: &both.0,
+        other: &both.1,
         explore,
         aspects: aspects_of(counted),
         observer: around.gate,
     };
     let other_path = arguments.other.as_str();
-    if lacks_counted(alloc, &plan, &both.image, counted, path, faults)
-        || lacks_counted(alloc, &plan, &both.other, counted, other_path, faults)
+    if lacks_counted(alloc, &plan.explore, &both.0, counted, path, faults)
+        || lacks_counted(alloc, &plan.explore, &both.1, counted, other_path, faults)
     {
         return ExitStatus::BadArguments;
     }
@@ -160,16 +164,14 @@ where
         Ok(image) => image,
         Err(status) => return status,
     };
-    let Some(input) = input_of(alloc, folder, faults, arguments.explore.input.as_ref()) else {
+    let Some(input) = input_of(alloc, folder, faults, &arguments.explore.input) else {
         return ExitStatus::Failed;
     };
     let image = ParsedImage::new(alloc, image.as_slice());
     let explore = plan_of(&arguments.explore, input.as_slice());
     let counted = &arguments.counted;
-    if let Ok(guest) = guest_of(&image, &explore) {
-        if lacks_object(alloc, guest, counted, path, faults) {
-            return ExitStatus::BadArguments;
-        }
+    if lacks_counted(alloc, &explore, &image, counted, path, faults) {
+        return ExitStatus::BadArguments;
     }
     let plan = ClassesPlan {
         image: &image,

@@ -1,9 +1,8 @@
 -- A recording answers no call for the time where no run of the guest that counts does.
-use Rattle.std.proofs.Common.{◌≡◌, ◌≢◌, ◌⊎◌, ◌<◌, ◌≤◌, ℕ, zero, suc, Bool, true, false, List, [], ◌∷◌, length, map, get_or, inl, inr, refl, sym, ap, ◌∙◌, subst, arith, eq-eqb, ne_eqb}
+use Rattle.std.proofs.Common.{◌≡◌, ◌≢◌, ◌⊎◌, ℕ, zero, suc, Bool, true, false, List, [], ◌∷◌, map, inl, inr, refl, sym, ap, ◌∙◌, subst, eq-eqb, ne_eqb}
 use Rattle.std.specs.List.{AllByRecursion}
 use Rattle.std.proofs.lemmas.Bool.{cases_eq}
 use Rattle.ir_flat.specs.Flat.{start_flat, tables}
-use Rattle.ir_graph.specs.Hangs.{IsCounting}
 use Rattle.ir_graph.specs.Setup.{Setup, first_source}
 use Rattle.ir_graph.specs.Times.{HasTime, HasTimedRun}
 use Rattle.ir_graph.proofs.CallerLemmas.{first_source_no_ticks}

@@ -4,7 +4,7 @@ ghost use Rattle.std.specs.Prelude.{◌≡◌, ◌⊎◌, ◌++◌, ℕ, List, f
 ghost use Rattle.std.specs.Io.KnownBytes.{Appends};
 ghost use Rattle.ir_files.specs.Writers.{writer_of};
 ghost use Rattle.ir_state_store.specs.Nodes.{SourcedFlat};
-ghost use Rattle.ir_outcomes.specs.Exploring.{IsExploring};
+ghost use Rattle.ir_outcomes.specs.Exploring.{ExploringGoesOn, IsExploring};
 ghost use Rattle.ir_stream.specs.Answers.{AppendsPrefix};
 ghost use Rattle.ir_thread.specs.State.{IsAllowed};
 ghost use Rattle.ir_explore.specs.Printed.{HasPrinted, EndsEarly};
@@ -66,10 +66,7 @@ pub fn print_levels<W: Observer, O: Sink>(
     requires none { length exploring.old.list.outcomes.items ≡ 0 }
     requires started { objects_in started ≡ objects_of exploring.old.states.graph.setup.guest }
     requires works { O.broken out.old ≡ false }
-    ensures is { IsExploring exploring.new }
-    ensures setup { exploring.new.states.graph.setup ≡ exploring.old.states.graph.setup }
-    ensures bounds { exploring.new.states.graph.bounds ≡ exploring.old.states.graph.bounds }
-    ensures most { exploring.new.most ≡ exploring.old.most }
+    ensures kept { ExploringGoesOn exploring.old exploring.new }
     // Once all are gone over
     ensures over { OnOk result
         (exploring.new.stop ≡ None

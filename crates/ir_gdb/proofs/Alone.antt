@@ -1,7 +1,7 @@
 -- A thread that moves alone, and the command of a session that leads it there.
 use Rattle.std.proofs.Common.{◌≡◌, ◌<◌, ◌≤◌, ◌+◌, ◌-◌, ◌⊎◌, ◌∙◌, ℕ, zero, suc, min, Bool, true, false, List, [], ◌++◌, length, Option, Some}
 use Rattle.std.proofs.Common.{None, is_none, true≢false, inl, inr, refl, sym, ap, subst, arith}
-use Rattle.std.specs.Prelude.{nat_lt, option_map, if◌then◌else◌}
+use Rattle.std.specs.Prelude.{nat_lt, map, option_map, if◌then◌else◌}
 use Rattle.std.proofs.lemmas.Bool.{false_from_ne_true}
 use Rattle.std.proofs.lemmas.Bool.Decides.{nat_tests}
 use Rattle.ir_runs.specs.Run.{Step}
@@ -16,17 +16,18 @@ use Rattle.ir_hits.specs.Searching.{IsNextHit}
 use Rattle.ir_debug.specs.Machine.{stop_of}
 use Rattle.ir_packet.specs.declared.reply.Reason.{Reason}
 use Rattle.ir_packet.specs.declared.request.Motion.TheVariants as motion
-use Rattle.ir_gdb.specs.declared.point.Breakpoint.{Breakpoint}
+use Rattle.ir_gdb.specs.Guards.{Guarded, place_of, without_conditions}
 use Rattle.ir_gdb.specs.declared.point.Watched.{Watched}
 use Rattle.ir_gdb.specs.declared.stopped.Stopped.{Stopped}
-use Rattle.ir_gdb.specs.Points.{watch_points, break_points, points_upwards, points_downwards}
-use Rattle.ir_gdb.specs.Stub.{Stub}
-use Rattle.ir_gdb.specs.Stops.{stopped, position_of, watches_if, break_reason, watch_reason, WatchNext, StepsBy, after_step, StepsBackBy}
-use Rattle.ir_gdb.specs.Stops.{after_back, ContinuesBackBy, BackBy, StopsBelow, stop_above, end_above, stop_below, end_below}
+use Rattle.ir_gdb.specs.Points.{watch_points, break_points, points_upwards, points_downwards, watches_if}
+use Rattle.ir_gdb.specs.Stub.{Stub, IsStub}
+use Rattle.ir_gdb.specs.Stops.{stopped, position_of, break_reason, watch_reason, WatchNext, StepsBy, after_step, StepsBackBy, after_back}
+use Rattle.ir_gdb.specs.Stops.{ContinuesBackBy, BackBy, StopsBelow, stop_above, end_above, stop_below, end_below}
 use Rattle.ir_gdb.specs.Together.{Halt, Comes, MovesAlone}
 use Rattle.ir_gdb.specs.Over.{PassesHit, stepped_over, StepsOver, LeadsBy}
 use Rattle.ir_gdb.specs.Laws.{SessionGoes, LeadsLone, StaysWhereItIs}
 use Rattle.ir_gdb.proofs.Finding.{position_in, upwards_as_session, downwards_as_session}
+use Rattle.ir_gdb.proofs.Unguarded.{AreUnguarded, first_stop_is_first_hit}
 
 -- ---- where no watch is set
 
@@ -50,31 +51,31 @@ no_watch_is_next run s t p w why none (hit, next, is) =
 none_is_not_some : {k : ℕ} → ◌≡◌ {A = Option ℕ} None (Some k) → ⊥
 none_is_not_some same = true≢false (ap is_none same)
 
-pub stop_above_is_at_hit : (breaks : List Breakpoint) (h : Hit) → (stop_above [] breaks h).position ≡ h.position
+pub stop_above_is_at_hit : (breaks : List Guarded) (h : Hit) → (stop_above [] breaks h).position ≡ h.position
 stop_above_is_at_hit breaks h = by (nat_lt h.number 0)
     (false_from_ne_true (nat_lt h.number 0) (λ test. let less : h.number < 0 = grind (arith, nat_tests, test) in omega (arith, less)))
   where
-    by : (b : Bool) → b ≡ false → (if b then stopped (h.position - 1) (watch_reason [] h.number) else stopped h.position (break_reason breaks (h.number - 0))).position
+    by : (b : Bool) → b ≡ false → (if b then stopped (h.position - 1) (watch_reason [] h.number) else stopped h.position (break_reason breaks (place_of h.number - 0))).position
         ≡ h.position
     by true is = absurd (true≢false is)
     by false is = refl
 
-end_above_is_stop : (f : FittedTrace) (t : ℕ) (breaks : List Breakpoint) (hit other : Option Hit) → position_in hit ≡ position_in other
+end_above_is_stop : (f : FittedTrace) (t : ℕ) (breaks : List Guarded) (hit other : Option Hit) → position_in hit ≡ position_in other
     → (end_above [] breaks (last_of f t) hit).position ≡ stop_of f t Forwards other
 end_above_is_stop f t breaks None None same = refl
 end_above_is_stop f t breaks None (Some k) same = absurd (none_is_not_some same)
 end_above_is_stop f t breaks (Some h) None same = absurd (none_is_not_some (sym same))
 end_above_is_stop f t breaks (Some h) (Some k) same = stop_above_is_at_hit breaks h ∙ cc same
 
-pub stop_below_is_at_hit : (breaks : List Breakpoint) (h : Hit) → (stop_below [] breaks h).position ≡ h.position
-stop_below_is_at_hit breaks h = by (nat_lt h.number (length breaks))
+pub stop_below_is_at_hit : (breaks : List Guarded) (h : Hit) → (stop_below [] breaks h).position ≡ h.position
+stop_below_is_at_hit breaks h = by (nat_lt (place_of h.number) (length breaks))
   where
-    by : (b : Bool) → (if b then stopped h.position (break_reason breaks h.number) else stopped h.position (watch_reason [] (h.number - length breaks))).position
+    by : (b : Bool) → (if b then stopped h.position (break_reason breaks (place_of h.number)) else stopped h.position (watch_reason [] (h.number - length breaks))).position
         ≡ h.position
     by true = refl
     by false = refl
 
-end_below_is_stop : (f : FittedTrace) (t : ℕ) (breaks : List Breakpoint) (hit other : Option Hit) → position_in hit ≡ position_in other
+end_below_is_stop : (f : FittedTrace) (t : ℕ) (breaks : List Guarded) (hit other : Option Hit) → position_in hit ≡ position_in other
     → (end_below [] breaks hit).position ≡ stop_of f t Backwards other
 end_below_is_stop f t breaks None None same = refl
 end_below_is_stop f t breaks None (Some k) same = absurd (none_is_not_some same)
@@ -83,16 +84,17 @@ end_below_is_stop f t breaks (Some h) (Some k) same = stop_below_is_at_hit break
 
 -- ---- `c`
 
-pub continue_as_session : (run : List Step) (s : Stub) (t : ℕ) (h : Halt) → LeadsLone run s t motion.Continue h
+pub continue_as_session : (run : List Step) (s : Stub) (t : ℕ) (h : Halt) → IsStub s → AreUnguarded s.breaks → LeadsLone run s t motion.Continue h
     → (h.thread ≡ t) × SessionGoes run s t (command.Continue t Forwards) h.cut
-continue_as_session run s t h lone = by (subst (λ (b : Bool). LeadsBy b false run s t motion.Continue h) lone.free lone.leads)
+continue_as_session run s t h stub free lone = by (subst (λ (b : Bool). LeadsBy b false run s t motion.Continue h) lone.free lone.leads)
   where
     f : FittedTrace
     f = s.desk.fitted
 
     by : MovesAlone run s t motion.Continue h → (h.thread ≡ t) × SessionGoes run s t (command.Continue t Forwards) h.cut
     by (to, (hit, finds, ends), comes, is) =
-        let bare = subst (λ (ws : List Watched). IsFirstHit f run (points_upwards t ws s.breaks s.desk.points) t (position_of s t) hit) lone.watches finds in
+        let first = first_stop_is_first_hit run s t lone.watches free stub.few (position_of s t) hit finds in
+        let bare = subst (λ (ws : List Watched). IsFirstHit f run (points_upwards t ws s.breaks s.desk.points) t (position_of s t) hit) lone.watches first in
         let found = upwards_as_session run f s.breaks s.desk.points t (position_of s t) (s.desk.last_point + 1) hit bare in
         let at = ap (λ (x : Stopped). x.position) (ends ∙ ap (λ (ws : List Watched). end_above ws s.breaks (last_of f t) hit) lone.watches)
         ∙ end_above_is_stop f t s.breaks hit found.0 found.2 in
@@ -101,7 +103,7 @@ continue_as_session run s t h lone = by (subst (λ (b : Bool). LeadsBy b false r
 -- ---- `bc`
 
 stops_below_as_session : (run : List Step) (s : Stub) (t n : ℕ) (to : Stopped) → s.watches ≡ [] → n ≡ position_of s t → ContinuesBackBy run s t true n to
-    → (hit : Option Hit) × IsLastHit s.desk.fitted run (s.desk.points ++ break_points t (s.desk.last_point + 1) s.breaks) t (position_of s t) hit
+    → (hit : Option Hit) × IsLastHit s.desk.fitted run (s.desk.points ++ break_points t (s.desk.last_point + 1) (map without_conditions s.breaks)) t (position_of s t) hit
     × (to.position ≡ stop_of s.desk.fitted t Backwards hit)
 stops_below_as_session run s t zero to none here is = (None, λ j n low high. absurd (omega (arith, high, here)), ap (λ (x : Stopped). x.position) is)
 stops_below_as_session run s t (suc p) to none here (why, next, back) = by (subst (λ (w : Option Reason). BackBy run s t true (suc p) w to)
@@ -111,7 +113,7 @@ stops_below_as_session run s t (suc p) to none here (why, next, back) = by (subs
     f = s.desk.fitted
 
     by : StopsBelow run s t true to → (hit : Option Hit)
-        × IsLastHit s.desk.fitted run (s.desk.points ++ break_points t (s.desk.last_point + 1) s.breaks) t (position_of s t) hit
+        × IsLastHit s.desk.fitted run (s.desk.points ++ break_points t (s.desk.last_point + 1) (map without_conditions s.breaks)) t (position_of s t) hit
         × (to.position ≡ stop_of s.desk.fitted t Backwards hit)
     by (hit, finds, ends) =
         let bare = subst (λ (ws : List Watched). IsLastHit f run (points_downwards t ws s.breaks s.desk.points) t (position_of s t) hit) none finds in

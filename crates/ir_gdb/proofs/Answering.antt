@@ -10,11 +10,15 @@ use Rattle.ir_packet.specs.Packets.{packet_of}
 use Rattle.ir_packet.specs.Replies.{reply_text}
 use Rattle.ir_packet.specs.Requests.{request_of}
 use Rattle.ir_packet.specs.Stream.{TooLong}
+use Rattle.ir_packet.specs.declared.reply.Reply.{Reply}
 use Rattle.ir_packet.specs.declared.reply.Reply.TheVariants as reply
 use Rattle.ir_packet.specs.declared.request.Request.{Request}
+use Rattle.ir_gdb.specs.Guards.{Guarded}
+use Rattle.ir_gdb.specs.Setting.{break_setting, setting_reply, with_break}
 use Rattle.ir_gdb.specs.Stub.{Stub}
 use Rattle.ir_gdb.specs.Replies.{RepliesIfMemory, Lacks, RepliesTo}
-use Rattle.ir_gdb.specs.Connection.{Link, sent, sign, connection_answer_text, Responds, AnswersLine, RepliesToItem, AnswersRequest, AnswersPacket, AnswersNew, Sent, SentInPart}
+use Rattle.ir_gdb.specs.Connection.{Connecting, Link, sent, sign, connection_answer_text, Responds, AnswersLine, RepliesToItem}
+use Rattle.ir_gdb.specs.Connection.{AnswersRequest, AnswersPacket, AnswersNew, Sent, SentInPart, IsBreakSet, SetsBreak}
 
 pub on_ok_of_implied : {X E : Type 0} (r : Result X E) (P Q : Type 0) → (P → Q) → OnOk r P → OnOk r Q
 on_ok_of_implied (Ok x) P Q go p = go p
@@ -211,4 +215,32 @@ too_long_sign_in_part l w w1 first = record {
   text = sign l (codes "+") ++ packet_of (reply_text reply.Nothing);
   is = inl (sent l l.stub (packet_of []), too_long_empty_packet l (sent l l.stub (packet_of [])) refl);
   grown = appends_prefix_longer w w1 (sign l (codes "+")) (packet_of (reply_text reply.Nothing)) first;
+}
+
+-- ---- a breakpoint with conditions
+
+-- the value seen of what a function holds
+abbrev pub connecting_seen : {a b : Connecting} → a ≡ b → Connecting
+connecting_seen {a} {b} same = a
+
+pub break_set_by_parts : (l : Link) (b given : Guarded) (s : Stub) (r : Reply) → given ≡ b → r ≡ setting_reply (break_setting l.stub given.point)
+    → s ≡ with_break l.stub given → IsBreakSet l b r (record l { stub = s })
+break_set_by_parts l b given s r same is after = inl (
+  is ∙ ap (λ (x : Guarded). setting_reply (break_setting l.stub x.point)) same,
+  ap (λ (x : Stub). record l { stub = x }) (after ∙ ap (λ (x : Guarded). with_break l.stub x) same),
+)
+
+pub break_not_set_without_memory : (l : Link) (b : Guarded) → IsBreakSet l b reply.NoMemory l
+break_not_set_without_memory l b = inr (refl, refl)
+
+pub break_reply_sent : (l : Link) (b : Guarded) (r : Reply) (mid next : Link) (w w' : Option (List ℕ)) → IsBreakSet l b r mid
+    → next ≡ sent mid mid.stub (packet_of (reply_text r)) → Appends w w' (packet_of (reply_text r)) → Sent (SetsBreak l b) next w w'
+break_reply_sent l b r mid next w w' set after grown = record { text = packet_of (reply_text r); is = (r, mid, set, refl, after); grown = grown }
+
+pub break_reply_in_part : (l : Link) (b : Guarded) (r : Reply) (mid : Link) (w w' : Option (List ℕ)) → IsBreakSet l b r mid
+    → AppendsPrefix w w' (packet_of (reply_text r)) → SentInPart (SetsBreak l b) [] w w'
+break_reply_in_part l b r mid w w' set grown = record {
+  text = packet_of (reply_text r);
+  is = inl (sent mid mid.stub (packet_of (reply_text r)), (r, mid, set, refl, refl));
+  grown = grown;
 }

@@ -7,7 +7,7 @@ use Rattle.ir_stream.specs.Endings.{flow_after}
 use Rattle.ir_stream.specs.declared.serving.Flow.{Flow}
 use Rattle.ir_packet.specs.Packets.{packet_of}
 use Rattle.ir_packet.specs.Replies.{reply_text}
-use Rattle.ir_packet.specs.Requests.{request_of, console_line}
+use Rattle.ir_packet.specs.Requests.{request_of, console_line, break_conditions}
 use Rattle.ir_packet.specs.Reading.{item_found}
 use Rattle.ir_packet.specs.Stream.{Item}
 use Rattle.ir_packet.specs.Stream as stream
@@ -17,9 +17,11 @@ use Rattle.ir_packet.specs.declared.reply.Reply.TheVariants as reply
 use Rattle.ir_packet.specs.declared.request.Request.{Request}
 use Rattle.ir_packet.specs.declared.request.Request.TheVariants as request
 use Rattle.ir_debug.specs.Machine.{quits}
+use Rattle.ir_gdb.specs.Guards.{guarded}
+use Rattle.ir_gdb.specs.Replies.{breakpoint}
 use Rattle.ir_gdb.proofs.Answering.{sent_answer_to_packet, packet_answer_in_part}
 use Rattle.ir_gdb.specs.Connection.{Link, sent, resent, sign, unacknowledged, is_copy, is_packet, before_new_reply, before_reply_by}
-use Rattle.ir_gdb.specs.Connection.{before_reply, AnswersLine, RepliesToItem, AnswersRequest, AnswersPacket, AnswersNew, AnswersItem}
+use Rattle.ir_gdb.specs.Connection.{before_reply, AnswersLine, SetsBreak, RepliesToItem, AnswersRequest, AnswersPacket, AnswersNew, AnswersItem}
 use Rattle.ir_gdb.specs.Connection.{AnswersItemBy, ends_request, request_ends, item_ends, Sent, SentInPart}
 
 -- ---- requests
@@ -28,37 +30,39 @@ use Rattle.ir_gdb.specs.Connection.{AnswersItemBy, ends_request, request_ends, i
 abbrev pub IsReplied : Request → Type 0
 IsReplied asked = (l : Link) (payload text : List ℕ) (next : Link) → RepliesToItem l asked text next → AnswersRequest l payload asked text next
 
-is_replied_by_default : (asked : Request) → (asked ≡ request.Kill → ⊥) → (asked ≡ request.Console → ⊥) → (asked ≡ request.NoAcknowledgements → ⊥) → IsReplied asked
-is_replied_by_default request.Supported kill console quiet = λ l payload text next is. is
-is_replied_by_default request.NoAcknowledgements kill console quiet = absurd (quiet refl)
-is_replied_by_default request.Reason kill console quiet = λ l payload text next is. is
-is_replied_by_default (request.General who) kill console quiet = λ l payload text next is. is
-is_replied_by_default (request.Choose who) kill console quiet = λ l payload text next is. is
-is_replied_by_default (request.Alive id) kill console quiet = λ l payload text next is. is
-is_replied_by_default (request.Description from most) kill console quiet = λ l payload text next is. is
-is_replied_by_default (request.Threads from most) kill console quiet = λ l payload text next is. is
-is_replied_by_default request.Attached kill console quiet = λ l payload text next is. is
-is_replied_by_default request.Offsets kill console quiet = λ l payload text next is. is
-is_replied_by_default request.Symbols kill console quiet = λ l payload text next is. is
-is_replied_by_default request.Motions kill console quiet = λ l payload text next is. is
-is_replied_by_default request.Registers kill console quiet = λ l payload text next is. is
-is_replied_by_default (request.Register i) kill console quiet = λ l payload text next is. is
-is_replied_by_default (request.Memory a size) kill console quiet = λ l payload text next is. is
-is_replied_by_default request.Change kill console quiet = λ l payload text next is. is
-is_replied_by_default (request.SetBreak a hardware) kill console quiet = λ l payload text next is. is
-is_replied_by_default (request.ClearBreak a hardware) kill console quiet = λ l payload text next is. is
-is_replied_by_default (request.SetWatch a size) kill console quiet = λ l payload text next is. is
-is_replied_by_default (request.ClearWatch a size) kill console quiet = λ l payload text next is. is
-is_replied_by_default (request.Move motion who) kill console quiet = λ l payload text next is. is
-is_replied_by_default request.Console kill console quiet = absurd (console refl)
-is_replied_by_default request.Extended kill console quiet = λ l payload text next is. is
-is_replied_by_default request.Restart kill console quiet = λ l payload text next is. is
-is_replied_by_default (request.RestartAt i) kill console quiet = λ l payload text next is. is
-is_replied_by_default request.EndProcess kill console quiet = λ l payload text next is. is
-is_replied_by_default request.Detach kill console quiet = λ l payload text next is. is
-is_replied_by_default request.Kill kill console quiet = absurd (kill refl)
-is_replied_by_default request.Malformed kill console quiet = λ l payload text next is. is
-is_replied_by_default request.Unknown kill console quiet = λ l payload text next is. is
+is_replied_unless_listed : (asked : Request) → (asked ≡ request.Kill → ⊥) → (asked ≡ request.Console → ⊥) → (asked ≡ request.NoAcknowledgements → ⊥)
+    → ((a : ℕ) (hardware : Bool) → asked ≡ request.SetBreakIf a hardware → ⊥) → IsReplied asked
+is_replied_unless_listed request.Supported kill console quiet guarded = λ l payload text next is. is
+is_replied_unless_listed request.NoAcknowledgements kill console quiet guarded = absurd (quiet refl)
+is_replied_unless_listed request.Reason kill console quiet guarded = λ l payload text next is. is
+is_replied_unless_listed (request.General who) kill console quiet guarded = λ l payload text next is. is
+is_replied_unless_listed (request.Choose who) kill console quiet guarded = λ l payload text next is. is
+is_replied_unless_listed (request.Alive id) kill console quiet guarded = λ l payload text next is. is
+is_replied_unless_listed (request.Description from most) kill console quiet guarded = λ l payload text next is. is
+is_replied_unless_listed (request.Threads from most) kill console quiet guarded = λ l payload text next is. is
+is_replied_unless_listed request.Attached kill console quiet guarded = λ l payload text next is. is
+is_replied_unless_listed request.Offsets kill console quiet guarded = λ l payload text next is. is
+is_replied_unless_listed request.Symbols kill console quiet guarded = λ l payload text next is. is
+is_replied_unless_listed request.Motions kill console quiet guarded = λ l payload text next is. is
+is_replied_unless_listed request.Registers kill console quiet guarded = λ l payload text next is. is
+is_replied_unless_listed (request.Register i) kill console quiet guarded = λ l payload text next is. is
+is_replied_unless_listed (request.Memory a size) kill console quiet guarded = λ l payload text next is. is
+is_replied_unless_listed request.Change kill console quiet guarded = λ l payload text next is. is
+is_replied_unless_listed (request.SetBreak a hardware) kill console quiet guarded = λ l payload text next is. is
+is_replied_unless_listed (request.SetBreakIf a hardware) kill console quiet guarded = absurd (guarded a hardware refl)
+is_replied_unless_listed (request.ClearBreak a hardware) kill console quiet guarded = λ l payload text next is. is
+is_replied_unless_listed (request.SetWatch a size) kill console quiet guarded = λ l payload text next is. is
+is_replied_unless_listed (request.ClearWatch a size) kill console quiet guarded = λ l payload text next is. is
+is_replied_unless_listed (request.Move motion who) kill console quiet guarded = λ l payload text next is. is
+is_replied_unless_listed request.Console kill console quiet guarded = absurd (console refl)
+is_replied_unless_listed request.Extended kill console quiet guarded = λ l payload text next is. is
+is_replied_unless_listed request.Restart kill console quiet guarded = λ l payload text next is. is
+is_replied_unless_listed (request.RestartAt i) kill console quiet guarded = λ l payload text next is. is
+is_replied_unless_listed request.EndProcess kill console quiet guarded = λ l payload text next is. is
+is_replied_unless_listed request.Detach kill console quiet guarded = λ l payload text next is. is
+is_replied_unless_listed request.Kill kill console quiet guarded = absurd (kill refl)
+is_replied_unless_listed request.Malformed kill console quiet guarded = λ l payload text next is. is
+is_replied_unless_listed request.Unknown kill console quiet guarded = λ l payload text next is. is
 
 pub request_ends_none : (asked : Request) → (asked ≡ request.Kill → ⊥) → (asked ≡ request.Detach → ⊥) → ends_request asked ≡ false
 request_ends_none request.Supported kill detach = refl
@@ -78,6 +82,7 @@ request_ends_none (request.Register i) kill detach = refl
 request_ends_none (request.Memory a size) kill detach = refl
 request_ends_none request.Change kill detach = refl
 request_ends_none (request.SetBreak a hardware) kill detach = refl
+request_ends_none (request.SetBreakIf a hardware) kill detach = refl
 request_ends_none (request.ClearBreak a hardware) kill detach = refl
 request_ends_none (request.SetWatch a size) kill detach = refl
 request_ends_none (request.ClearWatch a size) kill detach = refl
@@ -104,12 +109,13 @@ module _ (l : Link) (payload : List ℕ) (asked : Request) (next : Link) (w w' :
   reply_part : IsReplied asked → SentInPart (RepliesToItem l asked) [] w w' → SentInPart (AnswersRequest l payload asked) [] w w'
   reply_part replies s = record { text = s.text; is = replied_is_answered l payload asked s.text replies s.is; grown = s.grown }
 
-  module _ (kill : asked ≡ request.Kill → ⊥) (console : asked ≡ request.Console → ⊥) (quiet : asked ≡ request.NoAcknowledgements → ⊥) where
+  module _ (kill : asked ≡ request.Kill → ⊥) (console : asked ≡ request.Console → ⊥) (quiet : asked ≡ request.NoAcknowledgements → ⊥)
+      (guarded : (a : ℕ) (hardware : Bool) → asked ≡ request.SetBreakIf a hardware → ⊥) where
     pub replied_sent : Sent (RepliesToItem l asked) next w w' → Sent (AnswersRequest l payload asked) next w w'
-    replied_sent = reply_sent (is_replied_by_default asked kill console quiet)
+    replied_sent = reply_sent (is_replied_unless_listed asked kill console quiet guarded)
 
     pub replied_part : SentInPart (RepliesToItem l asked) [] w w' → SentInPart (AnswersRequest l payload asked) [] w w'
-    replied_part = reply_part (is_replied_by_default asked kill console quiet)
+    replied_part = reply_part (is_replied_unless_listed asked kill console quiet guarded)
 
   pub detach_sent : asked ≡ request.Detach → Sent (RepliesToItem l asked) next w w' → Sent (AnswersRequest l payload asked) next w w'
   detach_sent is = reply_sent (subst IsReplied (sym is) (λ l payload text next a. a))
@@ -125,6 +131,16 @@ module _ (l : Link) (payload : List ℕ) (asked : Request) (next : Link) (w w' :
   pub console_part : asked ≡ request.Console → SentInPart (AnswersLine (quits (console_line payload)) l (console_line payload)) [] w w'
       → SentInPart (AnswersRequest l payload asked) [] w w'
   console_part is s = subst (λ (r : Request). SentInPart (AnswersRequest l payload r) [] w w') (sym is)
+      (record { text = s.text; is = s.is; grown = s.grown })
+
+  pub guarded_sent : (a : ℕ) (hardware : Bool) → asked ≡ request.SetBreakIf a hardware
+      → Sent (SetsBreak l (guarded (breakpoint a hardware) (break_conditions payload))) next w w' → Sent (AnswersRequest l payload asked) next w w'
+  guarded_sent a hardware is s = subst (λ (r : Request). Sent (AnswersRequest l payload r) next w w') (sym is)
+      (record { text = s.text; is = s.is; grown = s.grown })
+
+  pub guarded_part : (a : ℕ) (hardware : Bool) → asked ≡ request.SetBreakIf a hardware
+      → SentInPart (SetsBreak l (guarded (breakpoint a hardware) (break_conditions payload))) [] w w' → SentInPart (AnswersRequest l payload asked) [] w w'
+  guarded_part a hardware is s = subst (λ (r : Request). SentInPart (AnswersRequest l payload r) [] w w') (sym is)
       (record { text = s.text; is = s.is; grown = s.grown })
 
   pub quiet_sent : asked ≡ request.NoAcknowledgements → next ≡ unacknowledged (sent l l.stub (packet_of (reply_text reply.Done)))

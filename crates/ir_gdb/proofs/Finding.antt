@@ -1,6 +1,6 @@
 -- Where a thread stops does not depend on the numbers and the order of the points that hit it.
 use Rattle.std.proofs.Common.{◌≡◌, ◌<◌, ◌+◌, ◌⊎◌, ◌∙◌, ℕ, zero, suc, Bool, true, false, true≢false, List, [], ◌∷◌, ◌++◌, length, Option, Some, None, append-nil, inl, inr, refl, sym, ap, subst, arith}
-use Rattle.std.specs.Prelude.{option_map}
+use Rattle.std.specs.Prelude.{map, option_map}
 use Rattle.std.proofs.lemmas.Bool.{cases_eq, cases_lt}
 use Rattle.ir_mach.specs.Execution.{memory_word}
 use Rattle.ir_runs.specs.declared.access.Access.TheVariants.{Reading, Writing}
@@ -15,7 +15,7 @@ use Rattle.ir_command.specs.declared.command.Direction.{Direction}
 use Rattle.ir_command.specs.declared.command.Direction.TheVariants.{Forwards, Backwards}
 use Rattle.ir_command.specs.declared.hit.Hit.{Hit}
 use Rattle.ir_hits.specs.Hits.{Numbered, objects_start, puts_at, ChangesWord, PutsWord, HitBy, HitByNumber, IsLowest, NoneWithin, IsFirstHit, IsLastHit, Finds}
-use Rattle.ir_gdb.specs.declared.point.Breakpoint.{Breakpoint}
+use Rattle.ir_gdb.specs.Guards.{Guarded, without_conditions}
 use Rattle.ir_gdb.specs.Points.{watch_points, break_points, own_points, points_upwards, points_downwards}
 
 -- ---- whether a point hits
@@ -141,15 +141,15 @@ hit_by_or_not f run t (suc j) (WatchObject object) = elim (leave_emitted_or_not 
 
 -- ---- the lowest number of those that hit
 
-first_point_hits : (f : FittedTrace) (run : List Step) (p : Numbered) (ps : List Numbered) (t k : ℕ) → HitBy f run t k p.point
+pub first_point_hits : (f : FittedTrace) (run : List Step) (p : Numbered) (ps : List Numbered) (t k : ℕ) → HitBy f run t k p.point
     → HitByNumber f run (p ∷ ps) t k p.number
 first_point_hits f run p ps t k hits = (0, p, refl, refl, hits)
 
-later_point_hits : (f : FittedTrace) (run : List Step) (p : Numbered) (ps : List Numbered) (t k n : ℕ) → HitByNumber f run ps t k n
+pub later_point_hits : (f : FittedTrace) (run : List Step) (p : Numbered) (ps : List Numbered) (t k n : ℕ) → HitByNumber f run ps t k n
     → HitByNumber f run (p ∷ ps) t k n
 later_point_hits f run p ps t k n h = (suc h.0, h.1, h.2, h.3, h.4)
 
-first_or_later_hits : (f : FittedTrace) (run : List Step) (p : Numbered) (ps : List Numbered) (t k n : ℕ) → HitByNumber f run (p ∷ ps) t k n
+pub first_or_later_hits : (f : FittedTrace) (run : List Step) (p : Numbered) (ps : List Numbered) (t k n : ℕ) → HitByNumber f run (p ∷ ps) t k n
     → ((p.number ≡ n) × HitBy f run t k p.point) ⊎ HitByNumber f run ps t k n
 first_or_later_hits f run p ps t k n (zero, q, at, number, hits) =
     let same : p ≡ q = cc at in inl (ap (λ (x : Numbered). x.number) same ∙ number, subst (λ (x : Numbered). HitBy f run t k x.point) (sym same) hits)
@@ -282,12 +282,19 @@ some_hits_append_right : (f : FittedTrace) (run : List Step) (t k : ℕ) (ps qs 
 some_hits_append_right f run t k [] qs some = some
 some_hits_append_right f run t k (p ∷ ps) qs some = inr (some_hits_append_right f run t k ps qs some)
 
-breaks_hit_renumbered : (f : FittedTrace) (run : List Step) (t k a b : ℕ) (bs : List Breakpoint) → SomeHits f run t k (break_points t a bs)
-    → SomeHits f run t k (break_points t b bs)
+session_breaks_hit_as_gdbs : (f : FittedTrace) (run : List Step) (t k a b : ℕ) (bs : List Guarded) → SomeHits f run t k (break_points t a bs)
+    → SomeHits f run t k (break_points t b (map without_conditions bs))
 unfolding break_points
-breaks_hit_renumbered f run t k a b [] some = some
-breaks_hit_renumbered f run t k a b (x ∷ xs) (inl first) = inl first
-breaks_hit_renumbered f run t k a b (x ∷ xs) (inr later) = inr (breaks_hit_renumbered f run t k (a + 1) (b + 1) xs later)
+session_breaks_hit_as_gdbs f run t k a b [] some = some
+session_breaks_hit_as_gdbs f run t k a b (x ∷ xs) (inl first) = inl first
+session_breaks_hit_as_gdbs f run t k a b (x ∷ xs) (inr later) = inr (session_breaks_hit_as_gdbs f run t k (a + 1) (b + 1) xs later)
+
+gdbs_breaks_hit_as_session : (f : FittedTrace) (run : List Step) (t k a b : ℕ) (bs : List Guarded)
+    → SomeHits f run t k (break_points t b (map without_conditions bs)) → SomeHits f run t k (break_points t a bs)
+unfolding break_points
+gdbs_breaks_hit_as_session f run t k a b [] some = some
+gdbs_breaks_hit_as_session f run t k a b (x ∷ xs) (inl first) = inl first
+gdbs_breaks_hit_as_session f run t k a b (x ∷ xs) (inr later) = inr (gdbs_breaks_hit_as_session f run t k (a + 1) (b + 1) xs later)
 
 own_hit_by_session : (f : FittedTrace) (run : List Step) (t k n : ℕ) (ps : List Numbered) → SomeHits f run t k ps → SomeHits f run t k (own_points n ps)
 unfolding own_points
@@ -302,45 +309,46 @@ session_hit_by_own f run t k n (p ∷ ps) (inl first) = inl first
 session_hit_by_own f run t k n (p ∷ ps) (inr later) = inr (session_hit_by_own f run t k n ps later)
 
 -- breakpoints and a session's points hit in either order, under any numbers
-breaks_hit_as_session : (f : FittedTrace) (run : List Step) (t a b c : ℕ) (bs : List Breakpoint) (ps : List Numbered)
-    → HitsAlso f run t (break_points t a bs ++ own_points b ps) (ps ++ break_points t c bs)
-breaks_hit_as_session f run t a b c bs ps k h = hit_if_some_point_hits f run t k (ps ++ break_points t c bs)
+breaks_hit_as_session : (f : FittedTrace) (run : List Step) (t a b c : ℕ) (bs : List Guarded) (ps : List Numbered)
+    → HitsAlso f run t (break_points t a bs ++ own_points b ps) (ps ++ break_points t c (map without_conditions bs))
+breaks_hit_as_session f run t a b c bs ps k h = hit_if_some_point_hits f run t k (ps ++ break_points t c (map without_conditions bs))
     (elim (append_hits_cases f run t k (break_points t a bs) (own_points b ps) (some_hits_if_hit_by_number f run t k h.0 (break_points t a bs ++ own_points b ps) h.1)) [
-      | inl breaks ↦ some_hits_append_right f run t k ps (break_points t c bs) (breaks_hit_renumbered f run t k a c bs breaks)
-      | inr own ↦ some_hits_append_left f run t k ps (break_points t c bs) (session_hit_by_own f run t k b ps own)
+      | inl breaks ↦ some_hits_append_right f run t k ps (break_points t c (map without_conditions bs)) (session_breaks_hit_as_gdbs f run t k a c bs breaks)
+      | inr own ↦ some_hits_append_left f run t k ps (break_points t c (map without_conditions bs)) (session_hit_by_own f run t k b ps own)
     ])
 
-session_hits_as_breaks : (f : FittedTrace) (run : List Step) (t a b c : ℕ) (bs : List Breakpoint) (ps : List Numbered)
-    → HitsAlso f run t (ps ++ break_points t c bs) (break_points t a bs ++ own_points b ps)
+session_hits_as_breaks : (f : FittedTrace) (run : List Step) (t a b c : ℕ) (bs : List Guarded) (ps : List Numbered)
+    → HitsAlso f run t (ps ++ break_points t c (map without_conditions bs)) (break_points t a bs ++ own_points b ps)
 session_hits_as_breaks f run t a b c bs ps k h = hit_if_some_point_hits f run t k (break_points t a bs ++ own_points b ps)
-    (elim (append_hits_cases f run t k ps (break_points t c bs) (some_hits_if_hit_by_number f run t k h.0 (ps ++ break_points t c bs) h.1)) [
+    (elim (append_hits_cases f run t k ps (break_points t c (map without_conditions bs))
+    (some_hits_if_hit_by_number f run t k h.0 (ps ++ break_points t c (map without_conditions bs)) h.1)) [
       | inl own ↦ some_hits_append_right f run t k (break_points t a bs) (own_points b ps) (own_hit_by_session f run t k b ps own)
-      | inr breaks ↦ some_hits_append_left f run t k (break_points t a bs) (own_points b ps) (breaks_hit_renumbered f run t k c a bs breaks)
+      | inr breaks ↦ some_hits_append_left f run t k (break_points t a bs) (own_points b ps) (gdbs_breaks_hit_as_session f run t k a c bs breaks)
     ])
 
 -- gdb's points of thread t without watches, and those of the session, find a stop at the same position
-pub upwards_as_session : (run : List Step) (f : FittedTrace) (bs : List Breakpoint) (own : List Numbered) (t from number : ℕ) (hit : Option Hit)
+pub upwards_as_session : (run : List Step) (f : FittedTrace) (bs : List Guarded) (own : List Numbered) (t from number : ℕ) (hit : Option Hit)
     → IsFirstHit f run (points_upwards t [] bs own) t from hit
-    → (other : Option Hit) × IsFirstHit f run (own ++ break_points t number bs) t from other × (position_in hit ≡ position_in other)
+    → (other : Option Hit) × IsFirstHit f run (own ++ break_points t number (map without_conditions bs)) t from other × (position_in hit ≡ position_in other)
 unfolding watch_points
 upwards_as_session run f bs own t from number hit finds =
-    same_hits_found run f (points_upwards t [] bs own) (own ++ break_points t number bs) t from Forwards hit
+    same_hits_found run f (points_upwards t [] bs own) (own ++ break_points t number (map without_conditions bs)) t from Forwards hit
     (breaks_hit_as_session f run t 0 (0 + length bs) number bs own) (session_hits_as_breaks f run t 0 (0 + length bs) number bs own) finds
 
 no_watch_points : (t n : ℕ) → watch_points t n [] ≡ []
 unfolding watch_points
 no_watch_points t n = refl
 
-downwards_no_watches : (t : ℕ) (bs : List Breakpoint) (own : List Numbered)
+downwards_no_watches : (t : ℕ) (bs : List Guarded) (own : List Numbered)
     → points_downwards t [] bs own ≡ break_points t 0 bs ++ own_points (length bs + 0) own
 downwards_no_watches t bs own =
     ap (λ (ws : List Numbered). break_points t 0 bs ++ ws ++ own_points (length bs + 0) own) (no_watch_points t (length bs))
     ∙ ap (λ (xs : List Numbered). xs ++ own_points (length bs + 0) own) (append-nil (break_points t 0 bs))
 
-pub downwards_as_session : (run : List Step) (f : FittedTrace) (bs : List Breakpoint) (own : List Numbered) (t from number : ℕ) (hit : Option Hit)
+pub downwards_as_session : (run : List Step) (f : FittedTrace) (bs : List Guarded) (own : List Numbered) (t from number : ℕ) (hit : Option Hit)
     → IsLastHit f run (points_downwards t [] bs own) t from hit
-    → (other : Option Hit) × IsLastHit f run (own ++ break_points t number bs) t from other × (position_in hit ≡ position_in other)
+    → (other : Option Hit) × IsLastHit f run (own ++ break_points t number (map without_conditions bs)) t from other × (position_in hit ≡ position_in other)
 downwards_as_session run f bs own t from number hit finds =
-    same_hits_found run f (break_points t 0 bs ++ own_points (length bs + 0) own) (own ++ break_points t number bs) t from Backwards hit
+    same_hits_found run f (break_points t 0 bs ++ own_points (length bs + 0) own) (own ++ break_points t number (map without_conditions bs)) t from Backwards hit
     (breaks_hit_as_session f run t 0 (length bs + 0) number bs own) (session_hits_as_breaks f run t 0 (length bs + 0) number bs own)
     (subst (λ (points : List Numbered). IsLastHit f run points t from hit) (downwards_no_watches t bs own) finds)

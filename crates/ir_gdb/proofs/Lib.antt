@@ -31,3 +31,11 @@ mod Blocked
 mod Unpassed
 mod ShownOnce
 mod Untold
+mod Unguarded
+mod Farther
+mod HitBreaks
+mod InSight
+mod MetPlaces
+mod Deciding
+mod Nexts
+mod Lasts

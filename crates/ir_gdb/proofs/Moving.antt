@@ -21,13 +21,14 @@ use Rattle.ir_gdb.specs.Together.{IsNotMet, FirstMet, first_met, halt_or, MetBy,
 use Rattle.ir_gdb.specs.Together.{ContinuesAmong, MovesAlone}
 use Rattle.ir_gdb.specs.Moves.{all_at_stop, after_told, interrupted_at, told_text, Moves, MovesBy}
 use Rattle.ir_gdb.specs.Replies.{RepliesToMove}
+use Rattle.ir_gdb.proofs.Nexts.{first_upward_stop_from_spoken}
 use Rattle.ir_gdb.proofs.Together.{below_next_cases, holds_below_except_one}
 
 -- ---- of a stub that has spoken
 
 stops_from_spoken : (d : Direction) (run : List Step) (s : Stub) (t : ℕ) (w : Bool) (to : Stopped) → StopsInDirection d run (stub_spoken s) t w to → StopsInDirection d run s t w to
-stops_from_spoken Forwards run s t true to goes = goes
-stops_from_spoken Forwards run s t false to goes = goes
+stops_from_spoken Forwards run s t true to goes = (goes.0, first_upward_stop_from_spoken run s t true goes.0 goes.1, goes.2)
+stops_from_spoken Forwards run s t false to goes = (goes.0, first_upward_stop_from_spoken run s t false goes.0 goes.1, goes.2)
 stops_from_spoken Backwards run s t true to goes = goes
 stops_from_spoken Backwards run s t false to goes = goes
 

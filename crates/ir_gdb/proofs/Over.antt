@@ -1,5 +1,5 @@
 -- A step of one thread alone: facts found of a stub that has spoken, said of the one before.
-use Rattle.std.proofs.Common.{◌≡◌, ◌≢◌, ◌≤◌, ◌<◌, ◌+◌, ◌∙◌, ℕ, Bool, true, false, List, [], ◌++◌, Option, Some, None, is_some, refl, sym, ap, subst, arith}
+use Rattle.std.proofs.Common.{◌≡◌, ◌≢◌, ◌≤◌, ◌<◌, ◌+◌, ◌∙◌, ℕ, Bool, true, false, List, ◌++◌, Option, Some, None, is_some, refl, sym, ap, subst, arith}
 use Rattle.ir_fit.specs.Fit.{FittedTrace, HasRun}
 use Rattle.ir_runs.specs.Run.{Step}
 use Rattle.ir_cut.specs.Positions.{EachRun, cut_of, threads_of, last_of, thread_at}
@@ -10,7 +10,7 @@ use Rattle.ir_hits.specs.Searching.{IsNextHit}
 use Rattle.ir_timeline.specs.Hand.{IsCutOf}
 use Rattle.ir_packet.specs.declared.request.Motion.{Motion}
 use Rattle.ir_packet.specs.declared.request.Motion.TheVariants as motion
-use Rattle.ir_gdb.specs.declared.point.Breakpoint.{Breakpoint}
+use Rattle.ir_gdb.specs.Guards.{Guarded}
 use Rattle.ir_gdb.specs.declared.point.Watched.{Watched}
 use Rattle.ir_gdb.specs.declared.stopped.Moving.{Moving}
 use Rattle.ir_gdb.specs.declared.stopped.Stopped.{Stopped}
@@ -35,11 +35,11 @@ has_hit_on_way : (run : List Step) (s : Stub) (pc u : ℕ) (cut : List ℕ) (hit
 has_hit_on_way run s pc u cut None way = way
 has_hit_on_way run s pc u cut (Some h) way = (h, way)
 
-pub search_points_are_over : (s v : Stub) (pc u : ℕ) (points : List Numbered) (ws : List Watched) (bs : List Breakpoint) (own : List Numbered) → v ≡ stub_spoken s
+pub search_points_are_over : (s v : Stub) (pc u : ℕ) (points : List Numbered) (ws : List Watched) (bs : List Guarded) (own : List Numbered) → v ≡ stub_spoken s
     → points ≡ with_stub_point (points_upwards u ws bs own) u pc → ws ≡ shared_breaks v.watches → bs ≡ v.breaks → own ≡ v.desk.points → points ≡ points_over s pc u
 search_points_are_over s v pc u points ws bs own same is watches breaks mine =
     is ∙ ap (λ (x : List Watched). with_stub_point (points_upwards u x bs own) u pc) (watches ∙ ap (λ (x : Stub). shared_breaks x.watches) same)
-    ∙ ap (λ (x : List Breakpoint). with_stub_point (points_upwards u (shared_breaks s.watches) x own) u pc) (breaks ∙ ap (λ (x : Stub). x.breaks) same)
+    ∙ ap (λ (x : List Guarded). with_stub_point (points_upwards u (shared_breaks s.watches) x own) u pc) (breaks ∙ ap (λ (x : Stub). x.breaks) same)
     ∙ ap (λ (x : List Numbered). with_stub_point (points_upwards u (shared_breaks s.watches) s.breaks x) u pc) (mine ∙ ap (λ (x : Stub). x.desk.points) same)
 
 pub has_hit_by_found : (s : Stub) (f : FittedTrace) (pc u to : ℕ) (cut here : List ℕ) (points : List Numbered) (hit : Option Hit) (is : Bool)

@@ -1,18 +1,19 @@
 -- Where a thread stops that steps in a range of addresses.
-use Rattle.std.proofs.Common.{◌≡◌, ◌<◌, ◌≤◌, ◌+◌, ◌∙◌, ◌⊎◌, ℕ, suc, Bool, true, false, List, Option, Some, None, inl, inr, refl, sym, ap, subst, arith}
-use Rattle.ir_fit.specs.Fit.{FittedTrace, HasRun}
+use Rattle.std.proofs.Common.{◌≡◌, ◌<◌, ◌≤◌, ◌+◌, ◌∙◌, ◌⊎◌, ℕ, suc, Bool, true, List, Option, Some, None, inl, inr, refl, sym, ap, subst, arith}
+use Rattle.std.specs.Prelude.{MatchOption}
+use Rattle.ir_fit.specs.Fit.{HasRun}
 use Rattle.ir_cut.specs.Positions.{EachRun, cut_of, last_of, thread_at}
 use Rattle.ir_command.specs.declared.hit.Hit.{Hit}
-use Rattle.ir_hits.specs.Hits.{Numbered}
-use Rattle.ir_hits.specs.Searching.{IsNextHit}
 use Rattle.ir_gdb.specs.declared.stopped.Stopped.{Stopped}
 use Rattle.ir_gdb.specs.Stub.{Stub, stub_spoken}
-use Rattle.ir_gdb.specs.Stops.{Leaves, RangesTo, StaysWithin, is_in_range, position_of, upwards_of, after_range, end_of_range, ranged}
+use Rattle.ir_gdb.specs.declared.point.Watched.{Watched}
+use Rattle.ir_gdb.specs.Guards.{Guarded}
+use Rattle.ir_gdb.specs.Points.{watches_if}
+use Rattle.ir_gdb.specs.Conditions.{StopsUpwards, IsNextStop}
+use Rattle.ir_gdb.specs.Stops.{Leaves, RangesTo, StaysWithin, is_in_range, position_of, after_range, end_of_range, ranged, stop_above}
+use Rattle.ir_gdb.proofs.Bounds.{stop_above_within_last}
+use Rattle.ir_gdb.proofs.Stopping.{watches_if_ignores_spoken}
 use Rattle.ir_gdb.proofs.Together.{below_next_cases}
-
-upwards_ignores_spoken : (s : Stub) (t : ℕ) (w : Bool) → upwards_of (stub_spoken s) t w ≡ upwards_of s t w
-upwards_ignores_spoken s t true = refl
-upwards_ignores_spoken s t false = refl
 
 after_range_position : (last : ℕ) (left : Option ℕ) → (after_range last left).position ≡ end_of_range last left
 after_range_position last None = refl
@@ -43,27 +44,38 @@ after_range_between s u t low high left here e same has le leaves at is =
     let down : e.position ≤ last_of u.desk.fitted t = omega (arith, ends, last, both.1) in
     (up, down)
 
-pub ranges_to_found_stop : (s u v : Stub) (t low high : ℕ) (w : Bool) (left : Option ℕ) (here : List ℕ) (e to : Stopped) (points : List Numbered) (hit : Option Hit)
-    → u ≡ stub_spoken s → v ≡ stub_spoken s → EachRun s.desk.fitted (λ run. Leaves run s t low high left) → here ≡ u.desk.at
-    → e ≡ after_range (last_of s.desk.fitted t) left → points ≡ upwards_of v t w
-    → EachRun u.desk.fitted (λ run. IsNextHit u.desk.fitted run points t (cut_of here t) e.position hit) → to ≡ ranged s t w left hit
-    → EachRun s.desk.fitted (λ run. RangesTo run s t low high w to)
-ranges_to_found_stop s u v t low high w left here e to points hit same other leaves at is are finds ends run whole =
-    let p = cut_of here t in
-    let mine = are ∙ ap (λ (x : Stub). upwards_of x t w) other ∙ upwards_ignores_spoken s t w in
-    let first = ap (λ (x : List ℕ). cut_of x t) at ∙ ap (λ (x : Stub). position_of x t) same in
-    let last = ap (λ (x : Stopped). x.position) is ∙ after_range_position (last_of s.desk.fitted t) left in
-    let found = subst (λ (x : Stub). EachRun x.desk.fitted (λ r. IsNextHit x.desk.fitted r points t p e.position hit)) same finds run whole in
-    let by_points = subst (λ (ps : List Numbered). IsNextHit s.desk.fitted run ps t p e.position hit) mine found in
-    let by_first = subst (λ (n : ℕ). IsNextHit s.desk.fitted run (upwards_of s t w) t n e.position hit) first by_points in
-    let by_last = subst (λ (n : ℕ). IsNextHit s.desk.fitted run (upwards_of s t w) t (position_of s t) n hit) last by_first in
-    (left, leaves run whole, (hit, by_last, ends))
+ranged_if_found : (s : Stub) (t : ℕ) (w : Bool) (left : Option ℕ) (e to : Stopped) (hit : Option Hit) (ws : List Watched) (bs : List Guarded)
+    → e ≡ after_range (last_of s.desk.fitted t) left → ws ≡ watches_if s w → bs ≡ s.breaks → MatchOption hit (to ≡ e) (λ h. to ≡ stop_above ws bs h)
+    → to ≡ ranged s t w left hit
+ranged_if_found s t w left e to None ws bs ends watches breaks is = is ∙ ends
+ranged_if_found s t w left e to (Some h) ws bs ends watches breaks is =
+    is ∙ ap (λ (x : List Watched). stop_above x bs h) watches ∙ ap (λ (x : List Guarded). stop_above (watches_if s w) x h) breaks
 
-pub next_hit_within_target : (f : FittedTrace) (t p to : ℕ) (points : List Numbered) (hit : Option Hit) (h : Hit) → HasRun f
-    → EachRun f (λ run. IsNextHit f run points t p to hit) → hit ≡ Some h → h.position ≤ to
-next_hit_within_target f t p to points hit h has finds is =
-    let found = subst (λ (x : Option Hit). IsNextHit f has.run points t p to x) is (finds has.run has.whole) in
-    found.1
+pub ranges_to_next_stop : (s u : Stub) (t low high : ℕ) (w : Bool) (left : Option ℕ) (e to : Stopped) (hit : Option Hit) (ws : List Watched) (bs : List Guarded)
+    → u ≡ stub_spoken s → EachRun s.desk.fitted (λ run. Leaves run s t low high left) → e ≡ after_range (last_of s.desk.fitted t) left
+    → EachRun s.desk.fitted (λ run. IsNextStop (StopsUpwards run s t w) (position_of s t) e.position hit) → ws ≡ watches_if u w → bs ≡ u.breaks
+    → MatchOption hit (to ≡ e) (λ h. to ≡ stop_above ws bs h) → EachRun s.desk.fitted (λ run. RangesTo run s t low high w to)
+ranges_to_next_stop s u t low high w left e to hit ws bs same leaves ends finds watches breaks is run whole =
+    let last = ap (λ (x : Stopped). x.position) ends ∙ after_range_position (last_of s.desk.fitted t) left in
+    let found = subst (λ (n : ℕ). IsNextStop (StopsUpwards run s t w) (position_of s t) n hit) last (finds run whole) in (
+      left,
+      leaves run whole,
+      (
+        hit,
+        found,
+        ranged_if_found s t w left e to hit ws bs ends (watches ∙ watches_if_ignores_spoken s u w same)
+            (breaks ∙ ap (λ (x : Stub). x.breaks) same) is,
+      ),
+    )
+
+-- it stops at one of its positions
+pub ranged_stop_within_last : (s : Stub) (t : ℕ) (w : Bool) (e to : Stopped) (hit : Option Hit) (ws : List Watched) (bs : List Guarded) → HasRun s.desk.fitted
+    → e.position ≤ last_of s.desk.fitted t → EachRun s.desk.fitted (λ run. IsNextStop (StopsUpwards run s t w) (position_of s t) e.position hit)
+    → MatchOption hit (to ≡ e) (λ h. to ≡ stop_above ws bs h) → to.position ≤ last_of s.desk.fitted t
+ranged_stop_within_last s t w e to None ws bs has le finds is = subst (λ (x : Stopped). x.position ≤ last_of s.desk.fitted t) (sym is) le
+ranged_stop_within_last s t w e to (Some h) ws bs has le finds is =
+    let up = (finds has.run has.whole).1 in
+    subst (λ (x : Stopped). x.position ≤ last_of s.desk.fitted t) (sym is) (stop_above_within_last ws bs h (last_of s.desk.fitted t) (omega (arith, up, le)))
 
 -- pc of a thread at a cut is its pc at its position there
 pub pc_in_cut_is_run_pc : (s v : Stub) (t k pc : ℕ) (cut : List ℕ) → v ≡ stub_spoken s → cut_of cut t ≡ k

@@ -42,6 +42,8 @@ plain_reply_carries_out run s (request.Register i) r next e same = absurd cc
 plain_reply_carries_out run s (request.Memory a size) r next e same = absurd cc
 plain_reply_carries_out run s request.Change r next e same = says_plain_reply (plain_reply s request.Change) r (after_plain s request.Change) next e same
 plain_reply_carries_out run s (request.SetBreak a hardware) r next e same = says_plain_reply (plain_reply s (request.SetBreak a hardware)) r (after_plain s (request.SetBreak a hardware)) next e same
+plain_reply_carries_out run s (request.SetBreakIf a hardware) r next e same =
+    says_plain_reply (plain_reply s (request.SetBreakIf a hardware)) r (after_plain s (request.SetBreakIf a hardware)) next e same
 plain_reply_carries_out run s (request.ClearBreak a hardware) r next e same =
     says_plain_reply (plain_reply s (request.ClearBreak a hardware)) r (after_plain s (request.ClearBreak a hardware)) next e same
 plain_reply_carries_out run s (request.SetWatch a size) r next e same = says_plain_reply (plain_reply s (request.SetWatch a size)) r (after_plain s (request.SetWatch a size)) next e same
@@ -76,6 +78,7 @@ after_plain_keeps_stub s (request.Register i) e = refl
 after_plain_keeps_stub s (request.Memory a size) e = refl
 after_plain_keeps_stub s request.Change e = absurd cc
 after_plain_keeps_stub s (request.SetBreak a hardware) e = absurd cc
+after_plain_keeps_stub s (request.SetBreakIf a hardware) e = refl
 after_plain_keeps_stub s (request.ClearBreak a hardware) e = absurd cc
 after_plain_keeps_stub s (request.SetWatch a size) e = absurd cc
 after_plain_keeps_stub s (request.ClearWatch a size) e = absurd cc
@@ -116,6 +119,7 @@ unreplied_are_listed s (request.Register i) one e supported description threads 
 unreplied_are_listed s (request.Memory a size) one e supported description threads reason registers register memory move restart restart_at = memory a size refl
 unreplied_are_listed s request.Change one e supported description threads reason registers register memory move restart restart_at = absurd cc
 unreplied_are_listed s (request.SetBreak a hardware) one e supported description threads reason registers register memory move restart restart_at = absurd cc
+unreplied_are_listed s (request.SetBreakIf a hardware) one e supported description threads reason registers register memory move restart restart_at = absurd cc
 unreplied_are_listed s (request.ClearBreak a hardware) one e supported description threads reason registers register memory move restart restart_at = absurd cc
 unreplied_are_listed s (request.SetWatch a size) one e supported description threads reason registers register memory move restart restart_at = absurd cc
 unreplied_are_listed s (request.ClearWatch a size) one e supported description threads reason registers register memory move restart restart_at = absurd cc
@@ -224,7 +228,7 @@ lacks_of_equal_stub s mid asked next old new same p = subst (λ (x : Stub). Lack
 
 -- ---- how long the texts are
 
-pub length-supported_text : length supported_text ≡ 137
+pub length-supported_text : length supported_text ≡ 161
 length-supported_text = refl
 
 pub length-description_text : length description_text ≡ 1939

@@ -1,12 +1,13 @@
 -- Registers that packets name.
 use Rattle.std.proofs.Common.{◌≡◌, ◌≤◌, ◌<◌, ℕ, Bool, true, false, leb, List, [], ◌∷◌, Option, Some, None, refl, sym, subst, arith, leb-true, if◌then◌else◌, drop}
-use Rattle.std.specs.Prelude.{⊤}
+use Rattle.std.specs.Prelude.{⊤, is_some}
 use Rattle.ir_packet.specs.Numbers.{number, decimal_number, digit_index_of, number_before, behind, are_pairs}
 use Rattle.ir_packet.specs.Requests.{without_argument, whatever, of_number, of_numbers, one_argument, two_with_comma, of_who, who_of}
-use Rattle.ir_packet.specs.Requests.{thread, register_request, console, move_of, mover_of, motion_of, thread_behind, others_of}
-use Rattle.ir_packet.specs.Requests.{first_action, actions, restart_with, restart, PacketRow, queries, texts, restarts, commands, points}
-use Rattle.ir_packet.specs.Requests.{letters, after_name, request_by, asked_in, request_or_else, or_unknown, asked_queries, asked_texts}
-use Rattle.ir_packet.specs.Requests.{asked_restarts, asked_commands, asked_named, asked_points, asked_ends, asked_letters, request_of}
+use Rattle.ir_packet.specs.Requests.{thread, register_request, console, conditions, break_request_with, break_request, move_of, mover_of}
+use Rattle.ir_packet.specs.Requests.{motion_of, thread_behind, others_of, first_action, actions, restart_with, restart, PacketRow, queries}
+use Rattle.ir_packet.specs.Requests.{texts, restarts, commands, points, letters, after_name, request_by, asked_in, request_or_else}
+use Rattle.ir_packet.specs.Requests.{or_unknown, asked_queries, asked_texts, asked_restarts, asked_commands, asked_named, asked_points}
+use Rattle.ir_packet.specs.Requests.{asked_ends, asked_letters, request_of}
 use Rattle.ir_packet.specs.Requests as requests
 use Rattle.ir_packet.specs.declared.request.Request.{Request}
 use Rattle.ir_packet.specs.declared.request.Request.TheVariants as request
@@ -72,6 +73,15 @@ register_known_register n = tested_register_known n (leb n 32) refl
 console_known_register : (rest : List ℕ) → HasKnownRegister (console rest)
 unfolding console
 console_known_register rest = choice_known_register (are_pairs rest) request.Console request.Malformed (λ n e. absurd cc) malformed_known_register
+
+break_with_conditions_known_register : (hardware : Bool) (place rest : List ℕ) → HasKnownRegister (break_request_with hardware place rest)
+break_with_conditions_known_register hardware place [] = two_numbers_known_register (λ a kind. request.SetBreak a hardware) (λ a b n e. absurd cc) place
+break_with_conditions_known_register hardware place (b ∷ text) = choice_known_register (is_some (conditions text)) _ request.Malformed
+    (two_numbers_known_register (λ a kind. request.SetBreakIf a hardware) (λ a b n e. absurd cc) place) malformed_known_register
+
+breakpoint_known_register : (hardware : Bool) (rest : List ℕ) → HasKnownRegister (break_request hardware rest)
+unfolding break_request
+breakpoint_known_register hardware rest = break_with_conditions_known_register hardware (number_before 59 rest) (drop (digit_index_of 59 rest) rest)
 
 move_known_register : (m : Option Motion) (w : Option Who) (others : Option Bool) → HasKnownRegister (move_of m w others)
 move_known_register None w others = malformed_known_register
@@ -145,8 +155,8 @@ commands_known_registers =
 
 points_known_registers : AllMakeKnownRegisters points
 points_known_registers =
-    pair_of_facts (two_numbers_known_register (λ a kind. request.SetBreak a false) (λ a b n e. absurd cc))
-    (pair_of_facts (two_numbers_known_register (λ a kind. request.SetBreak a true) (λ a b n e. absurd cc))
+    pair_of_facts (breakpoint_known_register false)
+    (pair_of_facts (breakpoint_known_register true)
     (pair_of_facts (two_numbers_known_register request.SetWatch (λ a b n e. absurd cc))
     (pair_of_facts (two_numbers_known_register (λ a kind. request.ClearBreak a false) (λ a b n e. absurd cc))
     (pair_of_facts (two_numbers_known_register (λ a kind. request.ClearBreak a true) (λ a b n e. absurd cc))

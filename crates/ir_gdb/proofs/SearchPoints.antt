@@ -6,9 +6,9 @@ use Rattle.ir_mach.specs.Core.{memory_start, memory_size}
 use Rattle.ir_command.specs.declared.command.Point.TheVariants.{Watch}
 use Rattle.ir_hits.specs.Hits.{Numbered, objects_start}
 use Rattle.ir_hits.specs.Watchable.{AreWatchable}
-use Rattle.ir_gdb.specs.declared.point.Breakpoint.{Breakpoint}
 use Rattle.ir_gdb.specs.declared.point.Watched.{Watched}
 use Rattle.ir_gdb.specs.Stub.{IsWatched}
+use Rattle.ir_gdb.specs.Guards.{Guarded}
 use Rattle.ir_gdb.specs.Points.{word_points, watched_words, watch_points, break_points, own_points, points_upwards, points_downwards}
 
 -- ---- words, one by one
@@ -59,10 +59,10 @@ watches_are_watchable t number (w ∷ ws) all =
     (word_points_watchable t number (watched_words w) (w.address / 4 * 4) (omega arith) (omega (arith, first.low)) (words_end_in_memory w first))
     (watches_are_watchable t (number + 1) ws all.1)
 
-breaks_are_watchable : (t number : ℕ) (bs : List Breakpoint) → AreWatchable (break_points t number bs)
+breaks_are_watchable : (t place : ℕ) (bs : List Guarded) → AreWatchable (break_points t place bs)
 unfolding break_points
-breaks_are_watchable t number [] = tt
-breaks_are_watchable t number (b ∷ bs) = (tt, breaks_are_watchable t (number + 1) bs)
+breaks_are_watchable t place [] = tt
+breaks_are_watchable t place (b ∷ bs) = (tt, breaks_are_watchable t (place + 1) bs)
 
 own_are_watchable : (number : ℕ) (ps : List Numbered) → AreWatchable ps → AreWatchable (own_points number ps)
 unfolding own_points
@@ -72,14 +72,14 @@ own_are_watchable number (p ∷ ps) all = (all.0, own_are_watchable number ps al
 pub put_are_watchable : (items : List Numbered) (t : ℕ) (ws : List Watched) → items ≡ watch_points t 0 ws → AllByRecursion IsWatched ws → AreWatchable items
 put_are_watchable items t ws is all = subst AreWatchable (sym is) (watches_are_watchable t 0 ws all)
 
-pub upwards_are_watchable : (items : List Numbered) (t : ℕ) (ws : List Watched) (bs : List Breakpoint) (own : List Numbered)
+pub upwards_are_watchable : (items : List Numbered) (t : ℕ) (ws : List Watched) (bs : List Guarded) (own : List Numbered)
     → items ≡ points_upwards t ws bs own → AllByRecursion IsWatched ws → AreWatchable own → AreWatchable items
 upwards_are_watchable items t ws bs own is all mine =
     let first = watchable_append (watch_points t 0 ws) (break_points t (length ws) bs) (watches_are_watchable t 0 ws all) (breaks_are_watchable t (length ws) bs) in
     subst AreWatchable (sym is) (watchable_append (watch_points t 0 ws ++ break_points t (length ws) bs) (own_points (length ws + length bs) own) first
     (own_are_watchable (length ws + length bs) own mine))
 
-pub downwards_are_watchable : (items : List Numbered) (t : ℕ) (ws : List Watched) (bs : List Breakpoint) (own : List Numbered)
+pub downwards_are_watchable : (items : List Numbered) (t : ℕ) (ws : List Watched) (bs : List Guarded) (own : List Numbered)
     → items ≡ points_downwards t ws bs own → AllByRecursion IsWatched ws → AreWatchable own → AreWatchable items
 downwards_are_watchable items t ws bs own is all mine =
     let first = watchable_append (break_points t 0 bs) (watch_points t (length bs) ws) (breaks_are_watchable t 0 bs) (watches_are_watchable t (length bs) ws all) in

@@ -1,44 +1,20 @@
 -- Bytes of the objects in hand.
-use Rattle.std.proofs.Common.{◌≡◌, ◌≤◌, ◌<◌, ◌+◌, ◌-◌, ◌/◌, ◌%◌, ◌∙◌, ℕ, Bool, cond, List, length, slice_index_or, slice_index, Some, None, sym, ap, arith, lt-ltb, le-ltb}
+use Rattle.std.proofs.Common.{◌≡◌, ◌≤◌, ◌<◌, ◌+◌, ◌-◌, ◌/◌, ◌%◌, ◌∙◌, ℕ, Bool, cond, List, length, Some, None, sym, ap, arith, le-ltb}
 use Rattle.ir_image.specs.Guest.{object_count, object_words, most_objects}
 use Rattle.ir_mach.specs.Execution.{byte_at}
-use Rattle.ir_object.specs.Cell.{Cell}
-use Rattle.ir_object.specs.Empty.{empty}
-use Rattle.ir_runs.specs.Machine.{Object}
-use Rattle.ir_runs.specs.Run.{Step, object_at}
+use Rattle.ir_runs.specs.Run.{object_at}
 use Rattle.ir_cut.specs.Positions.{EachRun, machine_of, start_of, cut_of}
 use Rattle.ir_gdb.specs.Serving.{Serving, IsRemoteThere}
 use Rattle.ir_hits.specs.Hits.{objects_start, object_size}
 use Rattle.ir_gdb.specs.Reads.{object_byte, word_byte, byte_seen, current_of, bytes_there}
 use Rattle.ir_gdb.proofs.Bytes.{bytes_end_at_missing}
 
-pub guest_object_is_in_hand : (s : Serving) (n : ℕ) → IsRemoteThere s → n < object_count s.stub.desk.fitted.guest → n < length s.state.objects
-guest_object_is_in_hand s n there below = let count = there.at.objects in omega (arith, count, below)
-
--- the words of an object in hand are those at the cut
-hand_words_at_cut : (s : Serving) (run : List Step) (o : ℕ) → IsRemoteThere s → EachRun s.stub.desk.fitted (λ run. slice_index (slice_index_or s.state.objects o empty).words
-    ≡ (object_at (machine_of s.stub.desk.fitted) (start_of s.stub.desk.fitted) run (cut_of s.stub.desk.at) o).words)
-hand_words_at_cut s run o there = λ run is. ap (λ (b : Object). b.words) ((there.at.each run is).objects o)
-
 -- behind the objects there is none
-pub no_object_byte_past : (s : Serving) (offset : ℕ) → object_count s.stub.desk.fitted.guest ≤ offset / object_size
-    → EachRun s.stub.desk.fitted (λ run. None ≡ object_byte run s.stub offset)
+no_object_byte_past : (s : Serving) (offset : ℕ) → object_count s.stub.desk.fitted.guest ≤ offset / object_size
+    → EachRun s.stub.desk.fitted (λ run. None ≡ object_byte run s.stub.desk.fitted (cut_of s.stub.desk.at) offset)
 no_object_byte_past s offset past = λ run is. sym (ap (λ (t : Bool). cond t (Some (word_byte (object_words s.stub.desk.fitted.guest)
     (object_at (machine_of s.stub.desk.fitted) (start_of s.stub.desk.fitted) run (cut_of s.stub.desk.at) (offset / object_size)).words (offset % object_size))) None)
     (le-ltb (offset / object_size) (object_count s.stub.desk.fitted.guest) past))
-
--- a byte of one in hand
-pub object_byte_in_hand : (s : Serving) (offset byte : ℕ) (cell : Cell) → IsRemoteThere s → offset / object_size < object_count s.stub.desk.fitted.guest
-    → slice_index_or s.state.objects (offset / object_size) empty ≡ cell
-    → byte ≡ word_byte (object_words s.stub.desk.fitted.guest) (slice_index cell.words) (offset % object_size)
-    → EachRun s.stub.desk.fitted (λ run. Some byte ≡ object_byte run s.stub offset)
-object_byte_in_hand s offset byte cell there below is same = λ run of.
-    let seen : Object = object_at (machine_of s.stub.desk.fitted) (start_of s.stub.desk.fitted) run (cut_of s.stub.desk.at) (offset / object_size) in
-    let words : slice_index cell.words ≡ seen.words = ap (λ (c : Cell). slice_index c.words) (sym is)
-    ∙ hand_words_at_cut s run (offset / object_size) there run of in
-    ap Some (same ∙ ap (λ (w : ℕ → ℕ). word_byte (object_words s.stub.desk.fitted.guest) w (offset % object_size)) words)
-    ∙ sym (ap (λ (t : Bool). cond t (Some (word_byte (object_words s.stub.desk.fitted.guest) seen.words (offset % object_size))) None)
-    (lt-ltb (offset / object_size) (object_count s.stub.desk.fitted.guest) below))
 
 -- addresses of 33 bits and more are behind the objects
 pub no_byte_at_high : (s : Serving) (address : ℕ) → object_count s.stub.desk.fitted.guest ≤ most_objects → 0x100000000 ≤ address
@@ -47,7 +23,7 @@ no_byte_at_high s address few past = λ run is.
     let high : objects_start ≤ address = omega (arith, past) in
     let behind : object_count s.stub.desk.fitted.guest ≤ (address - objects_start) / object_size = omega (arith, few, past) in
     let near = byte_at s.stub.desk.fitted.guest.code (current_of run s.stub s.stub.general).core.memory address in
-    ap (λ (t : Bool). cond t near (object_byte run s.stub (address - objects_start))) (le-ltb address objects_start high)
+    ap (λ (t : Bool). cond t near (object_byte run s.stub.desk.fitted (cut_of s.stub.desk.at) (address - objects_start))) (le-ltb address objects_start high)
     ∙ sym (no_object_byte_past s (address - objects_start) behind run is)
 
 -- where the next byte isn't there, those so far are all

@@ -1,6 +1,6 @@
 -- What the stub always holds, with a point more or fewer.
-use Rattle.std.proofs.Common.{◌≡◌, ◌<◌, ◌≤◌, ◌+◌, ◌*◌, ◌∙◌, ℕ, Bool, true, false, true≢false, not, ltb, leb, List, [], ◌∷◌, ◌++◌, length, refl, sym, ap, arith, ltb-true, leb-true}
-use Rattle.std.specs.Prelude.{◌&&◌, ◌||◌, if◌then◌else◌}
+use Rattle.std.proofs.Common.{◌≡◌, ◌<◌, ◌≤◌, ◌+◌, ◌*◌, ◌∙◌, ℕ, suc, Some, Bool, true, false, true≢false, not, ltb, leb, List, [], ◌∷◌, ◌++◌, length, refl, sym, ap, arith, ltb-true, leb-true}
+use Rattle.std.specs.Prelude.{◌&&◌, ◌||◌, nat_lt, find, is_some, if◌then◌else◌}
 use Rattle.std.specs.List.{AllByRecursion, filter}
 use Rattle.std.proofs.lemmas.List.Elements.{filter-append}
 use Rattle.ir_lemmas.proofs.CallerLemmas.{all_of_push, length_of_append_item, conjuncts_are_true}
@@ -10,13 +10,16 @@ use Rattle.ir_mach.specs.Execution.{lies_in_memory}
 use Rattle.ir_hits.specs.Hits.{objects_start, object_size}
 use Rattle.ir_debug.proofs.CallerLemmas.{filter_keeps_all, filter_is_not_longer}
 use Rattle.ir_gdb.specs.declared.point.Breakpoint.{Breakpoint}
+use Rattle.ir_gdb.specs.Guards.{Guarded}
 use Rattle.ir_gdb.specs.declared.point.Watched.{Watched}
 use Rattle.ir_gdb.specs.Stub.{Stub, IsStub, IsWatched, is_shared_break, shared_breaks, most_stub_points, most_watched}
-use Rattle.ir_gdb.specs.Setting.{lies_in_objects, can_watch, is_same_break, is_same_watch, breaks_without, watches_without}
+use Rattle.ir_gdb.specs.Setting.{is_code_word, lies_in_objects, can_watch, is_same_break, is_same_watch, has_break, breaks_without, watches_without, room_setting, break_setting}
+use Rattle.ir_gdb.specs.declared.point.Setting.{Setting}
+use Rattle.ir_gdb.specs.declared.point.Setting.TheVariants as setting
 
 -- ---- a point more
 
-pub stub_with_break_is_stub : (s : Stub) (b : Breakpoint) → IsStub s → length s.breaks + length s.watches < most_stub_points
+pub stub_with_break_is_stub : (s : Stub) (b : Guarded) → IsStub s → length s.breaks + length s.watches < most_stub_points
     → IsStub (record s { breaks = s.breaks ++ b ∷ [] })
 stub_with_break_is_stub s b is room = record {
   general = is.general;
@@ -27,7 +30,7 @@ stub_with_break_is_stub s b is room = record {
   few = let more = length_of_append_item s.breaks b in omega (arith, more, room);
 }
 
-each_of_three_is_true : (a b c : Bool) → (a && (b && c)) ≡ true → (a ≡ true) × (b ≡ true) × (c ≡ true)
+pub each_of_three_is_true : (a b c : Bool) → (a && (b && c)) ≡ true → (a ≡ true) × (b ≡ true) × (c ≡ true)
 each_of_three_is_true true true true e = (refl, refl, refl)
 each_of_three_is_true true true false e = absurd cc
 each_of_three_is_true true false c e = absurd cc
@@ -92,7 +95,7 @@ stub_without_break_is_stub s b is = record {
   current = is.current;
   told = is.told;
   watches = is.watches;
-  few = let less = filter_is_not_longer (λ x. not (is_same_break x b)) s.breaks in let all = is.few in omega (arith, less, all);
+  few = let less = filter_is_not_longer (λ x. not (is_same_break x.point b)) s.breaks in let all = is.few in omega (arith, less, all);
 }
 
 pub stub_without_watch_is_stub : (s : Stub) (w : Watched) → IsStub s → IsStub (record s { watches = watches_without s.watches w })
@@ -103,6 +106,41 @@ stub_without_watch_is_stub s w is = record {
   told = is.told;
   watches = filter_keeps_all IsWatched (λ x. not (is_same_watch x w)) s.watches is.watches;
   few = let less = filter_is_not_longer (λ x. not (is_same_watch x w)) s.watches in let all = is.few in omega (arith, less, all);
+}
+
+-- one that is there takes no room
+shorter_without_break : (bs : List Guarded) (p : Breakpoint) → has_break bs p ≡ true → suc (length (breaks_without bs p)) ≤ length bs
+shorter_without_break [] p there = absurd (true≢false (sym there))
+shorter_without_break (x ∷ bs) p there = by (shorter_without_break bs p) (is_same_break x.point p) refl
+  where
+    rest : List Guarded
+    rest = breaks_without bs p
+
+    by : (has_break bs p ≡ true → suc (length (breaks_without bs p)) ≤ length bs) → (b : Bool) → is_same_break x.point p ≡ b
+        → suc (length (breaks_without (x ∷ bs) p)) ≤ length (x ∷ bs)
+    by shorter true is =
+        let dropped : length (breaks_without (x ∷ bs) p) ≡ length rest = ap (λ c. length (if not c then x ∷ rest else rest)) is in
+        let less = filter_is_not_longer (λ y. not (is_same_break y.point p)) bs in
+        omega (arith, dropped, less)
+    by shorter false is =
+        let kept : length (breaks_without (x ∷ bs) p) ≡ suc (length rest) = ap (λ c. length (if not c then x ∷ rest else rest)) is in
+        let found : has_break bs p ≡ true = sym (ap (λ c. is_some (if c then Some x else find (λ y. is_same_break y.point p) bs)) is) ∙ there in
+        let less = shorter found in
+        omega (arith, kept, less)
+
+pub stub_with_replaced_break_is_stub : (s : Stub) (b : Guarded) → IsStub s → has_break s.breaks b.point ≡ true
+    → IsStub (record s { breaks = breaks_without s.breaks b.point ++ b ∷ [] })
+stub_with_replaced_break_is_stub s b is there = record {
+  general = is.general;
+  chosen = is.chosen;
+  current = is.current;
+  told = is.told;
+  watches = is.watches;
+  few =
+      let more = length_of_append_item (breaks_without s.breaks b.point) b in
+      let less = shorter_without_break s.breaks b.point there in
+      let all = is.few in
+      omega (arith, more, less, all);
 }
 
 -- ---- the watches of the objects
@@ -164,3 +202,21 @@ filters_commute p q (w ∷ ws) = filters_commute_on_cons p q w ws (p w) (q w) re
 
 pub shared_of_fewer : (ws shared : List Watched) (w : Watched) → shared ≡ shared_breaks ws → watches_without shared w ≡ shared_breaks (watches_without ws w)
 shared_of_fewer ws shared w same = ap (λ xs. watches_without xs w) same ∙ filters_commute (λ x. not (is_same_watch x w)) is_shared_break ws
+
+pub room_without_break : (s : Stub) (p : Breakpoint) → IsStub s → has_break s.breaks p ≡ true → length (breaks_without s.breaks p) < most_stub_points
+room_without_break s p is there =
+    let less = shorter_without_break s.breaks p there in
+    let all = is.few in
+    omega (arith, less, all)
+
+room_is_not_there : (b : Bool) → (if b then setting.New else setting.Full) ≡ setting.There → ⊥
+room_is_not_there true is = absurd cc
+room_is_not_there false is = absurd cc
+
+pub break_is_there : (s : Stub) (p : Breakpoint) (set : Setting) → set ≡ break_setting s p → set ≡ setting.There → has_break s.breaks p ≡ true
+break_is_there s p set is there = by (is_code_word s.desk.fitted.guest p.address) (has_break s.breaks p) refl (sym is ∙ there)
+  where
+    by : (code found : Bool) → has_break s.breaks p ≡ found → (if code then room_setting s found else setting.BadAddress) ≡ setting.There → has_break s.breaks p ≡ true
+    by true true same is = same
+    by true false same is = absurd (room_is_not_there (nat_lt (length s.breaks + length s.watches) most_stub_points) is)
+    by false found same is = absurd cc

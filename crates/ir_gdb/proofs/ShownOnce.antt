@@ -1,6 +1,6 @@
 -- `continue` repeated to the end shows each hit once.
 use Rattle.std.proofs.Common.{◌≡◌, ◌≢◌, ◌<◌, ◌⊎◌, ◌∙◌, ℕ, zero, suc, Bool, true, false, List, [], ◌∷◌, Option, Some, None, is_some, is_none, true≢false, inl, inr, refl, sym, ap, subst, arith}
-use Rattle.std.specs.Prelude.{◌==◌, ◌&&◌, not}
+use Rattle.std.specs.Prelude.{◌==◌, ◌&&◌, ◌≤◌, ◌+◌, length, not}
 use Rattle.std.proofs.lemmas.Bool.{cases_eq, cases_lt}
 use Rattle.ir_lemmas.proofs.CallerLemmas.{conjunction_with_false}
 use Rattle.ir_runs.specs.Run.{Step}
@@ -8,17 +8,20 @@ use Rattle.ir_cut.specs.Positions.{cut_of, threads_of, last_of}
 use Rattle.ir_command.specs.declared.command.Direction.{Direction}
 use Rattle.ir_command.specs.declared.command.Direction.TheVariants.{Forwards, Backwards}
 use Rattle.ir_command.specs.declared.hit.Hit.{Hit}
-use Rattle.ir_hits.specs.Hits.{HitByNumber, IsFirstHit, IsLastHit}
+use Rattle.ir_hits.specs.Hits.{Numbered, HitByNumber, IsLastHit}
+use Rattle.ir_gdb.specs.Guards.{has_guard, conditions_at}
+use Rattle.ir_gdb.specs.Conditions.{IsMetBy, StopsUpwards, IsFirstStop}
 use Rattle.ir_packet.specs.declared.reply.Reason.{Reason}
 use Rattle.ir_gdb.specs.declared.point.Watched.{Watched}
 use Rattle.ir_gdb.specs.declared.stopped.Stopped.{Stopped}
-use Rattle.ir_gdb.specs.Points.{points_upwards, points_downwards}
-use Rattle.ir_gdb.specs.Stub.{Stub, shared_breaks}
-use Rattle.ir_gdb.specs.Stops.{position_of, watches_if, upwards_of, downwards_of, end_above, end_below, is_hit, StopsInDirection, BackBy, StopsBelow, ContinuesBackBy, reason_at_end}
+use Rattle.ir_gdb.specs.Points.{points_upwards, points_downwards, watches_if, upwards_of, downwards_of}
+use Rattle.ir_gdb.specs.Stub.{Stub, shared_breaks, IsStub, most_stub_points}
+use Rattle.ir_gdb.specs.Stops.{position_of, end_above, end_below, is_hit, StopsInDirection, BackBy, StopsBelow, ContinuesBackBy, reason_at_end}
 use Rattle.ir_gdb.specs.Together.{Halt, halt, Comes, stop_among, is_on_way, AreStops, FirstMet, meets, halt_or, own_halt, met_or, StopsAmong, FirstStop, furthest, ContinuesAmong}
-use Rattle.ir_gdb.specs.Laws.{MeetsNone, PassesNone, PassesNoHit, Stands, stub_behind, ShowsHit, ContinuesToEnd, IsHitBeyond, ShowsAt, IsShownOnce}
+use Rattle.ir_gdb.specs.Laws.{MeetsNone, PassesNone, PassesNoHit, Stands, stub_behind, ShowsHit, ContinuesToEnd, IsHitBeyond, ShowsAt, IsShownOnce, IsConditional, IsConditionMet}
 use Rattle.ir_gdb.proofs.Alone.{no_watch_is_next, stop_above_is_at_hit, stop_below_is_at_hit}
 use Rattle.ir_gdb.proofs.Blocked.{Within, comes_within_cut, comes_exactly_there, hit_on_way_if_meets}
+use Rattle.ir_gdb.proofs.Deciding.{guarded_stop_is_met}
 use Rattle.ir_gdb.proofs.Unpassed.{continue_passes_no_hit, no_stop_is_no_hit}
 use Rattle.ir_gdb.proofs.Ways.{meets_none_if_not_met, meets_by}
 
@@ -52,13 +55,21 @@ upwards_of_any s u w none = ap (λ (ws : List Watched). points_upwards u ws s.br
 downwards_of_any : (s : Stub) (u : ℕ) (w : Bool) → s.watches ≡ [] → downwards_of s u false ≡ downwards_of s u w
 downwards_of_any s u w none = ap (λ (ws : List Watched). points_downwards u ws s.breaks s.desk.points) (watches_if_none s false none ∙ sym (watches_if_none s w none))
 
+-- a point without conditions stops where it hits
+stops_upwards_if_free : (run : List Step) (s : Stub) (u k n : ℕ) (w : Bool) → s.watches ≡ [] → HitByNumber s.desk.fitted run (upwards_of s u false) u k n
+    → has_guard n ≡ false → StopsUpwards run s u w k n
+stops_upwards_if_free run s u k n w none hits free = (
+  subst (λ points. HitByNumber s.desk.fitted run points u k n) (upwards_of_any s u w none) hits,
+  subst (λ (b : Bool). IsMetBy b run s u k (conditions_at s.breaks (length (watches_if s w)) n)) (sym free) tt,
+)
+
 -- a hit is at the position to which a thread comes, or beyond
 hit_not_passed_is_beyond : (run : List Step) (s : Stub) (d : Direction) (u k c : ℕ) (w : Bool) → s.watches ≡ [] → PassesNone run s d u w c → IsHitBeyond run s d u k
     → (k ≡ c) ⊎ Beyond d c k
-hit_not_passed_is_beyond run s Forwards u k c w none passes (beyond, (n, hits)) = elim (cases_lt c k) [
+hit_not_passed_is_beyond run s Forwards u k c w none passes (beyond, (n, hits, free)) = elim (cases_lt c k) [
   | inl less ↦ inr less
   | inr from ↦ elim (cases_lt k c) [
-    | inl less ↦ absurd (passes k n beyond less (subst (λ points. HitByNumber s.desk.fitted run points u k n) (upwards_of_any s u w none) hits))
+    | inl less ↦ absurd (passes k n beyond less (stops_upwards_if_free run s u k n w none hits free))
     | inr back ↦ inl (omega (arith, from, back))
   ]
 ]
@@ -72,9 +83,9 @@ hit_not_passed_is_beyond run s Backwards u k c w none passes (beyond, (n, hits))
 
 -- a hit is beyond the position to which a thread comes that meets none
 hit_not_met_is_beyond : (run : List Step) (s : Stub) (d : Direction) (u k c : ℕ) (w : Bool) → s.watches ≡ [] → MeetsNone run s d u w c → IsHitBeyond run s d u k → Beyond d c k
-hit_not_met_is_beyond run s Forwards u k c w none meets (beyond, (n, hits)) = elim (cases_lt c k) [
+hit_not_met_is_beyond run s Forwards u k c w none meets (beyond, (n, hits, free)) = elim (cases_lt c k) [
   | inl less ↦ less
-  | inr from ↦ absurd (meets k n beyond (omega (arith, from)) (subst (λ points. HitByNumber s.desk.fitted run points u k n) (upwards_of_any s u w none) hits))
+  | inr from ↦ absurd (meets k n beyond (omega (arith, from)) (stops_upwards_if_free run s u k n w none hits free))
 ]
 hit_not_met_is_beyond run s Backwards u k c w none meets (beyond, (n, hits)) = elim (cases_lt k c) [
   | inl less ↦ less
@@ -93,7 +104,7 @@ own_hit_is_beyond : (run : List Step) (s : Stub) (d : Direction) (u : ℕ) (w : 
 own_hit_is_beyond run s Forwards u w to none (hit, finds, ends) told = by hit finds (ends ∙ ap (λ (ws : List Watched). end_above ws s.breaks (last_of s.desk.fitted u) hit)
     (watches_if_none s w none))
   where
-    by : (hit : Option Hit) → IsFirstHit s.desk.fitted run (upwards_of s u w) u (position_of s u) hit
+    by : (hit : Option Hit) → IsFirstStop (StopsUpwards run s u w) (position_of s u) hit
         → to ≡ end_above [] s.breaks (last_of s.desk.fitted u) hit → position_of s u < to.position
     by None finds is = absurd (true≢false (sym told ∙ ap (λ (x : Stopped). is_hit x.reason) is))
     by (Some h) finds is = let up = finds.0 in let at = ap (λ (x : Stopped). x.position) is ∙ stop_above_is_at_hit s.breaks h in omega (arith, up, at)
@@ -243,6 +254,31 @@ shown_hit_is_beyond run s d (m ∷ next ∷ ms) stands none continues u k (suc i
     let later = shown_hit_is_beyond run (stub_behind s m.1) d (next ∷ ms) (stub_stands_at_stop run s d m.1 stands stop) none continues.3 u k i shows in
     beyond_after_within d (position_of s u) (cut_of m.1.cut u) k (comes_within_cut run s d m.1.thread stop.to.position m.1.cut stop.comes u) later
 
+pub none_is_shown_twice : (run : List Step) (s : Stub) (d : Direction) (ms : List (ℕ × Halt)) → Stands run s → s.watches ≡ [] → ContinuesToEnd run s d ms
+    → (u k i j : ℕ) → ShowsAt ms u k i → ShowsAt ms u k j → i ≡ j
+unfolding ContinuesToEnd
+none_is_shown_twice run s d [] stands none continues u k i j one two = absurd continues
+none_is_shown_twice run s d (m ∷ []) stands none continues u k zero zero one two = refl
+none_is_shown_twice run s d (m ∷ []) stands none continues u k zero (suc j) one (x, at, shows) = absurd (true≢false (ap is_none at))
+none_is_shown_twice run s d (m ∷ []) stands none continues u k (suc i) j (x, at, shows) two = absurd (true≢false (ap is_none at))
+none_is_shown_twice run s d (m ∷ next ∷ ms) stands none continues u k i j one two =
+    by (λ a b first second. none_is_shown_twice run (stub_behind s m.1) d (next ∷ ms) (stub_stands_at_stop run s d m.1 stands stop) none continues.3
+    u k a b first second) i j one two
+  where
+    stop : IsHitStop run s d m.1
+    stop = hit_stop_if_reason_is_hit run s d m.0 m.1 none continues.0 continues.1 continues.2
+
+    not_later : ShowsHit u k m.1 → (n : ℕ) → ShowsAt (next ∷ ms) u k n → ⊥
+    not_later mine n shows = beyond_is_not_equal d (cut_of m.1.cut u) k
+        (shown_hit_is_beyond run (stub_behind s m.1) d (next ∷ ms) (stub_stands_at_stop run s d m.1 stands stop) none continues.3 u k n shows) (sym mine.1)
+
+    by : ((i j : ℕ) → ShowsAt (next ∷ ms) u k i → ShowsAt (next ∷ ms) u k j → i ≡ j) → (i j : ℕ) → ShowsAt (m ∷ next ∷ ms) u k i → ShowsAt (m ∷ next ∷ ms) u k j
+        → i ≡ j
+    by later zero zero one two = refl
+    by later zero (suc j) one two = absurd (not_later (first_shows_hit m (next ∷ ms) u k one) j two)
+    by later (suc i) zero one two = absurd (not_later (first_shows_hit m (next ∷ ms) u k two) i one)
+    by later (suc i) (suc j) one two = ap suc (later i j one two)
+
 -- by the first stop, and by none behind it
 shown_once_by_first : (m : ℕ × Halt) (ms : List (ℕ × Halt)) (u k : ℕ) → ShowsHit u k m.1 → ((i : ℕ) → ShowsAt ms u k i → ⊥) → IsShownOnce (m ∷ ms) u k
 shown_once_by_first m ms u k shows none = (0, (m, refl, shows), λ j is. by j is)
@@ -293,3 +329,40 @@ hit_beyond_shown_once run s d (m ∷ next ∷ ms) stands none continues u k belo
             | inr beyond ↦ shown_once_by_later m (next ∷ ms) u k (not_here beyond) (later beyond)
           ]
     ]
+
+-- ---- conditions
+
+pub shown_condition_is_met : (run : List Step) (s : Stub) (t : ℕ) (h : Halt) → Stands run s → IsStub s → s.watches ≡ [] → t < threads_of s.desk.fitted
+    → ContinuesAmong run s t Forwards h → is_hit h.reason ≡ true → IsConditional run s h.thread (cut_of h.cut h.thread) → IsConditionMet run s h
+shown_condition_is_met run s t h stands is none below continues told conditional = by stop.goes
+  where
+    stop : IsHitStop run s Forwards h
+    stop = hit_stop_if_reason_is_hit run s Forwards t h none below continues told
+
+    u : ℕ
+    u = h.thread
+
+    there : position_of s u ≤ stop.to.position → cut_of h.cut u ≡ stop.to.position
+    there ahead = comes_exactly_there run s stands Forwards u stop.to.position h.cut ahead stop.comes
+
+    few : length s.breaks + length (watches_if s stop.watched) ≤ most_stub_points
+    few =
+        let all = is.few in
+        let own = ap (λ (ws : List Watched). length ws) none in
+        let mine = ap (λ (ws : List Watched). length ws) (watches_if_none s stop.watched none) in
+        omega (arith, all, own, mine)
+
+    at_hit : (g : Hit) → IsFirstStop (StopsUpwards run s u stop.watched) (position_of s u) (Some g) → stop.to.position ≡ g.position → IsConditionMet run s h
+    at_hit g finds at =
+        let up = finds.0 in
+        let here : cut_of h.cut u ≡ g.position = there (omega (arith, up, at)) ∙ at in
+        let hits = subst (λ (points : List Numbered). HitByNumber s.desk.fitted run points u g.position g.number) (sym (upwards_of_any s u stop.watched none)) finds.2.stops.0 in
+        let guard = conditional g.number (subst (λ (k : ℕ). HitByNumber s.desk.fitted run (upwards_of s u false) u k g.number) (sym here) hits) in
+        let comes = subst (λ (k : ℕ). Comes run s Forwards u k h.cut) at stop.comes in
+        let met = guarded_stop_is_met run s u stop.watched g.position h.cut comes here few g.number guard finds.2.stops in
+        (met.0, met.1, met.2.at, met.2.met)
+
+    by : StopsInDirection Forwards run s u stop.watched stop.to → IsConditionMet run s h
+    by (None, finds, ends) = absurd (true≢false (sym stop.hit ∙ ap (λ (x : Stopped). is_hit x.reason) ends))
+    by (Some g, finds, ends) = at_hit g finds (ap (λ (x : Stopped). x.position) (ends
+        ∙ ap (λ (ws : List Watched). end_above ws s.breaks (last_of s.desk.fitted u) (Some g)) (watches_if_none s stop.watched none)) ∙ stop_above_is_at_hit s.breaks g)

@@ -2,25 +2,23 @@
 use Rattle.std.proofs.Common.{◌≡◌, ◌≤◌, ◌<◌, ◌-◌, ◌+◌, ◌∙◌, ℕ, zero, suc, Bool, true, false, List, [], ◌∷◌, length, Option, Some, None, refl, sym, ap, subst, arith}
 use Rattle.std.proofs.lemmas.Bool.Decides.{nat_tests}
 use Rattle.std.specs.Prelude.{nat_lt, ◌==◌, ⊤, option_map}
-use Rattle.ir_fit.specs.Fit.{FittedTrace, HasRun}
+use Rattle.ir_fit.specs.Fit.{FittedTrace}
 use Rattle.ir_runs.specs.Run.{Step}
-use Rattle.ir_cut.specs.Positions.{EachRun, threads_of, last_of}
-use Rattle.ir_command.specs.declared.command.Direction.TheVariants.{Forwards}
+use Rattle.ir_cut.specs.Positions.{EachRun, last_of}
 use Rattle.ir_command.specs.declared.hit.Hit.{Hit}
-use Rattle.ir_hits.specs.Hits.{Numbered, IsFirstHit, IsLastHit, Finds}
+use Rattle.ir_hits.specs.Hits.{Numbered, IsLastHit}
 use Rattle.ir_hits.specs.Searching.{IsNextHit}
 use Rattle.ir_debug.specs.Machine.{Desk}
 use Rattle.ir_packet.specs.declared.reply.Reason.{Reason}
-use Rattle.ir_gdb.specs.declared.point.Breakpoint.{Breakpoint}
+use Rattle.ir_gdb.specs.Guards.{Guarded}
 use Rattle.ir_gdb.specs.declared.point.Watched.{Watched}
 use Rattle.ir_gdb.specs.declared.stopped.Stopped.{Stopped}
-use Rattle.ir_gdb.specs.Points.{watch_points, points_downwards}
+use Rattle.ir_gdb.specs.Points.{watch_points, points_downwards, watches_if, downwards_of}
+use Rattle.ir_gdb.specs.Conditions.{StopsUpwards, IsFirstStop}
 use Rattle.ir_gdb.specs.Serving.{Serving}
 use Rattle.ir_gdb.specs.Stub.{Stub, stub_spoken}
-use Rattle.ir_gdb.specs.Stops.{watches_if, downwards_of, position_of, WatchNext, StepsBy, StepsTo, after_step, StepsBackBy, StepsBackTo}
-use Rattle.ir_gdb.specs.Stops.{after_back, StopsBelow, BackBy, ContinuesBackBy, ContinuesBackTo, upwards_of, ContinuesTo, end_above}
-use Rattle.ir_gdb.specs.Stops.{end_below, watch_reason}
-use Rattle.ir_gdb.proofs.Bounds.{end_above_within_last}
+use Rattle.ir_gdb.specs.Stops.{position_of, WatchNext, StepsBy, StepsTo, after_step, StepsBackBy, StepsBackTo, after_back, StopsBelow}
+use Rattle.ir_gdb.specs.Stops.{BackBy, ContinuesBackBy, ContinuesBackTo, ContinuesTo, end_above, end_below, watch_reason}
 
 -- the value seen of what a function holds
 abbrev pub serving_seen : {a b : Serving} → a ≡ b → Serving
@@ -122,19 +120,19 @@ stops_below_from_spoken : (run : List Step) (s : Stub) (t : ℕ) (w : Bool) (to 
 stops_below_from_spoken run s t true to stops = stops
 stops_below_from_spoken run s t false to stops = stops
 
-pub search_is_downwards_of : (u : Stub) (t : ℕ) (w : Bool) (points : List Numbered) (ws : List Watched) (bs : List Breakpoint) (own : List Numbered)
+pub search_is_downwards_of : (u : Stub) (t : ℕ) (w : Bool) (points : List Numbered) (ws : List Watched) (bs : List Guarded) (own : List Numbered)
     → points ≡ points_downwards t ws bs own → ws ≡ watches_if u w → bs ≡ u.breaks → own ≡ u.desk.points → points ≡ downwards_of u t w
 search_is_downwards_of u t w points ws bs own is watches breaks mine =
-    is ∙ ap (λ (x : List Watched). points_downwards t x bs own) watches ∙ ap (λ (x : List Breakpoint). points_downwards t (watches_if u w) x own) breaks
+    is ∙ ap (λ (x : List Watched). points_downwards t x bs own) watches ∙ ap (λ (x : List Guarded). points_downwards t (watches_if u w) x own) breaks
     ∙ ap (λ (x : List Numbered). points_downwards t (watches_if u w) u.breaks x) mine
 
-pub search_end_stops_below : (s u : Stub) (e : Desk) (t : ℕ) (w : Bool) (points : List Numbered) (hit : Option Hit) (ws : List Watched) (bs : List Breakpoint)
+pub search_end_stops_below : (s u : Stub) (e : Desk) (t : ℕ) (w : Bool) (points : List Numbered) (hit : Option Hit) (ws : List Watched) (bs : List Guarded)
     (to : Stopped) → u ≡ stub_spoken s → points ≡ downwards_of u t w
     → EachRun u.desk.fitted (λ run. IsLastHit u.desk.fitted run points t (position_of u t) hit) → ws ≡ watches_if (record u { desk = e }) w
     → bs ≡ u.breaks → to ≡ end_below ws bs hit → EachRun s.desk.fitted (λ run. StopsBelow run s t w to)
 search_end_stops_below s u e t w points hit ws bs to same are finds watches breaks is run whole =
     let end = is ∙ ap (λ (x : List Watched). end_below x bs hit) (watches ∙ watches_if_ignores_desk u e w)
-    ∙ ap (λ (x : List Breakpoint). end_below (watches_if u w) x hit) breaks in
+    ∙ ap (λ (x : List Guarded). end_below (watches_if u w) x hit) breaks in
     let stops : EachRun u.desk.fitted (λ r. StopsBelow r u t w to) = λ r all.
     (hit, subst (λ (ps : List Numbered). IsLastHit u.desk.fitted r ps t (position_of u t) hit) are (finds r all), end) in
     stops_below_from_spoken run s t w to (subst (λ (x : Stub). EachRun x.desk.fitted (λ r. StopsBelow r x t w to)) same stops run whole)
@@ -153,30 +151,13 @@ continues_back_to_stop s u t w why to same above next none stops run whole =
     continues_back_by_stop run s t (position_of s t) w why to above (next run whole) none
     (stops_below_from_spoken run s t w to (subst (λ (x : Stub). EachRun x.desk.fitted (λ r. StopsBelow r x t w to)) same stops run whole))
 
-upwards_ignores_spoken : (s : Stub) (t : ℕ) (w : Bool) → upwards_of (stub_spoken s) t w ≡ upwards_of s t w
-upwards_ignores_spoken s t true = refl
-upwards_ignores_spoken s t false = refl
-
-continues_from_spoken : (run : List Step) (s : Stub) (t : ℕ) (w : Bool) (to : Stopped) → ContinuesTo run (stub_spoken s) t w to → ContinuesTo run s t w to
-continues_from_spoken run s t true to stops = stops
-continues_from_spoken run s t false to stops = stops
-
-pub continues_to_search_end : (s u v : Stub) (e : Desk) (t last : ℕ) (w : Bool) (points : List Numbered) (hit : Option Hit) (ws : List Watched) (bs : List Breakpoint)
-    (to : Stopped) → u ≡ stub_spoken s → v ≡ stub_spoken s → points ≡ upwards_of v t w
-    → EachRun u.desk.fitted (λ run. IsFirstHit u.desk.fitted run points t (position_of u t) hit) → ws ≡ watches_if (record u { desk = e }) w
-    → bs ≡ u.breaks → last ≡ last_of u.desk.fitted t → to ≡ end_above ws bs last hit → EachRun s.desk.fitted (λ run. ContinuesTo run s t w to)
-continues_to_search_end s u v e t last w points hit ws bs to same other are finds watches breaks at is run whole =
-    let end = is ∙ ap (λ (x : List Watched). end_above x bs last hit) (watches ∙ watches_if_ignores_desk u e w)
-    ∙ ap (λ (x : List Breakpoint). end_above (watches_if u w) x last hit) breaks ∙ ap (λ (n : ℕ). end_above (watches_if u w) u.breaks n hit) at in
-    let mine = are ∙ ap (λ (x : Stub). upwards_of x t w) (other ∙ sym same) in
-    let stops : EachRun u.desk.fitted (λ r. ContinuesTo r u t w to) = λ r all.
-    (hit, subst (λ (ps : List Numbered). IsFirstHit u.desk.fitted r ps t (position_of u t) hit) mine (finds r all), end) in
-    continues_from_spoken run s t w to (subst (λ (x : Stub). EachRun x.desk.fitted (λ r. ContinuesTo r x t w to)) same stops run whole)
-
--- the end of a search upwards is at a position of the thread
-pub search_end_within_last : (f other : FittedTrace) (points : List Numbered) (t p last : ℕ) (ws : List Watched) (bs : List Breakpoint) (hit : Option Hit)
-    (to : Stopped) → f ≡ other → HasRun f → t < threads_of f → EachRun f (λ run. Finds run f points t p Forwards hit) → last ≡ last_of f t
-    → to ≡ end_above ws bs last hit → to.position ≤ last_of other t
-search_end_within_last f other points t p last ws bs hit to same has l finds at is =
-    let end = subst (λ (n : ℕ). (end_above ws bs n hit).position ≤ last_of f t) (sym at) (end_above_within_last f points t p ws bs hit has l finds) in
-    subst (λ (g : FittedTrace). to.position ≤ last_of g t) same (subst (λ (x : Stopped). x.position ≤ last_of f t) (sym is) end)
+pub continues_to_first_stop : (s u : Stub) (t last : ℕ) (w : Bool) (hit : Option Hit) (ws : List Watched) (bs : List Guarded) (to : Stopped) → u ≡ stub_spoken s
+    → EachRun s.desk.fitted (λ run. IsFirstStop (StopsUpwards run s t w) (position_of s t) hit) → ws ≡ watches_if u w → bs ≡ u.breaks
+    → last ≡ last_of s.desk.fitted t → to ≡ end_above ws bs last hit → EachRun s.desk.fitted (λ run. ContinuesTo run s t w to)
+continues_to_first_stop s u t last w hit ws bs to same finds watches breaks at is run whole = (
+  hit,
+  finds run whole,
+  is ∙ ap (λ (x : List Watched). end_above x bs last hit) (watches ∙ watches_if_ignores_spoken s u w same)
+      ∙ ap (λ (x : List Guarded). end_above (watches_if s w) x last hit) (breaks ∙ ap (λ (x : Stub). x.breaks) same)
+      ∙ ap (λ (n : ℕ). end_above (watches_if s w) s.breaks n hit) at,
+)

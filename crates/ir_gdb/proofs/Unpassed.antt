@@ -5,24 +5,23 @@ use Rattle.std.specs.Prelude.{◌&&◌, ◌==◌, not, nat_lt, length, option_ma
 use Rattle.std.proofs.lemmas.Bool.{cases_eq, cases_lt, eqb-true, or_parts}
 use Rattle.ir_lemmas.proofs.CallerLemmas.{conjunction_with_false}
 use Rattle.ir_runs.specs.Run.{Step}
-use Rattle.ir_fit.specs.Fit.{FittedTrace}
 use Rattle.ir_cut.specs.Positions.{cut_of, threads_of, last_of}
 use Rattle.ir_command.specs.declared.command.Direction.{Direction}
 use Rattle.ir_command.specs.declared.command.Direction.TheVariants.{Forwards, Backwards}
 use Rattle.ir_command.specs.declared.hit.Hit.{Hit}
-use Rattle.ir_hits.specs.Hits.{Numbered, HitByNumber, NoneWithin, IsLowest, IsFirstHit}
 use Rattle.ir_hits.specs.Searching.{IsNextHit}
 use Rattle.ir_packet.specs.declared.reply.Reason.{Reason}
 use Rattle.ir_packet.specs.declared.request.Motion.{Motion}
 use Rattle.ir_packet.specs.declared.request.Motion.TheVariants as motion
-use Rattle.ir_gdb.specs.declared.point.Breakpoint.{Breakpoint}
 use Rattle.ir_gdb.specs.declared.point.Watched.{Watched}
 use Rattle.ir_gdb.specs.declared.stopped.Stopped.{Stopped}
-use Rattle.ir_gdb.specs.Points.{watch_points}
+use Rattle.ir_gdb.specs.Guards.{Guarded, place_of}
+use Rattle.ir_gdb.specs.Points.{watch_points, watches_if}
+use Rattle.ir_gdb.specs.Conditions.{StopsUpwards, NoneStopsWithin, IsLowestThat, IsFirstStop, IsNextStop}
 use Rattle.ir_gdb.specs.Stub.{Stub}
-use Rattle.ir_gdb.specs.Stops.{stopped, position_of, watches_if, upwards_of, break_reason, watch_reason, stop_above, end_above, is_hit}
-use Rattle.ir_gdb.specs.Stops.{after_step, StepsBy, StepsTo, end_of_range, after_range, Leaves, RangesTo, after_back, StepsBackBy}
-use Rattle.ir_gdb.specs.Stops.{StopsInDirection, direction_of, reason_at_end}
+use Rattle.ir_gdb.specs.Stops.{stopped, position_of, break_reason, watch_reason, stop_above, end_above, is_hit, after_step, StepsBy}
+use Rattle.ir_gdb.specs.Stops.{StepsTo, end_of_range, after_range, Leaves, RangesTo, after_back, StepsBackBy, StopsInDirection}
+use Rattle.ir_gdb.specs.Stops.{direction_of, reason_at_end}
 use Rattle.ir_gdb.specs.Together.{Halt, halt, Comes, stop_among, AreStops, is_on_way, meets, FirstMet, halt_or, moves, moves_other, MetBy}
 use Rattle.ir_gdb.specs.Together.{own_halt, met_or, StopsAmong, FirstStop, furthest, ContinuesAmong, MovesAmong}
 use Rattle.ir_gdb.specs.Laws.{MeetsNone, PassesNone, PassesNoHit, Stands}
@@ -105,28 +104,26 @@ step_back_is_move run s t (suc p) to here (why, (hit, next, told), is) = by hit 
 -- ---- a range
 
 -- the first hit of a thread in a window is its first of all
-first_hit_position_unique : (f : FittedTrace) (run : List Step) (points : List Numbered) (t p to : ℕ) (h k : Hit) → IsNextHit f run points t p to (Some h)
-    → IsFirstHit f run points t p (Some k) → h.position ≡ k.position
-first_hit_position_unique f run points t p to h k next first = elim (cases_lt h.position k.position) [
-  | inl less ↦ (let up = next.0 in absurd (first.1 h.position h.number up less next.3.hits))
+first_hit_position_unique : (P : ℕ → ℕ → Type 0) (p to : ℕ) (h k : Hit) → IsNextStop P p to (Some h) → IsFirstStop P p (Some k) → h.position ≡ k.position
+first_hit_position_unique P p to h k next first = elim (cases_lt h.position k.position) [
+  | inl less ↦ (let up = next.0 in absurd (first.1 h.position h.number up less next.3.stops))
   | inr from ↦ elim (cases_lt k.position h.position) [
-    | inl less ↦ (let up = first.0 in absurd (next.2 k.position k.number up less first.2.hits))
+    | inl less ↦ (let up = first.0 in absurd (next.2 k.position k.number up less first.2.stops))
     | inr back ↦ omega (arith, from, back)
   ]
 ]
 
-lowest_number_unique : (f : FittedTrace) (run : List Step) (points : List Numbered) (t i j n m : ℕ) → i ≡ j → IsLowest f run points t i n
-    → IsLowest f run points t j m → n ≡ m
-lowest_number_unique f run points t i j n m same one two =
-    let le = one.lowest m (subst (λ (k : ℕ). HitByNumber f run points t k m) (sym same) two.hits) in
-    let ge = two.lowest n (subst (λ (k : ℕ). HitByNumber f run points t k n) same one.hits) in
+lowest_number_unique : (P : ℕ → ℕ → Type 0) (i j n m : ℕ) → i ≡ j → IsLowestThat P i n → IsLowestThat P j m → n ≡ m
+lowest_number_unique P i j n m same one two =
+    let le = one.lowest m (subst (λ (k : ℕ). P k m) (sym same) two.stops) in
+    let ge = two.lowest n (subst (λ (k : ℕ). P k n) same one.stops) in
     omega (arith, le, ge)
 
-stop_above_at : List Watched → List Breakpoint → ℕ → ℕ → ℕ
+stop_above_at : List Watched → List Guarded → ℕ → ℕ → ℕ
 stop_above_at ws bs position number = (if nat_lt number (length ws) then stopped (position - 1) (watch_reason ws number)
-    else stopped position (break_reason bs (number - length ws))).position
+    else stopped position (break_reason bs (place_of number - length ws))).position
 
-stop_above_by_equal_hits : (ws : List Watched) (bs : List Breakpoint) (h k : Hit) → h.position ≡ k.position → h.number ≡ k.number
+stop_above_by_equal_hits : (ws : List Watched) (bs : List Guarded) (h k : Hit) → h.position ≡ k.position → h.number ≡ k.number
     → (stop_above ws bs h).position ≡ (stop_above ws bs k).position
 unfolding stop_above_at
 stop_above_by_equal_hits ws bs h k place number = ap (λ (p : ℕ). stop_above_at ws bs p h.number) place ∙ ap (λ (n : ℕ). stop_above_at ws bs k.position n) number
@@ -142,14 +139,14 @@ range_ends_ahead run s t low high (Some k) within leaves = let up = leaves.0 in 
 
 -- it ends where it leaves the range
 range_to_end_is_move : (run : List Step) (s : Stub) (t end : ℕ) (to : Stopped) → position_of s t ≤ end → to.position ≡ end
-    → NoneWithin s.desk.fitted run (upwards_of s t true) t (suc (position_of s t)) (suc end) → IsMove run s Forwards t to
+    → NoneStopsWithin (StopsUpwards run s t true) (suc (position_of s t)) (suc end) → IsMove run s Forwards t to
 range_to_end_is_move run s t end to ahead at none = record {
   ahead = omega (arith, ahead, at);
   none = λ j n low high hits. none j n low (omega (arith, high, at)) hits;
   near = λ own goes k moved up hit way. by own goes k hit way;
 }
   where
-    of_hit : (own : Stopped) (other : Option Hit) → IsFirstHit s.desk.fitted run (upwards_of s t true) t (position_of s t) other
+    of_hit : (own : Stopped) (other : Option Hit) → IsFirstStop (StopsUpwards run s t true) (position_of s t) other
         → own ≡ end_above (watches_if s true) s.breaks (last_of s.desk.fitted t) other → (k : ℕ) → is_hit own.reason ≡ true → own.position ≤ k → to.position ≤ k
     of_hit own None first ends k hit way = absurd (true≢false (sym hit ∙ ap (λ (x : Stopped). is_hit x.reason) ends))
     of_hit own (Some h) first ends k hit way = elim (cases_lt end h.position) [
@@ -157,14 +154,14 @@ range_to_end_is_move run s t end to ahead at none = record {
           let place = ap (λ (x : Stopped). x.position) ends in
           let next = hit_le_suc_stop_above (watches_if s true) s.breaks h in
           omega (arith, less, place, next, way, at)
-      | inr from ↦ (let up = first.0 in absurd (none h.position h.number up (omega (arith, from)) first.2.hits))
+      | inr from ↦ (let up = first.0 in absurd (none h.position h.number up (omega (arith, from)) first.2.stops))
     ]
 
     by : (own : Stopped) → StopsInDirection Forwards run s t true own → (k : ℕ) → is_hit own.reason ≡ true → own.position ≤ k → to.position ≤ k
     by own (other, first, ends) k hit way = of_hit own other first ends k hit way
 
 -- or at a hit
-range_to_hit_is_move : (run : List Step) (s : Stub) (t end : ℕ) (h : Hit) (to : Stopped) → IsNextHit s.desk.fitted run (upwards_of s t true) t (position_of s t) end (Some h)
+range_to_hit_is_move : (run : List Step) (s : Stub) (t end : ℕ) (h : Hit) (to : Stopped) → IsNextStop (StopsUpwards run s t true) (position_of s t) end (Some h)
     → to ≡ stop_above (watches_if s true) s.breaks h → IsMove run s Forwards t to
 range_to_hit_is_move run s t end h to next is =
     let at = ap (λ (x : Stopped). x.position) is in
@@ -177,12 +174,12 @@ range_to_hit_is_move run s t end h to next is =
       near = λ own goes k moved up hit way. by own goes k hit way;
     }
   where
-    of_hit : (own : Stopped) (other : Option Hit) → IsFirstHit s.desk.fitted run (upwards_of s t true) t (position_of s t) other
+    of_hit : (own : Stopped) (other : Option Hit) → IsFirstStop (StopsUpwards run s t true) (position_of s t) other
         → own ≡ end_above (watches_if s true) s.breaks (last_of s.desk.fitted t) other → (k : ℕ) → is_hit own.reason ≡ true → own.position ≤ k → to.position ≤ k
     of_hit own None first ends k hit way = absurd (true≢false (sym hit ∙ ap (λ (x : Stopped). is_hit x.reason) ends))
     of_hit own (Some other) first ends k hit way =
-        let place = first_hit_position_unique s.desk.fitted run (upwards_of s t true) t (position_of s t) end h other next first in
-        let number = lowest_number_unique s.desk.fitted run (upwards_of s t true) t h.position other.position h.number other.number place next.3 first.2 in
+        let place = first_hit_position_unique (StopsUpwards run s t true) (position_of s t) end h other next first in
+        let number = lowest_number_unique (StopsUpwards run s t true) h.position other.position h.number other.number place next.3 first.2 in
         let same = stop_above_by_equal_hits (watches_if s true) s.breaks h other place number in
         let here = ap (λ (x : Stopped). x.position) is in
         let there = ap (λ (x : Stopped). x.position) ends in

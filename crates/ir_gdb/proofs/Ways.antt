@@ -8,17 +8,17 @@ use Rattle.ir_cut.specs.Positions.{last_of}
 use Rattle.ir_command.specs.declared.command.Direction.{Direction}
 use Rattle.ir_command.specs.declared.command.Direction.TheVariants.{Forwards, Backwards}
 use Rattle.ir_command.specs.declared.hit.Hit.{Hit}
-use Rattle.ir_hits.specs.Hits.{Numbered, HitByNumber, NoneWithin, IsFirstHit, IsLastHit}
+use Rattle.ir_hits.specs.Hits.{Numbered, HitByNumber, NoneWithin, IsLastHit}
 use Rattle.ir_hits.specs.Searching.{IsNextHit}
 use Rattle.ir_packet.specs.declared.reply.Reason.{Reason}
-use Rattle.ir_gdb.specs.declared.point.Breakpoint.{Breakpoint}
 use Rattle.ir_gdb.specs.declared.point.Watched.{Watched}
 use Rattle.ir_gdb.specs.declared.stopped.Stopped.{Stopped}
-use Rattle.ir_gdb.specs.Points.{watch_points}
+use Rattle.ir_gdb.specs.Guards.{Guarded, place_of}
+use Rattle.ir_gdb.specs.Points.{watch_points, watches_if, downwards_of}
+use Rattle.ir_gdb.specs.Conditions.{StopsUpwards, NoneStopsWithin, IsFirstStop}
 use Rattle.ir_gdb.specs.Stub.{Stub}
-use Rattle.ir_gdb.specs.Stops.{stopped, position_of, watches_if, upwards_of, downwards_of, reason_of_break, reason_of_watch, break_of}
-use Rattle.ir_gdb.specs.Stops.{break_reason, watch_reason, stop_above, stop_below, end_above, end_below, is_hit, ContinuesTo, BackBy}
-use Rattle.ir_gdb.specs.Stops.{ContinuesBackBy, StopsInDirection}
+use Rattle.ir_gdb.specs.Stops.{stopped, position_of, reason_of_break, reason_of_watch, break_of, break_reason, watch_reason, stop_above}
+use Rattle.ir_gdb.specs.Stops.{stop_below, end_above, end_below, is_hit, ContinuesTo, BackBy, ContinuesBackBy, StopsInDirection}
 use Rattle.ir_gdb.specs.Together.{is_on_way}
 use Rattle.ir_gdb.specs.Laws.{MeetsNone, PassesNone}
 
@@ -36,36 +36,36 @@ break_is_hit : (hardware : Bool) → is_hit (break_of hardware) ≡ true
 break_is_hit true = refl
 break_is_hit false = refl
 
-break_reason_is_hit : (point : Option Breakpoint) → is_hit (reason_of_break point) ≡ true
+break_reason_is_hit : (point : Option Guarded) → is_hit (reason_of_break point) ≡ true
 break_reason_is_hit None = refl
-break_reason_is_hit (Some b) = break_is_hit b.hardware
+break_reason_is_hit (Some b) = break_is_hit b.point.hardware
 
 -- ---- upwards
 
--- where thread u stops at `to` from p on, and no point hits it before
-record StopsAbove (f : FittedTrace) (run : List Step) (points : List Numbered) (u p : ℕ) (to : Stopped) : Type 0 where
-  met : (j n : ℕ) → p < j → HitByNumber f run points u j n → (is_hit to.reason ≡ true) × (to.position ≤ j)
-  none : NoneWithin f run points u (suc p) to.position
+-- a thread stops at `to` from p on, and no point of which P says that it stops does so before
+record StopsAbove (P : ℕ → ℕ → Type 0) (p : ℕ) (to : Stopped) : Type 0 where
+  met : (j n : ℕ) → p < j → P j n → (is_hit to.reason ≡ true) × (to.position ≤ j)
+  none : NoneStopsWithin P (suc p) to.position
 
-stop_above_is_hit : (ws : List Watched) (bs : List Breakpoint) (h : Hit) → is_hit (stop_above ws bs h).reason ≡ true
+stop_above_is_hit : (ws : List Watched) (bs : List Guarded) (h : Hit) → is_hit (stop_above ws bs h).reason ≡ true
 stop_above_is_hit ws bs h = choice_has_property (λ x. is_hit x.reason ≡ true) (nat_lt h.number (length ws)) (stopped (h.position - 1) (watch_reason ws h.number))
-    (stopped h.position (break_reason bs (h.number - length ws))) (watch_reason_is_hit (slice_get ws h.number)) (break_reason_is_hit (slice_get bs (h.number - length ws)))
+    (stopped h.position (break_reason bs (place_of h.number - length ws))) (watch_reason_is_hit (slice_get ws h.number)) (break_reason_is_hit (slice_get bs (place_of h.number - length ws)))
 
-pub stop_above_le_hit : (ws : List Watched) (bs : List Breakpoint) (h : Hit) → (stop_above ws bs h).position ≤ h.position
+pub stop_above_le_hit : (ws : List Watched) (bs : List Guarded) (h : Hit) → (stop_above ws bs h).position ≤ h.position
 stop_above_le_hit ws bs h = choice_has_property (λ x. x.position ≤ h.position) (nat_lt h.number (length ws)) (stopped (h.position - 1) (watch_reason ws h.number))
-    (stopped h.position (break_reason bs (h.number - length ws))) (omega arith) (omega arith)
+    (stopped h.position (break_reason bs (place_of h.number - length ws))) (omega arith) (omega arith)
 
-pub hit_le_suc_stop_above : (ws : List Watched) (bs : List Breakpoint) (h : Hit) → h.position ≤ suc (stop_above ws bs h).position
+pub hit_le_suc_stop_above : (ws : List Watched) (bs : List Guarded) (h : Hit) → h.position ≤ suc (stop_above ws bs h).position
 hit_le_suc_stop_above ws bs h = choice_has_property (λ x. h.position ≤ suc x.position) (nat_lt h.number (length ws)) (stopped (h.position - 1) (watch_reason ws h.number))
-    (stopped h.position (break_reason bs (h.number - length ws))) (omega arith) (omega arith)
+    (stopped h.position (break_reason bs (place_of h.number - length ws))) (omega arith) (omega arith)
 
-first_hit_stops_above : (f : FittedTrace) (run : List Step) (points : List Numbered) (u p last : ℕ) (ws : List Watched) (bs : List Breakpoint) (hit : Option Hit)
-    → IsFirstHit f run points u p hit → StopsAbove f run points u p (end_above ws bs last hit)
-first_hit_stops_above f run points u p last ws bs None finds = record {
+first_hit_stops_above : (P : ℕ → ℕ → Type 0) (p last : ℕ) (ws : List Watched) (bs : List Guarded) (hit : Option Hit)
+    → IsFirstStop P p hit → StopsAbove P p (end_above ws bs last hit)
+first_hit_stops_above P p last ws bs None finds = record {
   met = λ j n above hits. absurd (finds j n above hits);
   none = λ j n low high hits. finds j n low hits;
 }
-first_hit_stops_above f run points u p last ws bs (Some h) finds =
+first_hit_stops_above P p last ws bs (Some h) finds =
     let below = stop_above_le_hit ws bs h in
     record {
       met = λ j n above hits. (
@@ -79,9 +79,9 @@ first_hit_stops_above f run points u p last ws bs (Some h) finds =
     }
 
 continuing_stops_above : (run : List Step) (s : Stub) (u : ℕ) (w : Bool) (to : Stopped) → ContinuesTo run s u w to
-    → StopsAbove s.desk.fitted run (upwards_of s u w) u (position_of s u) to
-continuing_stops_above run s u w to (hit, finds, ends) = subst (StopsAbove s.desk.fitted run (upwards_of s u w) u (position_of s u)) (sym ends)
-    (first_hit_stops_above s.desk.fitted run (upwards_of s u w) u (position_of s u) _ (watches_if s w) s.breaks hit finds)
+    → StopsAbove (StopsUpwards run s u w) (position_of s u) to
+continuing_stops_above run s u w to (hit, finds, ends) = subst (StopsAbove (StopsUpwards run s u w) (position_of s u)) (sym ends)
+    (first_hit_stops_above (StopsUpwards run s u w) (position_of s u) _ (watches_if s w) s.breaks hit finds)
 
 -- ---- downwards
 
@@ -92,15 +92,15 @@ record StopsUnder (f : FittedTrace) (run : List Step) (points watches : List Num
   behind : to.position ≤ p
   here : (n : ℕ) → 0 < p → HitByNumber f run watches u p n → (is_hit to.reason ≡ true) × (to.position ≡ p)
 
-stop_below_is_hit : (ws : List Watched) (bs : List Breakpoint) (h : Hit) → is_hit (stop_below ws bs h).reason ≡ true
-stop_below_is_hit ws bs h = choice_has_property (λ x. is_hit x.reason ≡ true) (nat_lt h.number (length bs)) (stopped h.position (break_reason bs h.number))
-    (stopped h.position (watch_reason ws (h.number - length bs))) (break_reason_is_hit (slice_get bs h.number)) (watch_reason_is_hit (slice_get ws (h.number - length bs)))
+stop_below_is_hit : (ws : List Watched) (bs : List Guarded) (h : Hit) → is_hit (stop_below ws bs h).reason ≡ true
+stop_below_is_hit ws bs h = choice_has_property (λ x. is_hit x.reason ≡ true) (nat_lt (place_of h.number) (length bs)) (stopped h.position (break_reason bs (place_of h.number)))
+    (stopped h.position (watch_reason ws (h.number - length bs))) (break_reason_is_hit (slice_get bs (place_of h.number))) (watch_reason_is_hit (slice_get ws (h.number - length bs)))
 
-stop_below_at_hit : (ws : List Watched) (bs : List Breakpoint) (h : Hit) → (stop_below ws bs h).position ≡ h.position
-stop_below_at_hit ws bs h = choice_has_property (λ x. x.position ≡ h.position) (nat_lt h.number (length bs)) (stopped h.position (break_reason bs h.number))
+stop_below_at_hit : (ws : List Watched) (bs : List Guarded) (h : Hit) → (stop_below ws bs h).position ≡ h.position
+stop_below_at_hit ws bs h = choice_has_property (λ x. x.position ≡ h.position) (nat_lt (place_of h.number) (length bs)) (stopped h.position (break_reason bs (place_of h.number)))
     (stopped h.position (watch_reason ws (h.number - length bs))) refl refl
 
-last_hit_stops_under : (f : FittedTrace) (run : List Step) (points watches : List Numbered) (u p : ℕ) (ws : List Watched) (bs : List Breakpoint) (hit : Option Hit)
+last_hit_stops_under : (f : FittedTrace) (run : List Step) (points watches : List Numbered) (u p : ℕ) (ws : List Watched) (bs : List Guarded) (hit : Option Hit)
     → ((n : ℕ) → HitByNumber f run watches u p n → ⊥) → IsLastHit f run points u p hit → StopsUnder f run points watches u p (end_below ws bs hit)
 last_hit_stops_under f run points watches u p ws bs None free finds = record {
   met = λ j n below hits. absurd (finds j n (omega arith) below hits);

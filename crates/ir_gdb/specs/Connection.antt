@@ -12,15 +12,18 @@ use Rattle.ir_debug.specs.Machine.{Desk}
 use Rattle.ir_debug.specs.Machine as session
 use Rattle.ir_packet.specs.Packets.{packet_of}
 use Rattle.ir_packet.specs.Replies.{reply_text, output_reply}
-use Rattle.ir_packet.specs.Requests.{request_of, console_line}
+use Rattle.ir_packet.specs.Requests.{request_of, console_line, break_conditions}
 use Rattle.ir_packet.specs.Reading.{Reading}
 use Rattle.ir_packet.specs.Stream.{Item, items, Packet, BadSum, TooLong, Interrupt, Acknowledged, Refused}
+use Rattle.ir_packet.specs.declared.reply.Reply.{Reply}
 use Rattle.ir_packet.specs.declared.reply.Reply.TheVariants as reply
 use Rattle.ir_packet.specs.declared.request.Request.{Request}
 use Rattle.ir_packet.specs.declared.request.Request.TheVariants as request
 use Rattle.ir_gdb.specs.declared.console.Answered.{Answered}
 use Rattle.ir_gdb.specs.Stub.{Stub}
-use Rattle.ir_gdb.specs.Replies.{RepliesTo}
+use Rattle.ir_gdb.specs.Guards.{Guarded, guarded}
+use Rattle.ir_gdb.specs.Setting.{break_setting, setting_reply, with_break}
+use Rattle.ir_gdb.specs.Replies.{RepliesTo, breakpoint}
 
 pub record Link : Type 0 where
   pub stub : Stub
@@ -97,6 +100,18 @@ AnswersLine false l line text next =
     ⊎ (((next ≡ sent l l.stub (packet_of (reply_text reply.NoMemory)))
     ⊎ ((s : Stub) × Responds l.stub line s (λ answer. ⊤) × (next ≡ sent l s (packet_of (reply_text reply.NoMemory))))) × (text ≡ packet_of (reply_text reply.NoMemory)))
 
+-- ---- a breakpoint with conditions
+
+-- the reply, and the link before it is written: there may be no memory to keep the conditions
+abbrev pub IsBreakSet : Link → Guarded → Reply → Link → Type 0
+IsBreakSet l b r mid = ((r ≡ setting_reply (break_setting l.stub b.point)) × (mid ≡ record l { stub = with_break l.stub b }))
+    ⊎ ((r ≡ reply.NoMemory) × (mid ≡ l))
+
+-- `Z0`, `Z1` with conditions
+abbrev pub SetsBreak : Link → Guarded → List ℕ → Link → Type 0
+SetsBreak l b text next = (r : Reply) × (mid : Link) × IsBreakSet l b r mid × (text ≡ packet_of (reply_text r))
+    × (next ≡ sent mid mid.stub (packet_of (reply_text r)))
+
 -- ---- packets
 
 -- the reply to a request, as a packet
@@ -112,6 +127,8 @@ abbrev pub AnswersRequest : Link → List ℕ → Request → List ℕ → Link 
 AnswersRequest l payload request.Kill text next = (text ≡ []) × (next ≡ l)
 AnswersRequest l payload request.Console text next = AnswersLine (session.quits (console_line payload)) l (console_line payload) text next
 AnswersRequest l payload request.NoAcknowledgements text next = (text ≡ packet_of (reply_text reply.Done)) × (next ≡ unacknowledged (sent l l.stub (packet_of (reply_text reply.Done))))
+AnswersRequest l payload (request.SetBreakIf address hardware) text next =
+    SetsBreak l (guarded (breakpoint address hardware) (break_conditions payload)) text next
 AnswersRequest l payload asked text next = RepliesToItem l asked text next
 
 abbrev pub AnswersPacket : Link → List ℕ → List ℕ → Link → Type 0

@@ -1,8 +1,9 @@
 -- What holds of gdb's moves, whichever packets ask for them.
-use Rattle.std.specs.Prelude.{◌≡◌, ◌≢◌, ◌<◌, ◌⊎◌, ◌==◌, ℕ, suc, ◌+◌, ◌++◌, Bool, true, false, List, [], ◌∷◌, length, slice_get, Some, None}
+use Rattle.std.specs.Prelude.{◌≡◌, ◌≢◌, ◌<◌, ◌⊎◌, ◌==◌, ℕ, suc, ◌+◌, ◌++◌, Bool, true, false, List, [], ◌∷◌, length, map, slice_get, Some, None}
 use Rattle.ir_runs.specs.Run.{Step, IsCut, Consistent}
 use Rattle.ir_fit.specs.Fit.{IsRunOf}
-use Rattle.ir_cut.specs.Positions.{machine_of, start_of, cut_of, threads_of}
+use Rattle.ir_cut.specs.Positions.{machine_of, start_of, cut_of, threads_of, thread_at}
+use Rattle.std.specs.List.{AllByRecursion}
 use Rattle.ir_hits.specs.Hits.{HitByNumber, NoneWithin}
 use Rattle.ir_command.specs.declared.command.Direction.{Direction}
 use Rattle.ir_command.specs.declared.command.Command.{Command}
@@ -13,10 +14,12 @@ use Rattle.ir_debug.specs.Machine.{Desk, CarriesOut, moved_to}
 use Rattle.ir_packet.specs.declared.reply.Reason.TheVariants as reason
 use Rattle.ir_packet.specs.declared.request.Motion.{Motion}
 use Rattle.ir_packet.specs.declared.request.Motion.TheVariants as motion
-use Rattle.ir_gdb.specs.Stub.{Stub}
+use Rattle.ir_gdb.specs.Stub.{Stub, IsStub}
 use Rattle.ir_gdb.specs.declared.stopped.Stopped.{Stopped}
-use Rattle.ir_gdb.specs.Points.{watch_points, break_points}
-use Rattle.ir_gdb.specs.Stops.{position_of, watches_if, upwards_of, downwards_of, is_hit, direction_of}
+use Rattle.ir_gdb.specs.Guards.{Guarded, has_guard, is_guarded, without_conditions}
+use Rattle.ir_gdb.specs.Points.{watch_points, break_points, watches_if, upwards_of, downwards_of}
+use Rattle.ir_gdb.specs.Conditions.{StopsUpwards, NoneStopsWithin, seen_at, is_met_at}
+use Rattle.ir_gdb.specs.Stops.{position_of, is_hit, direction_of}
 use Rattle.ir_gdb.specs.Together.{Halt, halt, Comes, stop_among, AreStops, meets, FirstMet, ContinuesAmong, MovesAmong}
 use Rattle.ir_gdb.specs.declared.stopped.Moving.{Moving}
 use Rattle.ir_gdb.specs.Endings.{signal_of, end_of_thread, is_end_of_thread, is_thread_over}
@@ -25,10 +28,10 @@ use Rattle.ir_gdb.specs.Over.{waits, pc_here, OtherHasHit, LeadsAlone}
 
 -- ---- a thread that moves alone
 
--- a session in which `break T A` has set each of gdb's breakpoints for a thread, behind the session's own points
+-- a session in which `break T A` has set each of gdb's breakpoints for a thread, behind the session's own points. It has no conditions
 abbrev pub session_of : Stub → ℕ → Desk
 session_of s t = record s.desk {
-  points = s.desk.points ++ break_points t (s.desk.last_point + 1) s.breaks;
+  points = s.desk.points ++ break_points t (s.desk.last_point + 1) (map without_conditions s.breaks);
   last_point = s.desk.last_point + length s.breaks;
 }
 
@@ -44,9 +47,10 @@ pub record LeadsLone (run : List Step) (s : Stub) (t : ℕ) (m : Motion) (h : Ha
   pub free : waits s t ≡ false
   pub leads : LeadsAlone run s t m h
 
--- `c` ends where `cont T` does
+-- `c` ends where `cont T` does, if no breakpoint has conditions
 abbrev pub ContinueIsSession : Type 0
-ContinueIsSession = (run : List Step) (s : Stub) (t : ℕ) (h : Halt) → LeadsLone run s t motion.Continue h
+ContinueIsSession = (run : List Step) (s : Stub) (t : ℕ) (h : Halt) → IsStub s → AllByRecursion (λ b. is_guarded b ≡ false) s.breaks
+    → LeadsLone run s t motion.Continue h
     → (h.thread ≡ t) × SessionGoes run s t (command.Continue t Forwards) h.cut
 
 -- `bc` ends where `rcont T` does
@@ -71,15 +75,15 @@ StepBackIsSession = (run : List Step) (s : Stub) (t : ℕ) (h : Halt) → LeadsL
 
 -- ---- threads that move together
 
--- no point hits thread u on its way to position k, nor there; and backwards no watch where it is, if it moves
+-- no point stops thread u on its way to position k, nor there; and backwards no watch hits it where it is, if it moves
 abbrev pub MeetsNone : List Step → Stub → Direction → ℕ → Bool → ℕ → Type 0
-MeetsNone run s Forwards u watched k = NoneWithin s.desk.fitted run (upwards_of s u watched) u (suc (position_of s u)) (suc k)
+MeetsNone run s Forwards u watched k = NoneStopsWithin (StopsUpwards run s u watched) (suc (position_of s u)) (suc k)
 MeetsNone run s Backwards u watched k = NoneWithin s.desk.fitted run (downwards_of s u watched) u k (position_of s u)
     × (k < position_of s u → NoneWithin s.desk.fitted run (watch_points u 0 (watches_if s watched)) u (position_of s u) (suc (position_of s u)))
 
 -- none does before it comes to k
 abbrev pub PassesNone : List Step → Stub → Direction → ℕ → Bool → ℕ → Type 0
-PassesNone run s Forwards u watched k = NoneWithin s.desk.fitted run (upwards_of s u watched) u (suc (position_of s u)) k
+PassesNone run s Forwards u watched k = NoneStopsWithin (StopsUpwards run s u watched) (suc (position_of s u)) k
 PassesNone run s Backwards u watched k = NoneWithin s.desk.fitted run (downwards_of s u watched) u (suc k) (position_of s u)
     × (k < position_of s u → NoneWithin s.desk.fitted run (watch_points u 0 (watches_if s watched)) u (position_of s u) (suc (position_of s u)))
 
@@ -122,9 +126,9 @@ ContinuesToEnd run s d (m ∷ []) = (m.0 < threads_of s.desk.fitted) × Continue
 ContinuesToEnd run s d (m ∷ next ∷ ms) = (m.0 < threads_of s.desk.fitted) × ContinuesAmong run s m.0 d m.1 × (is_hit m.1.reason ≡ true)
     × ContinuesToEnd run (stub_behind s m.1) d (next ∷ ms)
 
--- a point hits thread u at position k, beyond its own
+-- a point hits thread u at position k, beyond its own; upwards a point without conditions
 abbrev pub IsHitBeyond : List Step → Stub → Direction → ℕ → ℕ → Type 0
-IsHitBeyond run s Forwards u k = (position_of s u < k) × ((n : ℕ) × HitByNumber s.desk.fitted run (upwards_of s u false) u k n)
+IsHitBeyond run s Forwards u k = (position_of s u < k) × ((n : ℕ) × HitByNumber s.desk.fitted run (upwards_of s u false) u k n × (has_guard n ≡ false))
 IsHitBeyond run s Backwards u k = (k < position_of s u) × ((n : ℕ) × HitByNumber s.desk.fitted run (downwards_of s u false) u k n)
 
 -- the stop of this number shows thread u so
@@ -135,10 +139,29 @@ ShowsAt ms u k i = (m : ℕ × Halt) × (slice_get ms i ≡ Some m) × ShowsHit 
 abbrev pub IsShownOnce : List (ℕ × Halt) → ℕ → ℕ → Type 0
 IsShownOnce ms u k = (i : ℕ) × ShowsAt ms u k i × ((j : ℕ) → ShowsAt ms u k j → j ≡ i)
 
--- `continue` repeated to the end shows each hit of each thread once; no watch is set
+-- `continue` repeated to the end shows each hit of each thread once, upwards each at a point without conditions; no watch is set
 abbrev pub EachHitIsShownOnce : Type 0
 EachHitIsShownOnce = (run : List Step) (s : Stub) (d : Direction) (ms : List (ℕ × Halt)) → Stands run s → s.watches ≡ [] → ContinuesToEnd run s d ms
     → (u k : ℕ) → u < threads_of s.desk.fitted → IsHitBeyond run s d u k → IsShownOnce ms u k
+
+-- no stop shows what another has shown, with conditions or without
+abbrev pub NoneIsShownTwice : Type 0
+NoneIsShownTwice = (run : List Step) (s : Stub) (d : Direction) (ms : List (ℕ × Halt)) → Stands run s → s.watches ≡ [] → ContinuesToEnd run s d ms
+    → (u k i j : ℕ) → ShowsAt ms u k i → ShowsAt ms u k j → i ≡ j
+
+-- only points with conditions hit thread u at position k
+abbrev pub IsConditional : List Step → Stub → ℕ → ℕ → Type 0
+IsConditional run s u k = (n : ℕ) → HitByNumber s.desk.fitted run (upwards_of s u false) u k n → has_guard n ≡ true
+
+-- the thread of a stop is at a breakpoint of which a condition is met by what is there
+abbrev pub IsConditionMet : List Step → Stub → Halt → Type 0
+IsConditionMet run s h = (i : ℕ) × (b : Guarded) × (slice_get s.breaks i ≡ Some b)
+    × (is_met_at (seen_at run s.desk.fitted (cut_of h.cut) h.thread) (thread_at s.desk.fitted run h.thread (cut_of h.cut h.thread)).core.pc b ≡ true)
+
+-- where `continue` shows a hit at points with conditions alone, one of them is met; no watch is set
+abbrev pub ShownConditionIsMet : Type 0
+ShownConditionIsMet = (run : List Step) (s : Stub) (t : ℕ) (h : Halt) → Stands run s → IsStub s → s.watches ≡ [] → t < threads_of s.desk.fitted
+    → ContinuesAmong run s t Forwards h → is_hit h.reason ≡ true → IsConditional run s h.thread (cut_of h.cut h.thread) → IsConditionMet run s h
 
 -- ---- bad ends
 

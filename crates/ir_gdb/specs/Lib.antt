@@ -1,9 +1,12 @@
 pub mod Fixed
+pub mod Guards
 pub mod Stub
 pub mod Serving
 pub mod Reads
 pub mod Points
 pub mod Setting
+pub mod Conditions
+pub mod Sight
 pub mod Stops
 pub mod Together
 pub mod Over

@@ -11,9 +11,9 @@ use Rattle.ir_packet.specs.declared.reply.Reason.TheVariants as reason
 use Rattle.ir_packet.specs.declared.request.Motion.{Motion}
 use Rattle.ir_packet.specs.declared.request.Motion.TheVariants as motion
 use Rattle.ir_gdb.specs.declared.stopped.Stopped.{Stopped}
-use Rattle.ir_gdb.specs.Points.{with_stub_point}
+use Rattle.ir_gdb.specs.Points.{upwards_of, with_stub_point}
 use Rattle.ir_gdb.specs.Stub.{Stub}
-use Rattle.ir_gdb.specs.Stops.{position_of, upwards_of, StepsTo}
+use Rattle.ir_gdb.specs.Stops.{position_of, StepsTo}
 use Rattle.ir_gdb.specs.Together.{Halt, halt, Comes, MovesAlone}
 
 -- the pc of a thread
@@ -24,7 +24,7 @@ pc_here run s t = (thread_at s.desk.fitted run t (position_of s t)).core.pc
 abbrev pub points_over : Stub → ℕ → ℕ → List Numbered
 points_over s pc u = with_stub_point (upwards_of s u false) u pc
 
--- the first hit of thread u on its way to a cut, if there is one
+-- the first hit of thread u on its way to a cut, if there is one. Conditions count for nothing: gdb lets all threads go on, and they are looked at then
 abbrev pub OnWay : List Step → Stub → ℕ → List ℕ → ℕ → Option Hit → Type 0
 OnWay run s pc cut u hit = IsNextHit s.desk.fitted run (points_over s pc u) u (position_of s u) (cut_of cut u) hit
 

@@ -6,7 +6,7 @@ use Rattle.ir_mach.specs.Core.{Core}
 use Rattle.ir_mach.specs.Execution.{byte_at}
 use Rattle.ir_mach.specs.Within.{byte_in_word}
 use Rattle.ir_thread.specs.State as thread
-use Rattle.ir_runs.specs.Run.{Step, object_at}
+use Rattle.ir_runs.specs.Run.{Step, Cut, object_at}
 use Rattle.ir_cut.specs.Positions.{machine_of, start_of, cut_of, threads_of, thread_at}
 use Rattle.ir_fit.specs.Fit.{FittedTrace}
 use Rattle.ir_hits.specs.Hits.{objects_start, object_size}
@@ -82,19 +82,22 @@ register_reply run s n = word_digits (slice_index (register_words (current_of ru
 abbrev pub word_byte : ℕ → (ℕ → ℕ) → ℕ → ℕ
 word_byte count words place = if nat_lt (place / 4) count then byte_in_word (words (place / 4)) (place % 4) else 0
 
--- the byte of the objects at the cut, by how far it is from their start
-abbrev pub object_byte : List Step → Stub → ℕ → Option ℕ
-object_byte run s offset =
-    if nat_lt (offset / object_size) (object_count s.desk.fitted.guest)
-    then Some (word_byte (object_words s.desk.fitted.guest)
-    (object_at (machine_of s.desk.fitted) (start_of s.desk.fitted) run (cut_of s.desk.at) (offset / object_size)).words (offset % object_size))
+-- the byte of the objects at a cut, by how far it is from their start
+abbrev pub object_byte : List Step → FittedTrace → Cut → ℕ → Option ℕ
+object_byte run f p offset =
+    if nat_lt (offset / object_size) (object_count f.guest)
+    then Some (word_byte (object_words f.guest) (object_at (machine_of f) (start_of f) run p (offset / object_size)).words (offset % object_size))
     else None
 
--- the byte that the general thread has at an address: of the code, of its private memory, or of an object
+-- the byte that thread t has at an address at a cut: of the code, of its private memory, or of an object
+abbrev pub byte_at_cut : List Step → FittedTrace → Cut → ℕ → ℕ → Option ℕ
+byte_at_cut run f p t address =
+    if nat_lt address objects_start then byte_at f.guest.code (thread_at f run t (p t)).core.memory address
+    else object_byte run f p (address - objects_start)
+
+-- the byte that the general thread has where it is
 abbrev pub byte_seen : List Step → Stub → ℕ → Option ℕ
-byte_seen run s address =
-    if nat_lt address objects_start then byte_at s.desk.fitted.guest.code (current_of run s s.general).core.memory address
-    else object_byte run s (address - objects_start)
+byte_seen run s address = byte_at_cut run s.desk.fitted (cut_of s.desk.at) s.general address
 
 -- the bytes from an address on, as many as there are, at most n
 abbrev pub with_byte : Option ℕ → List ℕ → List ℕ

@@ -1,5 +1,5 @@
 -- The replies to requests.
-use Rattle.std.specs.Prelude.{◌≡◌, ◌⊎◌, ℕ, Bool, true, false, not, List, Option, Some, None}
+use Rattle.std.specs.Prelude.{◌≡◌, ◌⊎◌, ℕ, Bool, true, false, not, List, [], Option, Some, None}
 use Rattle.ir_runs.specs.Run.{Step}
 use Rattle.ir_cut.specs.Positions.{EachRun}
 use Rattle.ir_packet.specs.Replies.{reply_text, piece_text}
@@ -11,6 +11,7 @@ use Rattle.ir_packet.specs.declared.request.Request.TheVariants as request
 use Rattle.ir_gdb.specs.declared.point.Breakpoint.{Breakpoint}
 use Rattle.ir_gdb.specs.declared.point.Watched.{Watched}
 use Rattle.ir_gdb.specs.declared.stopped.Moving.{Moving}
+use Rattle.ir_gdb.specs.Guards.{guarded}
 use Rattle.ir_gdb.specs.Stub.{Stub, stub_spoken}
 use Rattle.ir_gdb.specs.Fixed.{fixed_reply}
 use Rattle.ir_gdb.specs.Reads.{thread_of_id, reply_to, with_current, general_reply, after_general, chosen_reply, after_chosen, registers_reply, register_reply, memory_reply}
@@ -56,7 +57,7 @@ abbrev pub after_plain : Stub → Request → Stub
 after_plain s (request.General who) = after_general s who
 after_plain s (request.Choose who) = after_chosen s who
 after_plain s (request.Alive id) = with_current s (thread_of_id s.desk.fitted id)
-after_plain s (request.SetBreak address hardware) = with_break s (breakpoint address hardware)
+after_plain s (request.SetBreak address hardware) = with_break s (guarded (breakpoint address hardware) [])
 after_plain s (request.ClearBreak address hardware) = without_break s (breakpoint address hardware)
 after_plain s (request.SetWatch address size) = with_watch s (watched address size)
 after_plain s (request.ClearWatch address size) = without_watch s (watched address size)
@@ -81,10 +82,11 @@ RepliesIfMemory run s request.Restart text next = RepliesToRestart run s None te
 RepliesIfMemory run s (request.RestartAt n) text next = RepliesToRestart run s (Some n) text next
 RepliesIfMemory run s asked text next = SaysPlain (plain_reply s asked) (after_plain s asked) text next
 
--- whether a request has one reply: a session's line has many packets, and `k` has none
+-- whether a request alone says its reply: a session's line has many packets, `k` has none, and conditions are in the payload
 abbrev pub has_reply : Request → Bool
 has_reply request.Console = false
 has_reply request.Kill = false
+has_reply (request.SetBreakIf address hardware) = false
 has_reply asked = true
 
 -- whether the reply may want memory. What reads the run at the cut wants none while the small machine is fresh: before its first answer, and

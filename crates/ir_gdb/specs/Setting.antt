@@ -11,6 +11,7 @@ use Rattle.ir_gdb.specs.declared.point.Breakpoint.{Breakpoint}
 use Rattle.ir_gdb.specs.declared.point.Watched.{Watched}
 use Rattle.ir_gdb.specs.declared.point.Setting.{Setting}
 use Rattle.ir_gdb.specs.declared.point.Setting.TheVariants as setting
+use Rattle.ir_gdb.specs.Guards.{Guarded}
 use Rattle.ir_gdb.specs.Stub.{Stub, most_stub_points, most_watched}
 
 -- ---- which are the same
@@ -25,14 +26,14 @@ is_same_break a b = (a.address == b.address) && same_way a.hardware b.hardware
 abbrev pub is_same_watch : Watched → Watched → Bool
 is_same_watch a b = (a.address == b.address) && (a.size == b.size)
 
-abbrev pub has_break : List Breakpoint → Breakpoint → Bool
-has_break breaks b = is_some (find (λ x. is_same_break x b) breaks)
+abbrev pub has_break : List Guarded → Breakpoint → Bool
+has_break breaks b = is_some (find (λ x. is_same_break x.point b) breaks)
 
 abbrev pub has_watch : List Watched → Watched → Bool
 has_watch watches w = is_some (find (λ x. is_same_watch x w) watches)
 
-abbrev pub breaks_without : List Breakpoint → Breakpoint → List Breakpoint
-breaks_without breaks b = filter (λ x. not (is_same_break x b)) breaks
+abbrev pub breaks_without : List Guarded → Breakpoint → List Guarded
+breaks_without breaks b = filter (λ x. not (is_same_break x.point b)) breaks
 
 abbrev pub watches_without : List Watched → Watched → List Watched
 watches_without watches w = filter (λ x. not (is_same_watch x w)) watches
@@ -70,10 +71,11 @@ setting_reply setting.There = reply.Done
 setting_reply setting.Full = reply.NoSpace
 setting_reply setting.New = reply.Done
 
-abbrev pub add_break : Stub → Breakpoint → Setting → Stub
+-- one that is there gets other conditions
+abbrev pub add_break : Stub → Guarded → Setting → Stub
 add_break s b setting.New = record s { breaks = s.breaks ++ b ∷ [] }
 add_break s b setting.BadAddress = s
-add_break s b setting.There = s
+add_break s b setting.There = record s { breaks = breaks_without s.breaks b.point ++ b ∷ [] }
 add_break s b setting.Full = s
 
 abbrev pub add_watch : Stub → Watched → Setting → Stub
@@ -82,8 +84,8 @@ add_watch s w setting.BadAddress = s
 add_watch s w setting.There = s
 add_watch s w setting.Full = s
 
-abbrev pub with_break : Stub → Breakpoint → Stub
-with_break s b = add_break s b (break_setting s b)
+abbrev pub with_break : Stub → Guarded → Stub
+with_break s b = add_break s b (break_setting s b.point)
 
 abbrev pub with_watch : Stub → Watched → Stub
 with_watch s w = add_watch s w (watch_setting s w)

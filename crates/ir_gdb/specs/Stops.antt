@@ -2,7 +2,7 @@
 use Rattle.std.specs.Prelude.{◌≡◌, ◌<◌, ◌≤◌, ℕ, zero, suc, ◌+◌, ◌-◌, nat_lt, nat_le, ◌&&◌, Bool, true, false, List, slice_get, Option, Some, None, option_map, length, if◌then◌else◌}
 use Rattle.ir_runs.specs.Run.{Step}
 use Rattle.ir_cut.specs.Positions.{cut_of, last_of, thread_at}
-use Rattle.ir_hits.specs.Hits.{Numbered, IsFirstHit, IsLastHit}
+use Rattle.ir_hits.specs.Hits.{IsLastHit}
 use Rattle.ir_hits.specs.Searching.{IsNextHit}
 use Rattle.ir_command.specs.declared.hit.Hit.{Hit}
 use Rattle.ir_command.specs.declared.command.Direction.{Direction}
@@ -11,11 +11,12 @@ use Rattle.ir_packet.specs.declared.reply.Reason.{Reason}
 use Rattle.ir_packet.specs.declared.reply.Reason.TheVariants as reason
 use Rattle.ir_packet.specs.declared.request.Motion.{Motion}
 use Rattle.ir_packet.specs.declared.request.Motion.TheVariants as motion
-use Rattle.ir_gdb.specs.declared.point.Breakpoint.{Breakpoint}
 use Rattle.ir_gdb.specs.declared.point.Watched.{Watched}
 use Rattle.ir_gdb.specs.declared.stopped.Stopped.{Stopped}
-use Rattle.ir_gdb.specs.Points.{watch_points, points_upwards, points_downwards}
-use Rattle.ir_gdb.specs.Stub.{Stub, shared_breaks}
+use Rattle.ir_gdb.specs.Guards.{Guarded, place_of}
+use Rattle.ir_gdb.specs.Points.{watch_points, watches_if, downwards_of}
+use Rattle.ir_gdb.specs.Conditions.{StopsUpwards, IsFirstStop, IsNextStop}
+use Rattle.ir_gdb.specs.Stub.{Stub}
 
 abbrev pub stopped : ℕ → Reason → Stopped
 stopped k why = record { position = k; reason = why }
@@ -24,50 +25,38 @@ stopped k why = record { position = k; reason = why }
 abbrev pub position_of : Stub → ℕ → ℕ
 position_of s t = cut_of s.desk.at t
 
--- the watches that count for a thread: all for the one that moves, and those of the objects for another
-abbrev pub watches_if : Stub → Bool → List Watched
-watches_if s true = s.watches
-watches_if s false = shared_breaks s.watches
-
 -- ---- why a thread stops at a point
 
 abbrev pub break_of : Bool → Reason
 break_of true = reason.HardwareBreak
 break_of false = reason.SoftwareBreak
 
-abbrev pub reason_of_break : Option Breakpoint → Reason
+abbrev pub reason_of_break : Option Guarded → Reason
 reason_of_break None = reason.Step
-reason_of_break (Some b) = break_of b.hardware
+reason_of_break (Some b) = break_of b.point.hardware
 
 abbrev pub reason_of_watch : Option Watched → Reason
 reason_of_watch None = reason.Step
 reason_of_watch (Some w) = reason.Watch w.address
 
--- at the breakpoint of a number; without one at a point of the session
-abbrev pub break_reason : List Breakpoint → ℕ → Reason
+-- at the breakpoint of a place; without one at a point of the session
+abbrev pub break_reason : List Guarded → ℕ → Reason
 break_reason breaks n = reason_of_break (slice_get breaks n)
 
 abbrev pub watch_reason : List Watched → ℕ → Reason
 watch_reason watches n = reason_of_watch (slice_get watches n)
 
 -- upwards a watch stops before the step that changes its word, or puts it: gdb takes that step itself
-abbrev pub stop_above : List Watched → List Breakpoint → Hit → Stopped
+abbrev pub stop_above : List Watched → List Guarded → Hit → Stopped
 stop_above watches breaks h =
     if nat_lt h.number (length watches) then stopped (h.position - 1) (watch_reason watches h.number)
-    else stopped h.position (break_reason breaks (h.number - length watches))
+    else stopped h.position (break_reason breaks (place_of h.number - length watches))
 
 -- downwards it stops after that step, and gdb takes it back itself
-abbrev pub stop_below : List Watched → List Breakpoint → Hit → Stopped
+abbrev pub stop_below : List Watched → List Guarded → Hit → Stopped
 stop_below watches breaks h =
-    if nat_lt h.number (length breaks) then stopped h.position (break_reason breaks h.number)
+    if nat_lt (place_of h.number) (length breaks) then stopped h.position (break_reason breaks (place_of h.number))
     else stopped h.position (watch_reason watches (h.number - length breaks))
-
--- the points of a thread upwards and downwards
-abbrev pub upwards_of : Stub → ℕ → Bool → List Numbered
-upwards_of s t watched = points_upwards t (watches_if s watched) s.breaks s.desk.points
-
-abbrev pub downwards_of : Stub → ℕ → Bool → List Numbered
-downwards_of s t watched = points_downwards t (watches_if s watched) s.breaks s.desk.points
 
 -- ---- forwards
 
@@ -118,11 +107,11 @@ ranged s t watched left (Some h) = stop_above (watches_if s watched) s.breaks h
 -- `r low,high`: until pc leaves the range, or a point hits on the way
 abbrev pub RangesTo : List Step → Stub → ℕ → ℕ → ℕ → Bool → Stopped → Type 0
 RangesTo run s t low high watched to = (left : Option ℕ) × Leaves run s t low high left × ((hit : Option Hit)
-    × IsNextHit s.desk.fitted run (upwards_of s t watched) t (position_of s t) (end_of_range (last_of s.desk.fitted t) left) hit
+    × IsNextStop (StopsUpwards run s t watched) (position_of s t) (end_of_range (last_of s.desk.fitted t) left) hit
     × (to ≡ ranged s t watched left hit))
 
 -- where a search upwards ends, by the hit that it finds
-abbrev pub end_above : List Watched → List Breakpoint → ℕ → Option Hit → Stopped
+abbrev pub end_above : List Watched → List Guarded → ℕ → Option Hit → Stopped
 end_above watches breaks last None = stopped last reason.End
 end_above watches breaks last (Some h) = stop_above watches breaks h
 
@@ -131,7 +120,7 @@ above s t watched hit = end_above (watches_if s watched) s.breaks (last_of s.des
 
 -- `c`: to the next stop, or to the last position
 abbrev pub ContinuesTo : List Step → Stub → ℕ → Bool → Stopped → Type 0
-ContinuesTo run s t watched to = (hit : Option Hit) × IsFirstHit s.desk.fitted run (upwards_of s t watched) t (position_of s t) hit
+ContinuesTo run s t watched to = (hit : Option Hit) × IsFirstStop (StopsUpwards run s t watched) (position_of s t) hit
     × (to ≡ above s t watched hit)
 
 -- ---- backwards
@@ -149,14 +138,14 @@ abbrev pub StepsBackTo : List Step → Stub → ℕ → Bool → Stopped → Typ
 StepsBackTo run s t watched to = StepsBackBy run s t watched (position_of s t) to
 
 -- where a search downwards ends
-abbrev pub end_below : List Watched → List Breakpoint → Option Hit → Stopped
+abbrev pub end_below : List Watched → List Guarded → Option Hit → Stopped
 end_below watches breaks None = stopped 0 reason.Begin
 end_below watches breaks (Some h) = stop_below watches breaks h
 
 abbrev pub below : Stub → Bool → Option Hit → Stopped
 below s watched hit = end_below (watches_if s watched) s.breaks hit
 
--- to the stop below a position, or to 0
+-- to the hit below a position, or to 0: conditions count for nothing, gdb decides them
 abbrev pub StopsBelow : List Step → Stub → ℕ → Bool → Stopped → Type 0
 StopsBelow run s t watched to = (hit : Option Hit) × IsLastHit s.desk.fitted run (downwards_of s t watched) t (position_of s t) hit
     × (to ≡ below s watched hit)

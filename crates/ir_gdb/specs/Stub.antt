@@ -9,9 +9,9 @@ use Rattle.ir_hits.specs.Hits.{objects_start, object_size}
 use Rattle.ir_debug.specs.Machine as desk
 use Rattle.ir_debug.specs.Machine.{Desk}
 use Rattle.ir_packet.specs.declared.reply.Reason.TheVariants.{Step}
-use Rattle.ir_gdb.specs.declared.point.Breakpoint.{Breakpoint}
 use Rattle.ir_gdb.specs.declared.point.Watched.{Watched}
 use Rattle.ir_gdb.specs.declared.stopped.Told.{Told}
+use Rattle.ir_gdb.specs.Guards.{Guarded}
 
 pub record Stub : Type 0 where
   -- the small machine of a session: the guest, its trace, and the position of each thread
@@ -24,7 +24,7 @@ pub record Stub : Type 0 where
   pub current : ℕ
   -- whether gdb moves all threads together: it does at first, and each move says it again but one step of a thread alone
   pub together : Bool
-  pub breaks : List Breakpoint
+  pub breaks : List Guarded
   pub watches : List Watched
   -- the last stop
   pub told : Told

@@ -8,7 +8,7 @@ use Rattle.ir_gdb.specs.Endings.{end_of_thread, words_of_end}
 
 -- what the server can
 abbrev pub supported_text : List ℕ
-supported_text = codes "PacketSize=1000;QStartNoAckMode+;swbreak+;hwbreak+;vContSupported+;ReverseStep+;ReverseContinue+;qXfer:features:read+;qXfer:threads:read+"
+supported_text = codes "PacketSize=1000;QStartNoAckMode+;swbreak+;hwbreak+;ConditionalBreakpoints+;vContSupported+;ReverseStep+;ReverseContinue+;qXfer:features:read+;qXfer:threads:read+"
 
 -- the registers, by names and types
 abbrev pub description_text : List ℕ

@@ -5,6 +5,7 @@ ghost use Rattle.std.specs.Vec.{vec_capacity};
 ghost use Rattle.ir_gdb.specs.Setting.{is_same_break, is_same_watch, has_break, has_watch, breaks_without, watches_without};
 ghost use Rattle.ir_gdb.specs.Stub.{is_shared_break, shared_breaks, most_stub_points};
 
+use crate::guarded::Guarded;
 use crate::point::{Breakpoint, Watched};
 use ir_debug::MOST_POINTS;
 use ir_hits::OBJECTS_START;
@@ -33,12 +34,12 @@ pub fn is_shared(watched: Watched) -> bool
 }
 
 // Whether there is such a breakpoint.
-pub fn has_break(breaks: &[Breakpoint], point: Breakpoint) -> bool
+pub fn has_break(breaks: &[Guarded], point: Breakpoint) -> bool
     ensures { result ≡ has_break breaks.now point }
 {
     match breaks {
         [] => false,
-        [first, rest @ ..] => is_same_break(*first, point) || has_break(rest, point),
+        [first, rest @ ..] => is_same_break(first.point(), point) || has_break(rest, point),
     }
 }
 
@@ -55,16 +56,16 @@ pub fn has_watch(watches: &[Watched], watched: Watched) -> bool
 /// The breakpoints that are set, the last at the end, with room for all that may be.
 #[derive(Drop)]
 pub struct Breaks {
-    each: Vec<Breakpoint>,
+    each: Vec<Guarded>,
 }
 
 impl Model for Breaks {
     ghost use Rattle.std.specs.Prelude.{◌≤◌, List};
     ghost use Rattle.std.specs.Vec.{vec_capacity};
-    ghost use Rattle.ir_gdb.specs.declared.point.Breakpoint.{Breakpoint};
+    ghost use Rattle.ir_gdb.specs.Guards.{Guarded};
     ghost use Rattle.ir_gdb.specs.Stub.{most_stub_points};
 
-    ghost Value = { List Breakpoint };
+    ghost Value = { List Guarded };
 
     ghost view = { λ p. p.each.items };
 
@@ -86,14 +87,14 @@ impl Breaks {
     }
 
     /// The breakpoints.
-    pub fn as_slice(&self) -> &[Breakpoint]
+    pub fn as_slice(&self) -> &[Guarded]
         ensures { result.now ≡ self.now }
     {
         self.each.as_slice()
     }
 
     /// Sets one more, for which there is room. Takes no memory.
-    pub fn set(&mut self, point: Breakpoint)
+    pub fn set(&mut self, point: Guarded)
         requires { length self.old < most_stub_points }
         ensures { self.new ≡ self.old ++ point ∷ [] }
     {
@@ -104,7 +105,7 @@ impl Breaks {
     pub fn clear(&mut self, point: Breakpoint)
         ensures { self.new ≡ breaks_without self.old point }
     {
-        self.each.retain(|each| !is_same_break(*each, point));
+        self.each.retain(|each| !is_same_break(each.point(), point));
     }
 }
 

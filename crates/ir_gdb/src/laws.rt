@@ -1,9 +1,10 @@
 //! What holds of gdb's moves. The functions do nothing: their contracts are the laws.
 
-ghost use Rattle.ir_gdb.specs.Laws.{ContinueIsSession, ContinueBackIsSession, StepIsSession, StepBackIsSession, NoHitIsPassed, NoneIsBlocked, EachHitIsShownOnce, NoBadEndIsHidden};
+ghost use Rattle.ir_gdb.specs.Laws.{ContinueIsSession, ContinueBackIsSession, StepIsSession, StepBackIsSession, NoHitIsPassed};
+ghost use Rattle.ir_gdb.specs.Laws.{NoneIsBlocked, EachHitIsShownOnce, NoneIsShownTwice, ShownConditionIsMet, NoBadEndIsHidden};
 
-/// A thread that moves alone ends where a session's command leads, with gdb's breakpoints set there too; no watch is set, and the
-/// thread doesn't wait.
+/// A thread that moves alone ends where a session's command leads, with gdb's breakpoints set there too; no watch is set, the
+/// thread doesn't wait, and where it continues no breakpoint has conditions.
 pub fn alone_is_session()
     ensures continues { ContinueIsSession }
     ensures continues_back { ContinueBackIsSession }
@@ -22,9 +23,17 @@ pub fn none_is_blocked()
     ensures { NoneIsBlocked }
 {}
 
-/// `continue` repeated to the end, or `reverse-continue`, shows each hit of each thread once; no watch is set.
+/// `continue` repeated to the end shows each hit of each thread at a point without conditions once, and each at one with conditions
+/// at most once; `reverse-continue` shows each hit once; no watch is set.
 pub fn each_hit_is_shown_once()
-    ensures { EachHitIsShownOnce }
+    ensures once { EachHitIsShownOnce }
+    ensures never_twice { NoneIsShownTwice }
+{}
+
+/// Where `continue` shows a thread at a hit of breakpoints with conditions alone, one of them is met by what gdb sees there; no watch
+/// is set.
+pub fn shown_condition_is_met()
+    ensures { ShownConditionIsMet }
 {}
 
 /// Where a move of the threads together comes to the end of the recording, and gdb is told only that there is no more history, no thread

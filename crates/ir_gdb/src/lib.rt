@@ -6,6 +6,7 @@ mod connection;
 mod console;
 mod ending;
 mod fixed;
+mod guarded;
 mod holders;
 mod laws;
 mod numbered;
@@ -13,6 +14,7 @@ mod point;
 mod registers;
 mod remote;
 mod session;
+mod sight;
 mod stopped;
 mod texts;
 

@@ -6,7 +6,8 @@ ghost use Rattle.ir_gdb.specs.Stub.{IsWatched};
 ghost use Rattle.ir_hits.specs.Watchable.{AreWatchable};
 ghost use Rattle.ir_gdb.specs.Points.{word_points, watch_points, break_points, own_points, watched_words, points_upwards, points_downwards, with_stub_point};
 
-use crate::point::{Breakpoint, Watched};
+use crate::guarded::Guarded;
+use crate::point::Watched;
 use ir_command::Point;
 use ir_hits::NumberedPoint;
 use std::alloc::{AllocError, Global};
@@ -17,7 +18,7 @@ pub struct Halts<'a> {
     /// Watches of gdb.
     pub watches: &'a [Watched],
     /// Breakpoints of gdb.
-    pub breaks: &'a [Breakpoint],
+    pub breaks: &'a [Guarded],
     /// Points of the session.
     pub own: &'a [NumberedPoint],
 }
@@ -71,23 +72,24 @@ fn put_watches(
     }
 }
 
-// Puts the breakpoints of a thread at the end, the first by this number, the others by the next.
+// Puts the breakpoints of a thread at the end, the first at this place among the points, the others at the next.
 #[tactic(auto, unfolding(crate::specs::Points::break_points))]
 fn put_breaks(
     out: &mut Vec<NumberedPoint>,
     thread: u32,
-    number: u32,
-    breaks: &[Breakpoint],
+    place: u32,
+    breaks: &[Guarded],
 ) -> Result<(), AllocError>
-    requires { number + length breaks.now ≤ 64 }
-    ensures { OnOk result (out.new.items ≡ out.old.items ++ break_points thread number breaks.now) }
+    requires { place + length breaks.now ≤ 64 }
+    ensures { OnOk result (out.new.items ≡ out.old.items ++ break_points thread place breaks.now) }
 {
     match breaks {
         [] => Ok(()),
         [first, rest @ ..] => {
-            let address = first.address;
+            let number = first.number_at(place);
+            let address = first.point().address;
             out.push(NumberedPoint::new(number, Point::Break { thread, address }))?;
-            put_breaks(out, thread, number + 1, rest)
+            put_breaks(out, thread, place + 1, rest)
         }
     }
 }

@@ -1,9 +1,10 @@
 //! Where threads stop.
 
-ghost use Rattle.std.specs.Prelude.{◌≡◌, None, option_map};
+ghost use Rattle.std.specs.Prelude.{◌≡◌, None, option_map, MatchOption};
 ghost use Rattle.ir_gdb.specs.Stops.{stop_above, stop_below, after_range, end_above, end_below, watch_reason, break_reason, is_hit};
 
-use crate::point::{Breakpoint, Watched};
+use crate::guarded::{Guarded, place_of};
+use crate::point::Watched;
 use ir_command::Hit;
 use ir_packet::Reason;
 
@@ -57,14 +58,14 @@ pub fn reason_of_hit(watches: &[Watched], hit: Option<Hit>) -> Option<Reason>
     Some(watch_reason(watches, hit?.number as usize))
 }
 
-/// Why a thread stops at the breakpoint of a number; without one at a point of the session.
-pub fn break_reason(breaks: &[Breakpoint], number: usize) -> Reason
+/// Why a thread stops at the breakpoint of a place; without one at a point of the session.
+pub fn break_reason(breaks: &[Guarded], number: usize) -> Reason
     ensures { result ≡ break_reason breaks.now number }
 {
     if number >= breaks.len() {
         return Reason::Step;
     }
-    if breaks[number].hardware {
+    if breaks[number].point().hardware {
         Reason::HardwareBreak
     } else {
         Reason::SoftwareBreak
@@ -72,7 +73,7 @@ pub fn break_reason(breaks: &[Breakpoint], number: usize) -> Reason
 }
 
 /// Where a search upwards stops: a watch before the step that changes its word, or puts it.
-pub fn stop_above(watches: &[Watched], breaks: &[Breakpoint], hit: Hit) -> Stopped
+pub fn stop_above(watches: &[Watched], breaks: &[Guarded], hit: Hit) -> Stopped
     ensures { result ≡ stop_above watches.now breaks.now hit }
 {
     let number = hit.number as usize;
@@ -83,26 +84,27 @@ pub fn stop_above(watches: &[Watched], breaks: &[Breakpoint], hit: Hit) -> Stopp
             reason: watch_reason(watches, number),
         };
     }
-    let reason = break_reason(breaks, number - watches.len());
+    let place = place_of(hit.number) as usize;
+    let reason = break_reason(breaks, place.saturating_sub(watches.len()));
     Stopped { position, reason }
 }
 
 /// Where a search downwards stops: a watch after that step.
-pub fn stop_below(watches: &[Watched], breaks: &[Breakpoint], hit: Hit) -> Stopped
+pub fn stop_below(watches: &[Watched], breaks: &[Guarded], hit: Hit) -> Stopped
     ensures { result ≡ stop_below watches.now breaks.now hit }
 {
-    let number = hit.number as usize;
+    let place = place_of(hit.number) as usize;
     let position = hit.position;
-    if number < breaks.len() {
-        let reason = break_reason(breaks, number);
+    if place < breaks.len() {
+        let reason = break_reason(breaks, place);
         return Stopped { position, reason };
     }
-    let reason = watch_reason(watches, number - breaks.len());
+    let reason = watch_reason(watches, (hit.number as usize).saturating_sub(breaks.len()));
     Stopped { position, reason }
 }
 
 /// Where a search upwards ends, by the hit that it finds.
-pub fn end_above(watches: &[Watched], breaks: &[Breakpoint], last: u64, hit: Option<Hit>) -> Stopped
+pub fn end_above(watches: &[Watched], breaks: &[Guarded], last: u64, hit: Option<Hit>) -> Stopped
     ensures { result ≡ end_above watches.now breaks.now last hit }
 {
     match hit {
@@ -111,6 +113,21 @@ pub fn end_above(watches: &[Watched], breaks: &[Breakpoint], last: u64, hit: Opt
             position: last,
             reason: Reason::End,
         },
+    }
+}
+
+/// Where a thread stops that would come to an end without a hit.
+pub fn stop_or_end(
+    watches: &[Watched],
+    breaks: &[Guarded],
+    end: Stopped,
+    hit: Option<Hit>,
+) -> Stopped
+    ensures { MatchOption hit (result ≡ end) (λ h. result ≡ stop_above watches.now breaks.now h) }
+{
+    match hit {
+        Some(hit) => stop_above(watches, breaks, hit),
+        None => end,
     }
 }
 
@@ -131,7 +148,7 @@ pub fn after_range(last: u64, left: Option<u64>) -> Stopped
 }
 
 /// Where a search downwards ends.
-pub fn end_below(watches: &[Watched], breaks: &[Breakpoint], hit: Option<Hit>) -> Stopped
+pub fn end_below(watches: &[Watched], breaks: &[Guarded], hit: Option<Hit>) -> Stopped
     ensures { result ≡ end_below watches.now breaks.now hit }
 {
     match hit {

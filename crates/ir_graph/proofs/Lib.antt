@@ -28,3 +28,4 @@ mod Both
 mod Ticks
 mod Times
 mod Timed
+mod Kept

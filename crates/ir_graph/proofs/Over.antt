@@ -2,7 +2,6 @@
 use Rattle.std.proofs.Common.{◌≡◌, ℕ, zero, suc, ◌<◌, Bool, true, false, Option, Some, None, List, [], ◌∷◌, length, get_or, refl, sym, ap, ◌∙◌, subst, arith, inl, inr}
 use Rattle.std.specs.Prelude.{◌&&◌, is_some, is_none}
 use Rattle.std.proofs.lemmas.Bool.{cases_lt}
-use Rattle.ir_runs.specs.Machine as machine
 use Rattle.ir_runs.specs.Run.{IsDone}
 use Rattle.ir_runs.specs.declared.access.Access.{Access}
 use Rattle.ir_thread.specs.Permitted.{Permits}

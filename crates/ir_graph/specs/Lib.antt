@@ -15,3 +15,4 @@ pub mod Hangs
 pub mod Stops
 pub mod Standing
 pub mod Times
+pub mod Kept

@@ -1,8 +1,9 @@
 -- What a search over the states of a guest gives.
 use Rattle.std.specs.Prelude.{◌≡◌, ◌↔◌, true, ℕ, ◌<◌, ◌≤◌, List, Some, length, slice_get}
 use Rattle.ir_search.specs.declared.origin.Origin.{Origin}
+use Rattle.ir_search.specs.Following.{Stay}
 use Rattle.ir_search.specs.Levels.{rows}
-use Rattle.ir_search.specs.Origins.{AreReached, AreOriginsRising}
+use Rattle.ir_search.specs.Origins.{AreReached, AreOriginsRising, Adds}
 use Rattle.ir_search.specs.Searching.{HasGone, IsBetween}
 use Rattle.ir_state_store.specs.Nodes.{SourcedFlat}
 use Rattle.ir_graph.specs.Setup.{Setup}
@@ -38,6 +39,14 @@ pub record IsSearch (s : States) : Type 0 where
   pub ways : AreReached (noted_by s.graph.rows.items s.graph.refused_rows.items) s.search.found.refusals.items s.search.found.nodes.items
   pub few : length s.search.found.nodes.items ≤ length s.graph.flats.items
   pub times : KnowsTimes s.graph.setup s.graph.flats.items (noted_by s.graph.rows.items s.graph.refused_rows.items) s.graph.timed
+
+-- A search has gone on: over the graph of the same guest, as far as before. Its states stay, and those that it has found are of this level.
+pub record SearchGoesOn (old new : States) : Type 0 where
+  pub is : IsSearch new
+  pub setup : new.graph.setup ≡ old.graph.setup
+  pub bounds : new.graph.bounds ≡ old.graph.bounds
+  pub stay : Stay old.graph.flats.items new.graph.flats.items
+  pub adds : Adds old.search.level.number old.search.found.nodes.items new.search.found.nodes.items
 
 -- it stands between two levels
 abbrev pub StandsBetween : States → Type 0

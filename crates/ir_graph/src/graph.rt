@@ -36,19 +36,17 @@ pub struct Graph<'a> {
 impl<'a> Successors for Graph<'a> {
     ghost Origin = { Setup × ℕ };
 
-    ghost origin = { λ g. (g.setup, g.bounds.private) };
-
-    ghost size = { λ g. length g.flats.items };
-
-    ghost most = { λ g. g.bounds.nodes };
-
-    ghost may_stop = { λ g. MayStop g.setup g.flats.items g.bounds.nodes g.bounds.private };
-
     ghost Node = { SourcedFlat };
 
-    ghost nodes = { λ g. g.flats.items };
+    ghost shape = { λ g. record {
+      noted = noted_by g.rows.items g.refused_rows.items;
+      nodes = g.flats.items;
+      size = length g.flats.items;
+      most = g.bounds.nodes;
+      origin = (g.setup, g.bounds.private);
+    } };
 
-    ghost noted = { λ g. noted_by g.rows.items g.refused_rows.items };
+    ghost may_stop = { λ g. MayStop g.setup g.flats.items g.bounds.nodes g.bounds.private };
 
     ghost is_sound = { λ g. IsGraph g.setup g.flats.items (noted_by g.rows.items g.refused_rows.items) (length g.rows.items)
         × AreTurns g.setup.guest.code g.flats.shared g.ahead × (g.flats.code ≡ g.setup.guest.code)

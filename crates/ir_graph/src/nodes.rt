@@ -1,15 +1,14 @@
 //! The nodes that were found, and where threads lead from them.
 
-ghost use Rattle.std.specs.Prelude.{◌≡◌, ◌⊎◌, ℕ, suc, ◌<◌, ◌≤◌, true, false, Some, None, length, slice_get, IfOk, IfErr, IfSome, OnOk, OnErr, IsErrOf};
+ghost use Rattle.std.specs.Prelude.{◌≡◌, ◌⊎◌, ◌≤◌, true, false, Some, length, slice_get, IfOk, IfErr, IsErrOf};
 ghost use Rattle.ir_search.specs.declared.stop.Stop.TheVariants.{Nodes, Memory};
 ghost use Rattle.ir_graph.specs.Ahead.{AreTurns, IsTurnOf};
-ghost use Rattle.ir_graph.specs.Nodes.{LookAlike, AllRest, AreNodes, NodesStay, LeadsFrom};
-ghost use Rattle.ir_graph.specs.Plain.{LooksAlike};
+ghost use Rattle.ir_graph.specs.Kept.{IsNodeFor, IsRestingState, IsSuccessor, IsWayAt, NodesAdded, NodesKept};
+ghost use Rattle.ir_graph.specs.Nodes.{AreNodes};
 ghost use Rattle.ir_graph.specs.Reached.{IsReached, AllReached};
 ghost use Rattle.ir_graph.specs.Stops.{MayStop};
 ghost use Rattle.ir_graph.specs.Setup.{Setup};
-ghost use Rattle.ir_graph.specs.Times.{HasTimedRun, LeadsTickless};
-ghost use Rattle.ir_state_store.specs.Nodes.{Grows, IsNode, SourcedFlat, sourced_in};
+ghost use Rattle.ir_state_store.specs.Nodes.{Grows, SourcedFlat, sourced_in};
 ghost use Rattle.ir_state_store.specs.Table.{HaveTicks, HaveNoTicks};
 
 use crate::ahead::Ahead;
@@ -39,21 +38,13 @@ fn node_of<'a>(
     most: usize,
 ) -> Result<usize, Stop>
     requires nodes { AreNodes flats.old.items }
-    requires is { IsNode flats.old.shared new }
-    requires code { flats.old.code ≡ new.code }
-    requires like { (v : ℕ) (s : SourcedFlat) → slice_get flats.old.items v ≡ Some s → LooksAlike (sourced_in flats.old.shared new).flat s.flat }
-    requires rest { AllRest (sourced_in flats.old.shared new).flat }
+    requires state { IsRestingState flats.old.items flats.old.shared flats.old.code new }
     requires room { length flats.old.items ≤ most }
-    ensures nodes { AreNodes flats.new.items }
-    ensures stay { NodesStay flats.old.items flats.new.items }
+    ensures adds { NodesAdded most flats.old.items flats.new.items }
     ensures shared { flats.new.shared ≡ flats.old.shared }
     ensures code { flats.new.code ≡ flats.old.code }
     ensures reached { (x : Setup) → AllReached x flats.old.items → IsReached x (sourced_in flats.old.shared new.entry) → AllReached x flats.new.items }
-    ensures within { IfOk result (λ w. w < length flats.new.items) }
-    ensures added { IfOk result (λ w. (length flats.new.items ≡ length flats.old.items) ⊎ ((w ≡ length flats.old.items) × (length flats.new.items ≡ suc (length flats.old.items)))) }
-    ensures alike { IfOk result (λ w. (s : SourcedFlat) → slice_get flats.new.items w ≡ Some s → LookAlike (sourced_in flats.old.shared new.entry) s) }
-    ensures grown { length flats.old.items ≤ length flats.new.items }
-    ensures room { length flats.new.items ≤ most }
+    ensures gives { IfOk result (λ w. IsNodeFor flats.old.items flats.new.items (sourced_in flats.old.shared new.entry) w) }
     ensures full { IsErrOf result Nodes → length flats.new.items ≡ most }
     ensures stopped { IfErr result (λ stop. (stop ≡ Memory) ⊎ ((stop ≡ Nodes) × (length flats.new.items ≡ most))) }
     ensures ticks { timed.new ≡ true → (timed.old ≡ true) ⊎ HaveTicks (sourced_in flats.old.shared new.entry).sources }
@@ -80,27 +71,17 @@ fn node_by<'a>(
     most: usize,
 ) -> Result<usize, Stop>
     requires nodes { AreNodes flats.old.items }
-    requires node { way.node < length flats.old.items }
-    requires thread { (s : SourcedFlat) → slice_get flats.old.items way.node ≡ Some s → way.thread < length s.flat.threads }
+    requires way { IsWayAt flats.old.items way }
     requires turn { (s : SourcedFlat) → slice_get flats.old.items way.node ≡ Some s → IsTurnOf s.flat.code flats.old.shared s way.thread way.refused turn.now }
     requires leads { turn.now.waits ≡ false }
     requires code { (s : SourcedFlat) → slice_get flats.old.items way.node ≡ Some s → flats.old.code ≡ s.flat.code }
     requires room { length flats.old.items ≤ most }
-    ensures nodes { AreNodes flats.new.items }
-    ensures stay { NodesStay flats.old.items flats.new.items }
+    ensures kept { NodesKept most flats.old.items flats.new.items timed.old timed.new }
     ensures shared { flats.new.shared ≡ flats.old.shared }
     ensures code { flats.new.code ≡ flats.old.code }
-    ensures reached { (x : Setup) → AllReached x flats.old.items → AllReached x flats.new.items }
-    ensures within { IfOk result (λ w. w < length flats.new.items) }
-    ensures added { IfOk result (λ w. (length flats.new.items ≡ length flats.old.items) ⊎ ((w ≡ length flats.old.items) × (length flats.new.items ≡ suc (length flats.old.items)))) }
-    ensures leads { IfOk result (λ w. LeadsFrom flats.new.items way.thread way.refused way.node (Some w)) }
-    ensures grown { length flats.old.items ≤ length flats.new.items }
-    ensures room { length flats.new.items ≤ most }
+    ensures next { IfOk result (λ w. IsSuccessor flats.old.items flats.new.items timed.new way (Some w)) }
     ensures full { IsErrOf result Nodes → length flats.new.items ≡ most }
     ensures stopped { IfErr result (λ stop. (stop ≡ Memory) ⊎ ((stop ≡ Nodes) × (length flats.new.items ≡ most))) }
-    ensures has { (x : Setup) → AllReached x flats.old.items → (timed.old ≡ true → HasTimedRun x) → timed.new ≡ true → HasTimedRun x }
-    ensures were { timed.new ≡ false → timed.old ≡ false }
-    ensures tickless { IfOk result (λ w. timed.new ≡ false → LeadsTickless flats.new.items way.thread way.refused way.node w) }
 {
     flats.thread_number(way.node, way.thread);
     let first = turn.numbers[0] as usize;
@@ -121,25 +102,15 @@ fn node_by_steps<'a>(
     bounds: Bounds,
 ) -> Result<Option<usize>, Stop>
     requires nodes { AreNodes flats.old.items }
-    requires node { way.node < length flats.old.items }
-    requires thread { (s : SourcedFlat) → slice_get flats.old.items way.node ≡ Some s → way.thread < length s.flat.threads }
+    requires way { IsWayAt flats.old.items way }
     requires code { (s : SourcedFlat) → slice_get flats.old.items way.node ≡ Some s → flats.old.code ≡ s.flat.code }
     requires room { length flats.old.items ≤ bounds.nodes }
-    ensures nodes { AreNodes flats.new.items }
-    ensures stay { NodesStay flats.old.items flats.new.items }
+    ensures kept { NodesKept bounds.nodes flats.old.items flats.new.items timed.old timed.new }
     ensures grows { Grows flats.old.shared flats.new.shared }
     ensures code { flats.new.code ≡ flats.old.code }
-    ensures reached { (x : Setup) → AllReached x flats.old.items → AllReached x flats.new.items }
-    ensures within { IfOk result (λ next. (w : ℕ) → next ≡ Some w → w < length flats.new.items) }
-    ensures added { IfOk result (λ next. (length flats.new.items ≡ length flats.old.items) ⊎ ((next ≡ Some (length flats.old.items)) × (length flats.new.items ≡ suc (length flats.old.items)))) }
-    ensures leads { IfOk result (λ next. LeadsFrom flats.new.items way.thread way.refused way.node next) }
-    ensures grown { length flats.old.items ≤ length flats.new.items }
-    ensures room { length flats.new.items ≤ bounds.nodes }
+    ensures next { IfOk result (λ next. IsSuccessor flats.old.items flats.new.items timed.new way next) }
     ensures full { IsErrOf result Nodes → length flats.new.items ≡ bounds.nodes }
     ensures stopped { IfErr result (λ stop. (x : Setup) → AllReached x flats.old.items → MayStop x flats.new.items bounds.nodes bounds.private stop) }
-    ensures has { (x : Setup) → AllReached x flats.old.items → (timed.old ≡ true → HasTimedRun x) → timed.new ≡ true → HasTimedRun x }
-    ensures were { timed.new ≡ false → timed.old ≡ false }
-    ensures tickless { IfOk result (λ next. (w : ℕ) → next ≡ Some w → timed.new ≡ false → LeadsTickless flats.new.items way.thread way.refused way.node w) }
 {
     let mut state = flats.get(way.node)?;
     let asked = state.flat.ask(way.thread);
@@ -172,27 +143,17 @@ pub fn successor<'a>(
     bounds: Bounds,
 ) -> Result<Option<usize>, Stop>
     requires nodes { AreNodes flats.old.items }
-    requires node { way.node < length flats.old.items }
-    requires thread { (s : SourcedFlat) → slice_get flats.old.items way.node ≡ Some s → way.thread < length s.flat.threads }
+    requires way { IsWayAt flats.old.items way }
     requires code { (s : SourcedFlat) → slice_get flats.old.items way.node ≡ Some s → s.flat.code ≡ code.now }
     requires store { flats.old.code ≡ code.now }
     requires turns { AreTurns code.now flats.old.shared ahead.old }
     requires room { length flats.old.items ≤ bounds.nodes }
-    ensures nodes { AreNodes flats.new.items }
-    ensures stay { NodesStay flats.old.items flats.new.items }
+    ensures kept { NodesKept bounds.nodes flats.old.items flats.new.items timed.old timed.new }
     ensures turns { AreTurns code.now flats.new.shared ahead.new }
     ensures store { flats.new.code ≡ flats.old.code }
-    ensures reached { (x : Setup) → AllReached x flats.old.items → AllReached x flats.new.items }
-    ensures within { IfOk result (λ next. (w : ℕ) → next ≡ Some w → w < length flats.new.items) }
-    ensures added { IfOk result (λ next. (length flats.new.items ≡ length flats.old.items) ⊎ ((next ≡ Some (length flats.old.items)) × (length flats.new.items ≡ suc (length flats.old.items)))) }
-    ensures leads { IfOk result (λ next. LeadsFrom flats.new.items way.thread way.refused way.node next) }
-    ensures grown { length flats.old.items ≤ length flats.new.items }
-    ensures room { length flats.new.items ≤ bounds.nodes }
+    ensures next { IfOk result (λ next. IsSuccessor flats.old.items flats.new.items timed.new way next) }
     ensures full { IsErrOf result Nodes → length flats.new.items ≡ bounds.nodes }
     ensures stopped { IfErr result (λ stop. (x : Setup) → AllReached x flats.old.items → MayStop x flats.new.items bounds.nodes bounds.private stop) }
-    ensures has { (x : Setup) → AllReached x flats.old.items → (timed.old ≡ true → HasTimedRun x) → timed.new ≡ true → HasTimedRun x }
-    ensures were { timed.new ≡ false → timed.old ≡ false }
-    ensures tickless { IfOk result (λ next. (w : ℕ) → next ≡ Some w → timed.new ≡ false → LeadsTickless flats.new.items way.thread way.refused way.node w) }
 {
     let number = flats.thread_number(way.node, way.thread);
     if flats.thread_over(number) {

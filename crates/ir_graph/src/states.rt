@@ -2,10 +2,8 @@
 
 ghost use Rattle.std.specs.Prelude.{◌≡◌, ◌⊎◌, ℕ, suc, ◌≤◌, ◌<◌, true, false, length, IfOk, IfErr, OnErr, OnOk};
 ghost use Rattle.ir_search.specs.declared.stop.Stop.TheVariants.{Memory};
-ghost use Rattle.ir_search.specs.Following.{Stay};
-ghost use Rattle.ir_search.specs.Origins.{Adds};
 ghost use Rattle.ir_graph.specs.Hangs.{AreMarked};
-ghost use Rattle.ir_graph.specs.Searched.{AreSearched, IsSearch, StandsBetween, IsWholeGraph};
+ghost use Rattle.ir_graph.specs.Searched.{AreSearched, IsSearch, SearchGoesOn, StandsBetween, IsWholeGraph};
 ghost use Rattle.ir_graph.specs.Stops.{IsStop, MayStop};
 ghost use Rattle.ir_thread.specs.State.{IsAllowed};
 
@@ -64,11 +62,7 @@ impl<'a> States<'a> {
         requires is { IsSearch self.old }
         requires between { StandsBetween self.old }
         requires more { self.old.search.level.first < self.old.search.level.until }
-        ensures is { IsSearch self.new }
-        ensures setup { self.new.graph.setup ≡ self.old.graph.setup }
-        ensures bounds { self.new.graph.bounds ≡ self.old.graph.bounds }
-        ensures stay { Stay self.old.graph.flats.items self.new.graph.flats.items }
-        ensures adds { Adds self.old.search.level.number self.old.search.found.nodes.items self.new.search.found.nodes.items }
+        ensures kept { SearchGoesOn self.old self.new }
         // Once it has gone over it
         ensures between { OnOk result (StandsBetween self.new) }
         ensures next { OnOk result (self.new.search.level.number ≡ suc self.old.search.level.number) }

@@ -1,6 +1,6 @@
 -- Runs of a guest by turns.
 use Rattle.std.proofs.Common.{◌≡◌, ℕ, zero, suc, List, [], ◌∷◌, ◌++◌, Bool, true, false, length, map, replicate, append_assoc, ◌-◌, ◌≤◌, arith, refl, sym, ap, ◌∙◌, subst}
-use Rattle.ir_runs.specs.Run.{Step, after, end}
+use Rattle.ir_runs.specs.Run.{Step, end}
 use Rattle.ir_runs.proofs.CallerLemmas.{end_append}
 use Rattle.ir_search_laws.specs.Outcomes.{switches}
 use Rattle.ir_search_laws.specs.Orders.{IsStepAlone}

@@ -1,8 +1,9 @@
 -- What follows from how calls end.
-use Rattle.std.proofs.Common.{◌≡◌, ℕ, suc, ◌-◌, ◌≤◌, ◌<◌, Option, Some, None, refl, sym, subst, arith}
+use Rattle.std.proofs.Common.{◌≡◌, ℕ, suc, ◌-◌, ◌≤◌, ◌<◌, Option, Some, None, refl, sym, ◌∙◌, subst, arith}
 use Rattle.std.specs.Prelude.{Result, Ok, Err, OnOk, OnErr, IfErr, IsErrOf}
 use Rattle.ir_search.specs.declared.stop.Stop.{Stop}
-use Rattle.ir_outcomes.specs.Exploring.{levels_left}
+use Rattle.ir_outcomes.specs.Exploring.{ExploringGoesOn, levels_left}
+use Rattle.ir_outcomes.specs.declared.exploring.Exploring.{Exploring}
 
 -- what is so on success, where there is no error
 pub ok_fact_if_no_error : {A E P : Type 0} (r : Result A E) → OnErr r ⊥ → OnOk r P → P
@@ -23,3 +24,12 @@ pub fewer_levels_left : (stop : Option Stop) (old new most : ℕ) → old ≤ mo
     → levels_left stop (suc most - new) < levels_left None (suc most - old)
 fewer_levels_left None old new most few next = let a = next refl in omega (arith, a, few)
 fewer_levels_left (Some why) old new most few next = omega arith
+
+-- a search that has gone on once and once more
+pub exploring_goes_on_further : (a b c : Exploring) → ExploringGoesOn a b → ExploringGoesOn b c → ExploringGoesOn a c
+exploring_goes_on_further a b c first next = record {
+  is = next.is;
+  setup = next.setup ∙ first.setup;
+  bounds = next.bounds ∙ first.bounds;
+  most = next.most ∙ first.most;
+}

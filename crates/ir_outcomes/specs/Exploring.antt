@@ -37,6 +37,13 @@ pub record IsExploring (e : Exploring) : Type 0 where
   pub stopped : (why : Stop) → e.stop ≡ Some why
       → MayStop e.states.graph.setup e.states.graph.flats.items e.states.graph.bounds.nodes e.states.graph.bounds.private why
 
+-- the search has gone on: over the graph of the same guest, as far as before
+pub record ExploringGoesOn (old new : Exploring) : Type 0 where
+  pub is : IsExploring new
+  pub setup : new.states.graph.setup ≡ old.states.graph.setup
+  pub bounds : new.states.graph.bounds ≡ old.states.graph.bounds
+  pub most : new.most ≡ old.most
+
 -- more than so many levels are left to go over, or none where the search can't go on
 abbrev pub levels_left : Option Stop → ℕ → ℕ
 levels_left None most = suc most

@@ -8,7 +8,7 @@ ghost use Rattle.ir_search.specs.Following.{Stay};
 ghost use Rattle.ir_graph.specs.Searched.{IsWholeGraph};
 ghost use Rattle.ir_graph.specs.Stops.{IsStop, MayStop};
 ghost use Rattle.ir_outcomes.specs.Explored.{AreHangs, IsExplored};
-ghost use Rattle.ir_outcomes.specs.Exploring.{IsExploring};
+ghost use Rattle.ir_outcomes.specs.Exploring.{ExploringGoesOn, IsExploring};
 ghost use Rattle.ir_thread.specs.State.{IsAllowed};
 
 use crate::explored::Explored;
@@ -113,10 +113,7 @@ impl<'a> Exploring<'a> {
         requires stop { self.old.stop ≡ None }
         requires more { self.old.states.search.level.first < self.old.states.search.level.until }
         requires wanted { self.old.states.search.level.number ≤ self.old.most }
-        ensures is { IsExploring self.new }
-        ensures setup { self.new.states.graph.setup ≡ self.old.states.graph.setup }
-        ensures bounds { self.new.states.graph.bounds ≡ self.old.states.graph.bounds }
-        ensures most { self.new.most ≡ self.old.most }
+        ensures kept { ExploringGoesOn self.old self.new }
         ensures stay { Stay self.old.states.graph.flats.items self.new.states.graph.flats.items }
         ensures outcomes { Stay self.old.list.outcomes.items self.new.list.outcomes.items }
         ensures next { self.new.stop ≡ None → self.new.states.search.level.number ≡ suc self.old.states.search.level.number }

@@ -8,3 +8,4 @@ mod Written
 pub mod CallerLemmas
 mod Rows
 mod Only
+mod Conditions

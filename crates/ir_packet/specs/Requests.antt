@@ -1,5 +1,6 @@
 -- What the payload of a packet asks: one table of the bytes that packets begin with.
-use Rattle.std.specs.Prelude.{ℕ, ◌==◌, ◌-◌, nat_le, List, [], ◌∷◌, length, codes, drop, Bool, true, false, Option, Some, None, if◌then◌else◌}
+use Rattle.std.specs.Prelude.{ℕ, zero, suc, ◌==◌, ◌&&◌, ◌-◌, ◌*◌, nat_le, List, [], ◌∷◌, length, codes, take, drop, Bool, true, false}
+use Rattle.std.specs.Prelude.{Option, Some, None, is_some, option_map, unwrap_or, if◌then◌else◌}
 use Rattle.std.specs.Str.{bytes_eq}
 use Rattle.ir_packet.specs.Packets.{two_digits}
 use Rattle.ir_packet.specs.Numbers.{number, decimal_number, digit_index_of, number_before, behind, are_pairs, bytes_of_pairs}
@@ -115,6 +116,56 @@ first_action action others = move_of (motion_of (number_before 58 action)) (thre
 unfoldable pub actions : List ℕ → Request
 actions rest = first_action (number_before 59 rest) (others_of (drop (digit_index_of 59 rest) rest))
 
+-- ---- conditions of a breakpoint
+
+-- the bytes of a condition, each as two digits, and what is behind them
+pub record ConditionText : Type 0 where
+  pub digits : List ℕ
+  pub rest : List ℕ
+
+-- the digits of this many bytes at the beginning of a text, if they are all there
+abbrev pub condition_text : Option ℕ → List ℕ → Option ConditionText
+condition_text None text = None
+condition_text (Some n) text =
+    if nat_le (2 * n) (length text) && are_pairs (take (2 * n) text) then Some (record { digits = take (2 * n) text; rest = drop (2 * n) text }) else None
+
+-- a text without the `;` that it may begin with
+abbrev pub without_semicolon : List ℕ → List ℕ
+without_semicolon [] = []
+without_semicolon (b ∷ text) = if b == 59 then text else b ∷ text
+
+-- `X`, the number of a condition's bytes, `,` and the bytes
+abbrev pub condition_behind : List ℕ → Option ConditionText
+condition_behind [] = None
+condition_behind (b ∷ text) = if b == 88 then condition_text (number (number_before 44 text)) (behind 44 text) else None
+
+-- the first condition of a text; a `;` may be before it
+unfoldable pub first_condition : List ℕ → Option ConditionText
+first_condition text = condition_behind (without_semicolon text)
+
+abbrev pub more_conditions : (List ℕ → Option (List (List ℕ))) → Option ConditionText → Option (List (List ℕ))
+more_conditions more None = None
+more_conditions more (Some c) = option_map (λ conditions. bytes_of_pairs c.digits ∷ conditions) (more c.rest)
+
+-- the conditions of a text, at most n of them, if it is made of conditions
+unfoldable pub conditions_in : ℕ → List ℕ → Option (List (List ℕ))
+conditions_in n [] = Some []
+conditions_in zero (b ∷ text) = None
+conditions_in (suc n) (b ∷ text) = more_conditions (conditions_in n) (first_condition (b ∷ text))
+
+-- each of them takes a byte at least
+abbrev pub conditions : List ℕ → Option (List (List ℕ))
+conditions text = conditions_in (length text) text
+
+-- an address and a kind, by what is behind them: nothing, or `;` and conditions
+abbrev pub break_request_with : Bool → List ℕ → List ℕ → Request
+break_request_with hardware place [] = two_with_comma (λ a kind. request.SetBreak a hardware) place
+break_request_with hardware place (b ∷ text) =
+    if is_some (conditions text) then two_with_comma (λ a kind. request.SetBreakIf a hardware) place else request.Malformed
+
+unfoldable pub break_request : Bool → List ℕ → Request
+break_request hardware rest = break_request_with hardware (number_before 59 rest) (drop (digit_index_of 59 rest) rest)
+
 -- a restart, by the argument behind the program's name, if there is one
 abbrev pub restart_with : List ℕ → Request
 restart_with [] = request.Restart
@@ -168,8 +219,8 @@ commands =
 -- breakpoints and watches
 abbrev pub points : List PacketRow
 points =
-    packet_row (codes "Z0,") (two_with_comma (λ a kind. request.SetBreak a false)) ∷
-    packet_row (codes "Z1,") (two_with_comma (λ a kind. request.SetBreak a true)) ∷
+    packet_row (codes "Z0,") (break_request false) ∷
+    packet_row (codes "Z1,") (break_request true) ∷
     packet_row (codes "Z2,") (two_with_comma request.SetWatch) ∷
     packet_row (codes "z0,") (two_with_comma (λ a kind. request.ClearBreak a false)) ∷
     packet_row (codes "z1,") (two_with_comma (λ a kind. request.ClearBreak a true)) ∷
@@ -261,3 +312,7 @@ line_behind (Some digits) = bytes_of_pairs digits
 -- the line of a `qRcmd` packet
 unfoldable pub console_line : List ℕ → List ℕ
 console_line payload = line_behind (after_name (codes "qRcmd,") payload)
+
+-- the conditions of a `Z0` or `Z1` packet, each by its bytes; none if it has none
+unfoldable pub break_conditions : List ℕ → List (List ℕ)
+break_conditions payload = unwrap_or (conditions (behind 59 payload)) []

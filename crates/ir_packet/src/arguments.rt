@@ -1,7 +1,7 @@
 //! What is behind a packet's name.
 
 ghost use Rattle.std.specs.Prelude.{◌≡◌, ℕ, List, [], drop, Bool, Some, None, MatchOption, IfSome, length, ◌≤◌};
-ghost use Rattle.ir_packet.specs.Numbers.{number_before, digit_index_of};
+ghost use Rattle.ir_packet.specs.Numbers.{number_before, behind, digit_index_of};
 ghost use Rattle.ir_packet.specs.Requests as requests;
 ghost use Rattle.ir_packet.specs.declared.request.Request.{Request};
 ghost use Rattle.ir_packet.specs.declared.request.Request.TheVariants.{Malformed};
@@ -26,12 +26,22 @@ pub fn after_name<'a>(name: &[u8], bytes: &'a [u8]) -> Option<&'a [u8]>
     }
 }
 
-// The bytes before the first of these and from it on.
-fn cut(mark: u8, bytes: &[u8]) -> (&[u8], &[u8])
+/// The bytes before the first of these and from it on.
+pub fn cut(mark: u8, bytes: &[u8]) -> (&[u8], &[u8])
     ensures first { result.0.now ≡ number_before mark bytes.now }
     ensures rest { result.1.now ≡ drop (digit_index_of mark bytes.now) bytes.now }
 {
     bytes.split_at(index_of(mark, bytes))
+}
+
+/// The bytes behind the first of these.
+pub fn behind(mark: u8, bytes: &[u8]) -> &[u8]
+    ensures { result.now ≡ behind mark bytes.now }
+{
+    match cut(mark, bytes).1 {
+        [] => &[],
+        [_, rest @ ..] => rest,
+    }
 }
 
 /// What is made of nothing behind the name.

@@ -3,6 +3,7 @@
 #![tactic(auto)]
 
 mod arguments;
+mod condition;
 mod found;
 mod laws;
 mod number;
@@ -17,12 +18,13 @@ mod standing;
 mod tests;
 mod writing;
 
+pub use condition::Condition;
 pub use found::Found;
 pub use laws::{
     packet_is_read_back, parts_are_the_stream, parts_hold_what_the_stream_holds,
     pieces_hold_what_the_stream_holds, reader_finds_what_the_stream_holds,
 };
-pub use parse::{put_line, request_of};
+pub use parse::{break_conditions, put_line, request_of};
 pub use reader::{MOST_PAYLOAD, Reader};
 pub use reply::{Reason, Reply, Signal, Stop};
 pub use replying::{

@@ -1,13 +1,17 @@
 //! What a packet asks: a row for each of the bytes that packets begin with.
 
-ghost use Rattle.std.specs.Prelude.{◌≡◌, ◌≤◌, ◌+◌, ◌++◌, length, vec_len, vec_capacity};
+ghost use Rattle.std.specs.Prelude.{◌≡◌, ◌≤◌, ◌+◌, ◌++◌, length, vec_len, vec_capacity, IfOk};
 ghost use Rattle.ir_packet.specs.Requests as requests;
-ghost use Rattle.ir_packet.specs.Requests.{console_line};
+ghost use Rattle.ir_packet.specs.Requests.{break_conditions, console_line};
 ghost use Rattle.ir_packet.specs.declared.request.Request.TheVariants.{Description, Threads};
 
-use crate::arguments::{actions, after_name, console, one, plain, register, restart, thread, two};
+use crate::arguments::{
+    actions, after_name, behind, console, cut, one, plain, register, restart, thread, two,
+};
+use crate::condition::{Condition, are_conditions, conditions_of};
 use crate::number::put_bytes;
 use crate::request::{Motion, Mover, Request};
+use std::alloc::{AllocError, Global};
 
 // What gdb asks of the target as a whole.
 fn asked_queries(payload: &[u8]) -> Option<Request>
@@ -106,21 +110,34 @@ fn asked_named(payload: &[u8]) -> Option<Request>
     asked_commands(payload)
 }
 
+// A breakpoint, by the address and the kind and what is behind them.
+#[tactic(auto, unfolding(crate::specs::Requests::break_request))]
+fn breakpoint(hardware: bool, rest: &[u8]) -> Request
+    ensures { result ≡ requests.break_request hardware rest.now }
+{
+    let (place, behind) = cut(b';', rest);
+    match behind {
+        [] => two(place).map_or(
+            Request::Malformed,
+            |(address, _)| Request::SetBreak(address, hardware),
+        ),
+        [_, text @ ..] if are_conditions(text.len(), text) => two(place).map_or(
+            Request::Malformed,
+            |(address, _)| Request::SetBreakIf(address, hardware),
+        ),
+        _ => Request::Malformed,
+    }
+}
+
 // Breakpoints and watches.
 #[tactic(auto, unfolding(crate::specs::Requests::asked_points))]
 fn asked_points(payload: &[u8]) -> Option<Request>
     ensures { result ≡ requests.asked_points payload.now }
 {
     if let Some(rest) = after_name(b"Z0,", payload) {
-        Some(two(rest).map_or(
-            Request::Malformed,
-            |(address, _)| Request::SetBreak(address, false),
-        ))
+        Some(breakpoint(false, rest))
     } else if let Some(rest) = after_name(b"Z1,", payload) {
-        Some(two(rest).map_or(
-            Request::Malformed,
-            |(address, _)| Request::SetBreak(address, true),
-        ))
+        Some(breakpoint(true, rest))
     } else if let Some(rest) = after_name(b"Z2,", payload) {
         Some(two(rest).map_or(
             Request::Malformed,
@@ -222,4 +239,15 @@ pub fn put_line(out: &mut Vec<u8>, payload: &[u8])
     if let Some(digits) = after_name(b"qRcmd,", payload) {
         put_bytes(out, digits);
     }
+}
+
+/// The conditions of a `Z0` or `Z1` packet; none if it has none.
+///
+/// # Errors
+/// Out of memory.
+#[tactic(auto, unfolding(crate::specs::Requests::break_conditions))]
+pub fn break_conditions(alloc: Global, payload: &[u8]) -> Result<Vec<Condition>, AllocError>
+    ensures { IfOk result (λ v. v.items ≡ break_conditions payload.now) }
+{
+    conditions_of(alloc, behind(b';', payload))
 }

@@ -37,6 +37,8 @@ pub enum Request {
     Change,
     /// `Z0 a,k`, `Z1 a,k`: a breakpoint at an address, and whether it is to be a hardware one.
     SetBreak(u32, bool),
+    /// `Z0 a,k;X..`, `Z1 a,k;X..`: a breakpoint that stops only if one of its conditions is met.
+    SetBreakIf(u32, bool),
     /// `z0 a,k`, `z1 a,k`: take it away.
     ClearBreak(u32, bool),
     /// `Z2 a,n`: a watch of n bytes from an address on.

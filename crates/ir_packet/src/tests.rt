@@ -178,6 +178,42 @@ fn packets_about_registers_memory_and_points_are_read(rt: HostRuntime) -> Result
 }
 
 #[test]
+fn conditions_are_read(rt: HostRuntime) -> Result<(), Fail> {
+    let cases: [(&[u8], Request); 13] = [
+        (b"Z0,10010,4;X3,220127", Request::SetBreakIf(0x10010, false)),
+        (b"Z1,10010,4;X3,220127", Request::SetBreakIf(0x10010, true)),
+        (
+            b"Z0,10010,4;X3,220127X1,27",
+            Request::SetBreakIf(0x10010, false),
+        ),
+        (
+            b"Z0,10010,4;X3,220127;X1,27",
+            Request::SetBreakIf(0x10010, false),
+        ),
+        (b"Z0,10010,4;", Request::SetBreakIf(0x10010, false)),
+        (b"Z0,10010,4;X0,", Request::SetBreakIf(0x10010, false)),
+        (b"Z0,10010;X3,220127", Request::Malformed),
+        (b"Z0,10010,4;X3,2201", Request::Malformed),
+        (b"Z0,10010,4;X3,22012x", Request::Malformed),
+        (b"Z0,10010,4;X3,22012700", Request::Malformed),
+        (b"Z0,10010,4;X,220127", Request::Malformed),
+        (b"Z0,10010,4;Xffffffff,220127", Request::Malformed),
+        (b"Z0,10010,4;cmds:0,X3,220127", Request::Malformed),
+    ];
+    assert_eq!(rt; first_wrong(&cases), None);
+    let conditions = break_conditions(rt.alloc(), b"Z0,10010,4;X3,220127Xa,26000a1620226413270e")?;
+    assert_eq!(rt; conditions.len(), 2);
+    assert_eq!(rt; conditions[0].code(), b"\x22\x01\x27".as_slice());
+    assert_eq!(rt;
+        conditions[1].code(),
+        b"\x26\x00\x0a\x16\x20\x22\x64\x13\x27\x0e".as_slice()
+    );
+    assert_eq!(rt; break_conditions(rt.alloc(), b"Z0,10010,4")?.len(), 0);
+    assert_eq!(rt; break_conditions(rt.alloc(), b"Z0,10010,4;X9,22")?.len(), 0);
+    Ok(())
+}
+
+#[test]
 fn moves_are_read(rt: HostRuntime) -> Result<(), Fail> {
     let cases: [(&[u8], Request); 11] = [
         (b"vCont;s:1", Request::Move(Motion::Step, Mover::Alone(1))),

@@ -1,5 +1,6 @@
 pub mod Bundle
 pub mod Connecting
+pub mod Doing
 pub mod Leaving
 pub mod Refused
 pub mod Taking

@@ -1,16 +1,25 @@
 //! What the program does by its arguments, over streams and a folder.
 
-ghost use Rattle.std.specs.Prelude.{◌≡◌, false};
+ghost use Rattle.std.specs.Prelude.{◌≡◌, ◌≢◌, ◌⊎◌, false};
+ghost use Rattle.ir_files.specs.Writers.{Writer, writer_of};
+ghost use Rattle.ir_files.specs.declared.exit_status.ExitStatus.TheVariants as exit;
+ghost use Rattle.ir_commands.specs.Files.{TellsFault};
+ghost use Rattle.ir_commands.specs.Printing.{LeavesUnread, PrintsCode, IsStatusOfNoImage};
+ghost use Rattle.ir_program.specs.Doing.{HeldBundle, HoldsSession, HoldsConnection, Shows};
+ghost use Rattle.ir_program.specs.Taking.{TakenReader};
 
 use crate::bundles::bundle;
 use crate::debug::{debug_files, gdb_files};
 use crate::ends_once::EndsOnce;
 use crate::prompting::Prompting;
-use ir_arguments::{Asked, Explored, Make, Print, parsed};
+use ir_arguments::{
+    Asked, DebugArguments, Explored, HuntArguments, ListArguments, Make, Print, RecordArguments,
+    ShrinkArguments, UntilArguments, parsed,
+};
 use ir_commands::{
     Surroundings, assemble_file, classes_file, convert_file, diff_files, events_file,
-    explain_image, explore_file, hunt_file, list_file, record_file, say, stale_file, trace_file,
-    until_file, view_file, who_file, why_file, within_file,
+    explain_image, explore_file, hunt_file, list_file, record_file, say, shrink_file, stale_file,
+    trace_file, until_file, view_file, who_file, why_file, within_file,
 };
 use ir_files::{ExitStatus, Folder};
 use ir_object::{Gate, Given, Hands};
@@ -44,7 +53,11 @@ const WAITS: &str =
     "ir: waiting for an image and a trace, a line of hexadecimal each; see ir --help\n";
 
 // Writes a text about the program.
-fn help<O: Sink, E: Sink>(text: &str, out: &mut O, faults: &mut E) -> ExitStatus {
+fn help<O: Sink, E: Sink>(text: &str, out: &mut O, faults: &mut E) -> ExitStatus
+    requires writes { O.broken out.old ≡ false }
+    requires reports { E.broken faults.old ≡ false }
+    ensures { Shows text.now result (writer_of (O.written out.old) (O.written out.new) (O.broken out.new)) (writer_of (E.written faults.old) (E.written faults.new) (E.broken faults.new)) }
+{
     match write_all(out, text.as_bytes()) {
         Ok(()) => ExitStatus::Done,
         Err(_) => {
@@ -72,6 +85,7 @@ where
     requires reads { I.broken input ≡ false }
     requires writes { O.broken out.old ≡ false }
     requires reports { E.broken faults.old ≡ false }
+    ensures { (reader : TakenReader) × (reader.before ≡ I.left input) × HeldBundle result reader (writer_of (O.written out.old) (O.written out.new) (O.broken out.new)) (out.new ≡ out.old) }
 {
     let mut input = EndsOnce::new(input, at_terminal);
     if at_terminal {
@@ -103,9 +117,31 @@ fn over_image<D: Folder, E: Sink>(
     image: &str,
     status: ExitStatus,
     faults: &mut E,
-) -> ExitStatus {
+) -> ExitStatus
+    ensures same { result ≡ status }
+    ensures kept { status ≢ exit.Refused → faults.new ≡ faults.old }
+{
     explain_image(alloc, folder, image, status, faults);
     status
+}
+
+// Prints the code of an image. It is reported what a refused image is.
+fn print_code<D: Folder, O: Sink, E: Sink>(
+    alloc: Global,
+    folder: &D,
+    arguments: &ListArguments,
+    out: &mut O,
+    faults: &mut E,
+) -> ExitStatus
+    requires writes { O.broken out.old ≡ false }
+    requires reports { E.broken faults.old ≡ false }
+    ensures prints { (told : Writer) × (PrintsCode (D.bytes_at folder.now) arguments.now result (writer_of (O.written out.old) (O.written out.new) (O.broken out.new)) told
+        ⊎ LeavesUnread (IsStatusOfNoImage (D.bytes_at folder.now) arguments.now.image arguments.now.map result) (out.new ≡ out.old) told) }
+    ensures quiet { result ≡ exit.Done → faults.new ≡ faults.old }
+{
+    let status = list_file(alloc, folder, arguments, out, faults);
+    let image = arguments.image.as_str();
+    over_image(alloc, folder, image, status, faults)
 }
 
 // Prints lines about files.
@@ -118,13 +154,10 @@ fn print<D: Folder, O: Sink, E: Sink>(
 ) -> ExitStatus
     requires writes { O.broken out.old ≡ false }
     requires reports { E.broken faults.old ≡ false }
+    ensures quiet { result ≡ exit.Done → faults.new ≡ faults.old }
 {
     match what {
-        Print::Code(arguments) => {
-            let status = list_file(alloc, folder, arguments, out, faults);
-            let image = arguments.image.as_str();
-            over_image(alloc, folder, image, status, faults)
-        }
+        Print::Code(arguments) => print_code(alloc, folder, arguments, out, faults),
         Print::Trace(arguments) => trace_file(alloc, folder, arguments, out, faults),
         Print::Events(arguments) => { events_file(alloc, folder, arguments, out, faults) }
         Print::Stale(arguments) => { stale_file(alloc, folder, arguments, out, faults) }
@@ -172,12 +205,194 @@ where
     }
 }
 
+// Records the guest in a file.
+fn record<R, D, G, O, E>(
+    around: &Surroundings<'_, R, D, G>,
+    arguments: &RecordArguments,
+    explains: bool,
+    out: &mut O,
+    faults: &mut E,
+) -> ExitStatus
+where
+    R: Threads + Wait + Sync + Clock + AllocGlobal,
+    D: Folder,
+    G: Gate + Sync,
+    O: Sink,
+    E: Sink,
+    requires writes { O.broken out.old ≡ false }
+    requires reports { E.broken faults.old ≡ false }
+{
+    let status = record_file(around, arguments, explains, out, faults);
+    let image = arguments.image.as_str();
+    over_image(around.rt.alloc(), around.folder, image, status, faults)
+}
+
+// Hunts for a run of the guest in a file.
+fn hunt<R, D, G, O, E>(
+    around: &Surroundings<'_, R, D, G>,
+    arguments: &HuntArguments,
+    explains: bool,
+    out: &mut O,
+    faults: &mut E,
+) -> ExitStatus
+where
+    R: Threads + Sync + Clock + Eprint + AllocGlobal,
+    D: Folder,
+    O: Sink,
+    E: Sink,
+    requires writes { O.broken out.old ≡ false }
+    requires reports { E.broken faults.old ≡ false }
+{
+    let status = hunt_file(around, arguments, explains, out, faults);
+    let image = arguments.image.as_str();
+    over_image(around.rt.alloc(), around.folder, image, status, faults)
+}
+
+// Looks for an outcome of the guest in a file.
+fn until<R, D, G, O, E>(
+    around: &Surroundings<'_, R, D, G>,
+    arguments: &UntilArguments,
+    explains: bool,
+    out: &mut O,
+    faults: &mut E,
+) -> ExitStatus
+where
+    R: Clock + AllocGlobal,
+    D: Folder,
+    G: Observer,
+    O: Sink,
+    E: Sink,
+    requires writes { O.broken out.old ≡ false }
+    requires reports { E.broken faults.old ≡ false }
+{
+    let status = until_file(around, arguments, explains, out, faults);
+    let image = arguments.explore.image.as_str();
+    over_image(around.rt.alloc(), around.folder, image, status, faults)
+}
+
+// Shrinks a recorded run of the guest in a file.
+fn shrink<R, D, G, O, E>(
+    around: &Surroundings<'_, R, D, G>,
+    arguments: &ShrinkArguments,
+    explains: bool,
+    out: &mut O,
+    faults: &mut E,
+) -> ExitStatus
+where
+    R: Clock + AllocGlobal,
+    D: Folder,
+    O: Sink,
+    E: Sink,
+    requires writes { O.broken out.old ≡ false }
+    requires reports { E.broken faults.old ≡ false }
+{
+    let status = shrink_file(around, arguments, explains, out, faults);
+    let image = arguments.image.as_str();
+    over_image(around.rt.alloc(), around.folder, image, status, faults)
+}
+
 // Reports why nothing is done; the exit status of that.
 fn told<E: Sink>(why: &str, status: ExitStatus, faults: &mut E) -> ExitStatus
-    ensures { result ≡ status }
+    requires reports { E.broken faults.old ≡ false }
+    ensures status { result ≡ status }
+    ensures told { TellsFault (writer_of (E.written faults.old) (E.written faults.new) (E.broken faults.new)) }
 {
     say(faults, why, "", "");
     status
+}
+
+// The session of lines of the files that are named.
+fn debug<R, D, G, I, O, E>(
+    around: &Surroundings<'_, R, D, G>,
+    arguments: &DebugArguments,
+    asks: bool,
+    input: I,
+    out: &mut O,
+    faults: &mut E,
+) -> ExitStatus
+where
+    R: Threads + Clock + Sync + Eprint + AllocGlobal,
+    D: Folder,
+    G: Gate + Sync,
+    I: Source + Drop,
+    O: Sink,
+    E: Sink,
+    requires reads { I.broken input ≡ false }
+    requires writes { O.broken out.old ≡ false }
+    requires reports { E.broken faults.old ≡ false }
+    ensures { HoldsSession (D.bytes_at around.now.folder.now) arguments.now result (I.left input) (writer_of (O.written out.old) (O.written out.new) (O.broken out.new))
+        (writer_of (E.written faults.old) (E.written faults.new) (E.broken faults.new)) (out.new ≡ out.old) }
+{
+    let mut input = Prompting::new(input, around.rt, asks);
+    debug_files(around, arguments, &mut input, out, faults)
+}
+
+// The connection of gdb to the run of the files that are named.
+fn gdb<R, D, G, I, O, E>(
+    around: &Surroundings<'_, R, D, G>,
+    arguments: &DebugArguments,
+    input: I,
+    out: &mut O,
+    faults: &mut E,
+) -> ExitStatus
+where
+    R: Threads + Clock + Sync + AllocGlobal,
+    D: Folder,
+    G: Gate + Sync,
+    I: Source + Drop,
+    O: Sink,
+    E: Sink,
+    requires reads { I.broken input ≡ false }
+    requires writes { O.broken out.old ≡ false }
+    requires reports { E.broken faults.old ≡ false }
+    ensures { HoldsConnection (D.bytes_at around.now.folder.now) arguments.now result (I.left input) (writer_of (O.written out.old) (O.written out.new) (O.broken out.new))
+        (writer_of (E.written faults.old) (E.written faults.new) (E.broken faults.new)) (out.new ≡ out.old) }
+{
+    let mut input = input;
+    gdb_files(around, arguments, &mut input, out, faults)
+}
+
+// Does what is asked, and gives the exit status.
+fn serve<R, D, G, I, O, E>(
+    around: &Surroundings<'_, R, D, G>,
+    terminals: Terminals,
+    asked: Asked,
+    input: I,
+    out: &mut O,
+    faults: &mut E,
+) -> ExitStatus
+where
+    R: Threads + Wait + Sync + Clock + Eprint + AllocGlobal,
+    D: Folder,
+    G: Gate + Observer + Sync,
+    I: Source + Drop,
+    O: Sink,
+    E: Sink,
+    requires reads { I.broken input ≡ false }
+    requires writes { O.broken out.old ≡ false }
+    requires reports { E.broken faults.old ≡ false }
+{
+    let (rt, folder) = (around.rt, around.folder);
+    let alloc = rt.alloc();
+    let explains = terminals.faults;
+    match asked {
+        Asked::Session => {
+            let hands = Given::new(rt, alloc, around.gate);
+            bundled_session(rt, &hands, terminals.input, input, out, faults)
+        }
+        Asked::Make(what) => make(alloc, folder, &what, explains, faults),
+        Asked::Record(arguments) => record(around, &arguments, explains, out, faults),
+        Asked::Hunt(arguments) => hunt(around, &arguments, explains, out, faults),
+        Asked::Shrink(arguments) => shrink(around, &arguments, explains, out, faults),
+        Asked::Until(arguments) => until(around, &arguments, explains, out, faults),
+        Asked::Debug(arguments) => debug(around, &arguments, terminals.input, input, out, faults),
+        Asked::Gdb(arguments) => gdb(around, &arguments, input, out, faults),
+        Asked::Print(mut what) => print(alloc, folder, &mut what, out, faults),
+        Asked::Explore(what) => explore(around, &what, out, faults),
+        Asked::Help(text) => help(text.as_str(), out, faults),
+        Asked::Nothing(why) => told(why.as_str(), ExitStatus::BadArguments, faults),
+        Asked::NoMem => told("memory ran out", ExitStatus::Failed, faults),
+    }
 }
 
 /// Does what the arguments ask for, and gives the exit status.
@@ -199,40 +414,6 @@ where
     requires writes { O.broken out.old ≡ false }
     requires reports { E.broken faults.old ≡ false }
 {
-    let (rt, folder) = (around.rt, around.folder);
-    let alloc = rt.alloc();
-    let hands = Given::new(rt, alloc, around.gate);
-    let terminals = invocation.terminals;
-    match parsed(alloc, invocation.arguments) {
-        Asked::Session => bundled_session(rt, &hands, terminals.input, input, out, faults),
-        Asked::Make(what) => make(alloc, folder, &what, terminals.faults, faults),
-        Asked::Record(arguments) => {
-            let status = record_file(&around, &arguments, terminals.faults, out, faults);
-            let image = arguments.image.as_str();
-            over_image(alloc, folder, image, status, faults)
-        }
-        Asked::Hunt(arguments) => {
-            let status = hunt_file(&around, &arguments, terminals.faults, out, faults);
-            let image = arguments.image.as_str();
-            over_image(alloc, folder, image, status, faults)
-        }
-        Asked::Until(arguments) => {
-            let status = until_file(&around, &arguments, terminals.faults, out, faults);
-            let image = arguments.explore.image.as_str();
-            over_image(alloc, folder, image, status, faults)
-        }
-        Asked::Debug(arguments) => {
-            let mut input = Prompting::new(input, rt, terminals.input);
-            debug_files(&around, &arguments, &mut input, out, faults)
-        }
-        Asked::Gdb(arguments) => {
-            let mut input = input;
-            gdb_files(&around, &arguments, &mut input, out, faults)
-        }
-        Asked::Print(mut what) => print(alloc, folder, &mut what, out, faults),
-        Asked::Explore(what) => explore(&around, &what, out, faults),
-        Asked::Help(text) => help(text.as_str(), out, faults),
-        Asked::Nothing(why) => told(why.as_str(), ExitStatus::BadArguments, faults),
-        Asked::NoMem => told("memory ran out", ExitStatus::Failed, faults),
-    }
+    let asked = parsed(around.rt.alloc(), invocation.arguments);
+    serve(&around, invocation.terminals, asked, input, out, faults)
 }

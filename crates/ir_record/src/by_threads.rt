@@ -36,10 +36,18 @@ fn blanks(alloc: Global, count: usize) -> Result<Vec<Object>, AllocError>
     Ok(objects)
 }
 
+/// What a recorded run may take.
+#[derive(Clone, Copy)]
+pub struct Limits {
+    /// The steps that each thread of the guest may take.
+    pub budget: u64,
+    /// Which system calls there are, and how many threads and objects.
+    pub profile: Profile,
+}
+
 /// Records the guest on real threads. Each of its threads runs on one of its own; where none can be started, the caller
-/// runs it, and several such one after another. The budget is in steps, for each thread of the guest; the profile says
-/// which system calls there are, and has to allow the guest's threads and objects. Which of the guest's runs is recorded is
-/// open, and any try may be refused.
+/// runs it, and several such one after another. The profile of the limits has to allow the guest's threads and objects. Which
+/// of the guest's runs is recorded is open, and any try may be refused.
 ///
 /// Each entry is reported to the gate just after it, and each leave just before it, on the thread that enters or leaves. This
 /// includes what a thread releases at its end or after its world has failed. Private steps are reported too. A gate that
@@ -59,21 +67,21 @@ pub fn record<R: Threads + Wait + Sync, W: World + Drop + Send, G: Gate + Sync>(
     image: &Image,
     worlds: Vec<W>,
     gate: &G,
-    budget: u64,
-    profile: Profile,
+    limits: Limits,
 ) -> Result<(Trace, Outputs<W>), RecordErr<W>>
-    requires budget { budget ≤ most_budget }
-    requires allowed { IsAllowed profile image.now }
+    requires budget { limits.budget ≤ most_budget }
+    requires allowed { IsAllowed limits.profile image.now }
     requires each { vec_len worlds ≡ length image.now.entries }
     requires works { NoneFailed (map W.broken worlds.items) }
     // One complete run of the guest: its trace, what its threads printed, and what their worlds answered.
-    ensures recorded { IfOk result (IsRecordedByThreads W.answers image.now budget profile worlds.items) }
+    ensures recorded { IfOk result (IsRecordedByThreads W.answers image.now limits.budget limits.profile worlds.items) }
     ensures works { IfOk result (AllWork W.broken) }
     // The worlds are those that were handed in.
     ensures origins { IfOk result (AreHandedBack W.origin worlds.items) }
-    ensures failed { IfErr result (IsFailure W.answers W.broken W.origin image.now budget profile worlds.items) }
+    ensures failed { IfErr result (IsFailure W.answers W.broken W.origin image.now limits.budget limits.profile worlds.items) }
 {
     let (crew, seats) = Crew::open(alloc, image)?;
+    let Limits { budget, profile } = limits;
     let mut workers = new_workers(alloc, image, seats, worlds, budget, profile)?;
     let buffers = new_buffers(alloc, workers.len())?;
     let mut objects = blanks(alloc, image.object_count())?;

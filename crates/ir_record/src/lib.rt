@@ -10,7 +10,7 @@ mod thread_trace;
 mod turns;
 mod world;
 
-pub use by_threads::record;
+pub use by_threads::{Limits, record};
 pub use in_order::{record_in_order, record_in_turns, record_with_refusals};
 pub use item::Item;
 pub use outputs::{Output, Outputs};

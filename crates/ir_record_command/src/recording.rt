@@ -22,7 +22,7 @@ use crate::plan::RecordPlan;
 use crate::record_fault::RecordFault;
 use ir_files::{ExitStatus, OutputSink, WholeSink, tell, tell_of};
 use ir_object::Gate;
-use ir_record::{Outputs, RecordErr, record, record_with_refusals};
+use ir_record::{Limits, Outputs, RecordErr, record, record_with_refusals};
 use ir_stream::{DeviceErr, Sink, write_all};
 use ir_trace::{ThreadTrace, Trace, write_trace};
 use ir_world::{ProgramWorld, Time, worlds};
@@ -124,7 +124,11 @@ fn recorded_by_threads<R: Threads + Wait + Sync + Clock, G: Gate + Sync>(
         plan.random,
         plan.input,
     )?;
-    match record(rt, alloc, guest, worlds, gate, plan.budget, plan.profile) {
+    let limits = Limits {
+        budget: plan.budget,
+        profile: plan.profile,
+    };
+    match record(rt, alloc, guest, worlds, gate, limits) {
         Ok((trace, outputs)) => Ok((trace, printed(alloc, outputs)?)),
         Err(why) => Err(stopped_by(why)),
     }

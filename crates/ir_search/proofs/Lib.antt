@@ -1,6 +1,7 @@
 mod Opens
 mod Reached
 mod TurnSoFar
+mod Kept
 mod Rows
 mod Gone
 mod Between

@@ -181,6 +181,13 @@ joined_no_fewer_nodes nodes new next j = elim j.cases [
   | inr p ↦ let a = ap length p.1 in let b = length-append nodes (next.origin ∷ []) in omega (arith, a, b)
 ]
 
+pub joined_nodes_within : (nodes new : List Origin) (next : Pending) (size : ℕ) → Joined nodes new next → length nodes ≤ size → next.node < size
+    → length new ≤ size
+joined_nodes_within nodes new next size j few less = elim j.cases [
+  | inl same ↦ let a = ap length same in omega (arith, a, few)
+  | inr p ↦ let a = ap length p.1 in let b = length-append nodes (next.origin ∷ []) in let d = p.0 in omega (arith, a, b, d, less)
+]
+
 pub joined_adds_nodes : (nodes new : List Origin) (next : Pending) (level : ℕ) → Joined nodes new next → next.origin.level ≡ level → Adds level nodes new
 joined_adds_nodes nodes new next level j same = elim j.cases [
   | inl old ↦ subst (Adds level nodes) (sym old) (adds_reflexive level nodes)

@@ -1,7 +1,9 @@
 pub mod Following
+pub mod Shape
 pub mod Meaning
 pub mod Origins
 pub mod Levels
 pub mod Ways
 pub mod TurnSoFar
 pub mod Searching
+pub mod Kept

@@ -2,9 +2,10 @@
 
 ghost use Rattle.std.specs.Prelude.{◌≡◌, ◌⊎◌, ◌++◌, ℕ, Bool, false, true, suc, [], ◌∷◌, ◌+◌, ◌-◌, ◌<◌, ◌≤◌, length, slice_set, IfOk, OnErr, IfErr, IsErrOf, OnOk};
 ghost use Rattle.ir_search.specs.declared.stop.Stop.TheVariants.{Nodes, Memory};
-ghost use Rattle.ir_search.specs.Following.{Keeps, Stay, IsNodeOpen, StaysOpen, GoesTo, IsWayFollowed};
+ghost use Rattle.ir_search.specs.Following.{IsNodeOpen, StaysOpen, GoesTo};
+ghost use Rattle.ir_search.specs.Kept.{IsAllFound, IsRowFollowed, SearchKeeps};
 ghost use Rattle.ir_search.specs.TurnSoFar.{IsTurnSoFar, IsAfter, left_to_open};
-ghost use Rattle.ir_search.specs.Origins.{BeginsAt, AreReached, Adds};
+ghost use Rattle.ir_search.specs.Origins.{BeginsAt};
 
 use crate::found::{Found, Pending};
 use crate::observer::Observer;
@@ -71,30 +72,26 @@ fn follow<S: Successors, O: Observer>(
     refused: bool,
     observer: &O,
 ) -> Result<(), Stop>
-    requires turn { IsTurnSoFar (S.noted graph.old) here.origin.thread here.origin.level opened.old.items found.old.nodes.items found.old.refusals.items (here ∷ found.old.pending.items) }
-    requires nodes { length found.old.nodes.items ≡ S.size graph.old }
-    requires room { S.size graph.old ≤ S.most graph.old }
+    requires turn { IsTurnSoFar (S.shape graph.old).noted here.origin.thread here.origin.level opened.old.items found.old.nodes.items found.old.refusals.items (here ∷ found.old.pending.items) }
+    requires nodes { length found.old.nodes.items ≡ (S.shape graph.old).size }
+    requires room { (S.shape graph.old).size ≤ (S.shape graph.old).most }
     requires sound { S.is_sound graph.old }
 
     // Once it has gone on
-    ensures turn { OnOk result (IsTurnSoFar (S.noted graph.new) here.origin.thread here.origin.level opened.new.items found.new.nodes.items found.new.refusals.items (here ∷ found.new.pending.items)) }
-    ensures follows { OnOk result (GoesTo (S.noted graph.new here.origin.thread refused) (IsNodeOpen opened.new.items) here.node) }
-    ensures nodes { OnOk result (length found.new.nodes.items ≡ S.size graph.new) }
-    ensures less { OnOk result (left_to_open (S.most graph.new) opened.new.items + length found.new.pending.items ≤ left_to_open (S.most graph.old) opened.old.items + length found.old.pending.items) }
+    ensures turn { OnOk result
+        (IsTurnSoFar (S.shape graph.new).noted here.origin.thread here.origin.level opened.new.items found.new.nodes.items found.new.refusals.items
+        (here ∷ found.new.pending.items)) }
+    ensures follows { OnOk result (GoesTo ((S.shape graph.new).noted here.origin.thread refused) (IsNodeOpen opened.new.items) here.node) }
+    ensures nodes { OnOk result (length found.new.nodes.items ≡ (S.shape graph.new).size) }
+    ensures less { OnOk result
+        (left_to_open (S.shape graph.new).most opened.new.items + length found.new.pending.items
+        ≤ left_to_open (S.shape graph.old).most opened.old.items + length found.old.pending.items) }
 
     // Whatever comes
     ensures stays { StaysOpen opened.old.items opened.new.items }
-    ensures reached { AreReached (S.noted graph.new) found.new.refusals.items found.new.nodes.items }
-    ensures adds { Adds here.origin.level found.old.nodes.items found.new.nodes.items }
-    ensures few { length found.new.nodes.items ≤ S.size graph.new }
-    ensures kept { (t : ℕ) (way : Bool) → Keeps (S.noted graph.old t way) (S.noted graph.new t way) }
-    ensures stay { Stay (S.nodes graph.old) (S.nodes graph.new) }
-    ensures room { S.size graph.new ≤ S.most graph.new }
-    ensures limit { S.most graph.new ≡ S.most graph.old }
-    ensures origin { S.origin graph.new ≡ S.origin graph.old }
-    ensures full { IsErrOf result Nodes → S.size graph.new ≡ S.most graph.new }
+    ensures keeps { SearchKeeps here.origin.level (S.shape graph.old) (S.shape graph.new) (S.is_sound graph.new) found.old.nodes.items found.new.nodes.items found.new.refusals.items }
+    ensures full { IsErrOf result Nodes → (S.shape graph.new).size ≡ (S.shape graph.new).most }
     ensures stopped { IfErr result (λ stop. (stop ≡ Memory) ⊎ S.may_stop graph.new stop) }
-    ensures sound { S.is_sound graph.new }
 {
     let Some(node) = graph.next(here.origin.thread as usize, refused, here.node)? else {
         return Ok(());
@@ -119,35 +116,22 @@ pub fn go_alone<S: Successors, O: Observer>(
     start: Origin,
     observer: &O,
 ) -> Result<(), Stop>
-    requires followed { IsWayFollowed (S.noted graph.old start.thread) opened.old.items }
+    requires row { IsRowFollowed ((S.shape graph.old).noted start.thread) opened.old.items found.old.nodes.items }
     requires begins { BeginsAt found.old.nodes.items start.level start.from }
     requires none { (start.last_refusal ≡ 0) × (start.entries ≡ 0) }
-    requires reached { AreReached (S.noted graph.old) found.old.refusals.items found.old.nodes.items }
     requires node { start.from < length found.old.nodes.items }
-    requires row { length opened.old.items ≡ length found.old.nodes.items }
-    requires nodes { length found.old.nodes.items ≡ S.size graph.old }
-    requires room { S.size graph.old ≤ S.most graph.old }
-    requires sound { S.is_sound graph.old }
+    requires all { IsAllFound (S.shape graph.old) (S.is_sound graph.old) found.old.nodes.items found.old.refusals.items }
 
     // Once it has gone on
-    ensures followed { OnOk result (IsWayFollowed (S.noted graph.new start.thread) opened.new.items) }
+    ensures row { OnOk result (IsRowFollowed ((S.shape graph.new).noted start.thread) opened.new.items found.new.nodes.items) }
     ensures opens { OnOk result (IsNodeOpen opened.new.items start.from) }
-    ensures row { OnOk result (length opened.new.items ≡ length found.new.nodes.items) }
-    ensures nodes { OnOk result (length found.new.nodes.items ≡ S.size graph.new) }
+    ensures nodes { OnOk result (length found.new.nodes.items ≡ (S.shape graph.new).size) }
 
     // Whatever comes
     ensures stays { StaysOpen opened.old.items opened.new.items }
-    ensures reached { AreReached (S.noted graph.new) found.new.refusals.items found.new.nodes.items }
-    ensures adds { Adds start.level found.old.nodes.items found.new.nodes.items }
-    ensures few { length found.new.nodes.items ≤ S.size graph.new }
-    ensures kept { (t : ℕ) (way : Bool) → Keeps (S.noted graph.old t way) (S.noted graph.new t way) }
-    ensures stay { Stay (S.nodes graph.old) (S.nodes graph.new) }
-    ensures room { S.size graph.new ≤ S.most graph.new }
-    ensures limit { S.most graph.new ≡ S.most graph.old }
-    ensures origin { S.origin graph.new ≡ S.origin graph.old }
-    ensures full { IsErrOf result Nodes → S.size graph.new ≡ S.most graph.new }
+    ensures keeps { SearchKeeps start.level (S.shape graph.old) (S.shape graph.new) (S.is_sound graph.new) found.old.nodes.items found.new.nodes.items found.new.refusals.items }
+    ensures full { IsErrOf result Nodes → (S.shape graph.new).size ≡ (S.shape graph.new).most }
     ensures stopped { IfErr result (λ stop. (stop ≡ Memory) ⊎ S.may_stop graph.new stop) }
-    ensures sound { S.is_sound graph.new }
 {
     let from = start.from as usize;
     if opened[from] {

@@ -1,10 +1,11 @@
 //! A search that goes on level by level.
 
-ghost use Rattle.std.specs.Prelude.{◌≡◌, ◌⊎◌, ℕ, Bool, suc, true, false, [], ◌∷◌, ◌<◌, ◌≤◌, length, replicate, IfOk, IfErr, IsErrOf, OnErr, OnOk};
+ghost use Rattle.std.specs.Prelude.{◌≡◌, ◌⊎◌, ℕ, suc, true, false, [], ◌∷◌, ◌<◌, ◌≤◌, length, replicate, IfOk, IfErr, IsErrOf, OnErr, OnOk};
 ghost use Rattle.ir_search.specs.declared.stop.Stop.TheVariants.{Nodes, Memory};
-ghost use Rattle.ir_search.specs.Following.{BothWays, Keeps, Stay};
+ghost use Rattle.ir_search.specs.Following.{BothWays};
+ghost use Rattle.ir_search.specs.Kept.{SearchKeeps};
 ghost use Rattle.ir_search.specs.Levels.{rows, AreAsked};
-ghost use Rattle.ir_search.specs.Origins.{first_origin, Adds};
+ghost use Rattle.ir_search.specs.Origins.{first_origin};
 ghost use Rattle.ir_search.specs.Searching.{HasGone, IsBetween};
 
 use crate::found::Found;
@@ -112,28 +113,26 @@ impl Search {
         graph: &mut S,
         observer: &O,
     ) -> Result<(), Stop>
-        requires between { IsBetween (S.noted graph.old) (S.size graph.old) self.old.found.nodes.items self.old.found.refusals.items (rows self.old.opened.items) self.old.level }
+        requires between { IsBetween (S.shape graph.old).noted (S.shape graph.old).size self.old.found.nodes.items self.old.found.refusals.items (rows self.old.opened.items) self.old.level }
         requires more { self.old.level.first < self.old.level.until }
-        requires room { S.size graph.old ≤ S.most graph.old }
+        requires room { (S.shape graph.old).size ≤ (S.shape graph.old).most }
         requires sound { S.is_sound graph.old }
 
         // Once it has gone over it
-        ensures between { OnOk result (IsBetween (S.noted graph.new) (S.size graph.new) self.new.found.nodes.items self.new.found.refusals.items (rows self.new.opened.items) self.new.level) }
+        ensures between { OnOk result
+            (IsBetween (S.shape graph.new).noted (S.shape graph.new).size self.new.found.nodes.items self.new.found.refusals.items
+            (rows self.new.opened.items) self.new.level) }
         ensures next { OnOk result (self.new.level.number ≡ suc self.old.level.number) }
 
         // Whatever comes
-        ensures has { HasGone (S.noted graph.new) (length (rows self.new.opened.items)) (S.size graph.new) self.new.found.nodes.items self.new.found.refusals.items self.old.level.number }
+        ensures has { HasGone (S.shape graph.new).noted (length (rows self.new.opened.items)) (S.shape graph.new).size self.new.found.nodes.items
+            self.new.found.refusals.items self.old.level.number }
         ensures level { OnErr result (self.new.level ≡ self.old.level) }
-        ensures adds { Adds self.old.level.number self.old.found.nodes.items self.new.found.nodes.items }
+        ensures keeps { SearchKeeps self.old.level.number (S.shape graph.old) (S.shape graph.new) (S.is_sound graph.new) self.old.found.nodes.items
+            self.new.found.nodes.items self.new.found.refusals.items }
         ensures threads { length (rows self.new.opened.items) ≡ length (rows self.old.opened.items) }
-        ensures kept { (t : ℕ) (way : Bool) → Keeps (S.noted graph.old t way) (S.noted graph.new t way) }
-        ensures stay { Stay (S.nodes graph.old) (S.nodes graph.new) }
-        ensures room { S.size graph.new ≤ S.most graph.new }
-        ensures limit { S.most graph.new ≡ S.most graph.old }
-        ensures origin { S.origin graph.new ≡ S.origin graph.old }
-        ensures full { IsErrOf result Nodes → S.size graph.new ≡ S.most graph.new }
+        ensures full { IsErrOf result Nodes → (S.shape graph.new).size ≡ (S.shape graph.new).most }
         ensures stopped { IfErr result (λ stop. (stop ≡ Memory) ⊎ S.may_stop graph.new stop) }
-        ensures sound { S.is_sound graph.new }
     {
         let level = self.level;
         take_level(graph, &mut self.opened, &mut self.found, level, observer)?;

@@ -1,9 +1,10 @@
 //! A thread's turn in a level.
 
-ghost use Rattle.std.specs.Prelude.{◌≡◌, ◌⊎◌, ℕ, Bool, ◌<◌, ◌≤◌, length, IfErr, IsErrOf, OnOk};
+ghost use Rattle.std.specs.Prelude.{◌≡◌, ◌⊎◌, ◌≤◌, length, IfErr, IsErrOf, OnOk};
 ghost use Rattle.ir_search.specs.declared.stop.Stop.TheVariants.{Nodes, Memory};
-ghost use Rattle.ir_search.specs.Following.{Keeps, Stay, AreOpen, StaysOpen, IsWayFollowed};
-ghost use Rattle.ir_search.specs.Origins.{AreReached, IsLevel, Adds};
+ghost use Rattle.ir_search.specs.Following.{AreOpen, StaysOpen, IsWayFollowed};
+ghost use Rattle.ir_search.specs.Kept.{IsAllFound, IsRowFollowed, SearchKeeps};
+ghost use Rattle.ir_search.specs.Origins.{IsLevel};
 
 use crate::alone::go_alone;
 use crate::found::Found;
@@ -25,34 +26,22 @@ pub fn take_turn<S: Successors, O: Observer>(
     level: Level,
     observer: &O,
 ) -> Result<(), Stop>
-    requires followed { IsWayFollowed (S.noted graph.old thread) opened.old.items }
+    requires followed { IsWayFollowed ((S.shape graph.old).noted thread) opened.old.items }
     requires level { IsLevel found.old.nodes.items level }
-    requires reached { AreReached (S.noted graph.old) found.old.refusals.items found.old.nodes.items }
     requires until { level.until ≤ length found.old.nodes.items }
     requires row { length opened.old.items ≤ length found.old.nodes.items }
-    requires nodes { length found.old.nodes.items ≡ S.size graph.old }
-    requires room { S.size graph.old ≤ S.most graph.old }
-    requires sound { S.is_sound graph.old }
+    requires all { IsAllFound (S.shape graph.old) (S.is_sound graph.old) found.old.nodes.items found.old.refusals.items }
 
     // Once it has had its turn
-    ensures followed { OnOk result (IsWayFollowed (S.noted graph.new thread) opened.new.items) }
+    ensures row { OnOk result (IsRowFollowed ((S.shape graph.new).noted thread) opened.new.items found.new.nodes.items) }
     ensures opens { OnOk result (AreOpen opened.new.items level.first level.until) }
-    ensures row { OnOk result (length opened.new.items ≡ length found.new.nodes.items) }
-    ensures nodes { OnOk result (length found.new.nodes.items ≡ S.size graph.new) }
+    ensures nodes { OnOk result (length found.new.nodes.items ≡ (S.shape graph.new).size) }
 
     // Whatever comes
     ensures stays { StaysOpen opened.old.items opened.new.items }
-    ensures reached { AreReached (S.noted graph.new) found.new.refusals.items found.new.nodes.items }
-    ensures adds { Adds level.number found.old.nodes.items found.new.nodes.items }
-    ensures few { length found.new.nodes.items ≤ S.size graph.new }
-    ensures kept { (t : ℕ) (way : Bool) → Keeps (S.noted graph.old t way) (S.noted graph.new t way) }
-    ensures stay { Stay (S.nodes graph.old) (S.nodes graph.new) }
-    ensures room { S.size graph.new ≤ S.most graph.new }
-    ensures limit { S.most graph.new ≡ S.most graph.old }
-    ensures origin { S.origin graph.new ≡ S.origin graph.old }
-    ensures full { IsErrOf result Nodes → S.size graph.new ≡ S.most graph.new }
+    ensures keeps { SearchKeeps level.number (S.shape graph.old) (S.shape graph.new) (S.is_sound graph.new) found.old.nodes.items found.new.nodes.items found.new.refusals.items }
+    ensures full { IsErrOf result Nodes → (S.shape graph.new).size ≡ (S.shape graph.new).most }
     ensures stopped { IfErr result (λ stop. (stop ≡ Memory) ⊎ S.may_stop graph.new stop) }
-    ensures sound { S.is_sound graph.new }
 {
     opened.resize(found.nodes.len(), false)?;
     for from in level.first..level.until {

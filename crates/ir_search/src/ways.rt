@@ -14,8 +14,8 @@ fn leads<S: Successors>(
     marks: &[bool],
     node: usize,
 ) -> bool
-    ensures found { result ≡ true → (w : ℕ) × (S.noted graph.now thread refused node ≡ Some (Some w)) × IsNodeOpen marks.now w }
-    ensures none { result ≡ false → (w : ℕ) → S.noted graph.now thread refused node ≡ Some (Some w) → IsNodeOpen marks.now w → ⊥ }
+    ensures found { result ≡ true → (w : ℕ) × ((S.shape graph.now).noted thread refused node ≡ Some (Some w)) × IsNodeOpen marks.now w }
+    ensures none { result ≡ false → (w : ℕ) → (S.shape graph.now).noted thread refused node ≡ Some (Some w) → IsNodeOpen marks.now w → ⊥ }
 {
     match graph.known(thread, refused, node) {
         Some(Some(next)) => next < marks.len() && marks[next],
@@ -25,8 +25,8 @@ fn leads<S: Successors>(
 
 // Whether some of these threads leads by some way from a node to a marked one.
 fn is_before<S: Successors>(graph: &S, threads: usize, marks: &[bool], node: usize) -> bool
-    ensures found { result ≡ true → LeadsToMarked (S.noted graph.now) threads marks.now node }
-    ensures none { result ≡ false → LeadsToMarked (S.noted graph.now) threads marks.now node → ⊥ }
+    ensures found { result ≡ true → LeadsToMarked (S.shape graph.now).noted threads marks.now node }
+    ensures none { result ≡ false → LeadsToMarked (S.shape graph.now).noted threads marks.now node → ⊥ }
 {
     for thread in 0..threads {
         if leads(graph, thread, false, marks, node) || leads(graph, thread, true, marks, node) {
@@ -40,9 +40,9 @@ fn is_before<S: Successors>(graph: &S, threads: usize, marks: &[bool], node: usi
 fn sweep<S: Successors>(graph: &S, threads: usize, marks: &mut [bool]) -> bool
     ensures nodes { length marks.new ≡ length marks.old }
     ensures stays { StaysOpen marks.old marks.new }
-    ensures ways { (v : ℕ) → IsNodeOpen marks.new v → HasMarked (S.noted graph.now) threads marks.old v }
+    ensures ways { (v : ℕ) → IsNodeOpen marks.new v → HasMarked (S.shape graph.now).noted threads marks.old v }
     ensures less { result ≡ true → shut marks.new < shut marks.old }
-    ensures back { result ≡ false → IsMarkedBack (S.noted graph.now) threads marks.new }
+    ensures back { result ≡ false → IsMarkedBack (S.shape graph.now).noted threads marks.new }
 {
     let mut changed = false;
     for k in 0..marks.len() {
@@ -59,7 +59,7 @@ fn sweep<S: Successors>(graph: &S, threads: usize, marks: &mut [bool]) -> bool
 /// as many sweeps over the nodes, at most, as there are nodes to mark, and one more; few where the nodes come by rising levels.
 pub fn mark_ways<S: Successors>(graph: &S, threads: usize, marks: &mut [bool])
     ensures nodes { length marks.new ≡ length marks.old }
-    ensures exact { (v : ℕ) → IsNodeOpen marks.new v ↔ HasMarked (S.noted graph.now) threads marks.old v }
+    ensures exact { (v : ℕ) → IsNodeOpen marks.new v ↔ HasMarked (S.shape graph.now).noted threads marks.old v }
 {
     'sweeps: loop {
         if !sweep(graph, threads, marks) {

@@ -1,6 +1,6 @@
 //! Sessions whose reader or writer fails, and a session whose two readers wait for each other.
 
-use crate::sessions::{Files, answer_of, answered_until, files_of};
+use crate::sessions::{Failing, Files, NEVER, answer_of, answered_until, files_of};
 use crate::streams::ENDLESS;
 use ir_debug::{Ended, SessionErr};
 use ir_object::OpenGate;
@@ -43,8 +43,11 @@ fn is_read_failed<R: AllocGlobal + Threads + Clock + Sync>(
     calls: usize,
 ) -> bool {
     let (image, trace) = (files.image.as_slice(), files.trace.as_slice());
-    let reads = calls as u64;
-    let (written, ended) = answered_until(rt, image, trace, lines, reads, None, &OpenGate);
+    let failing = Failing {
+        reads: calls as u64,
+        ..NEVER
+    };
+    let (written, ended) = answered_until(rt, image, trace, lines, failing, &OpenGate);
     let (whole, _rest) = lines.split_at(calls.min(lines.len()));
     let (expected, _ended) = answer_of(rt, files, whole_lines(whole));
     ended == Err(SessionErr::Read) && written.bytes.as_slice() == expected.bytes.as_slice()
@@ -82,8 +85,11 @@ fn is_write_failed<R: AllocGlobal + Threads + Clock + Sync>(
     calls: usize,
 ) -> bool {
     let (image, trace) = (files.image.as_slice(), files.trace.as_slice());
-    let writes = Some(calls as u64);
-    let (written, ended) = answered_until(rt, image, trace, lines, ENDLESS, writes, &OpenGate);
+    let failing = Failing {
+        writes: Some(calls as u64),
+        ..NEVER
+    };
+    let (written, ended) = answered_until(rt, image, trace, lines, failing, &OpenGate);
     let (prefix, _rest) = all.split_at(calls.min(all.len()));
     ended == Err(SessionErr::Write) && written.bytes.as_slice() == prefix
 }
@@ -120,8 +126,11 @@ fn is_same_by_bytes<R: AllocGlobal + Threads + Clock + Sync>(
 ) -> bool {
     let (image, trace) = (files.image.as_slice(), files.trace.as_slice());
     let (all, ended) = answer_of(rt, files, lines);
-    let each = Some(ENDLESS);
-    let (written, by_bytes) = answered_until(rt, image, trace, lines, ENDLESS, each, &OpenGate);
+    let by_each = Failing {
+        writes: Some(ENDLESS),
+        ..NEVER
+    };
+    let (written, by_bytes) = answered_until(rt, image, trace, lines, by_each, &OpenGate);
     written.bytes.as_slice() == all.bytes.as_slice() && by_bytes == ended
 }
 
@@ -143,7 +152,7 @@ fn two_readers_replay(rt: HostRuntime) -> Result<(), Fail> {
     let gate = Meeting::new();
     let (image, trace) = (files.image.as_slice(), files.trace.as_slice());
     let lines = b"end\nobj 0\n";
-    let (written, ended) = answered_until(&rt, image, trace, lines, ENDLESS, None, &gate);
+    let (written, ended) = answered_until(&rt, image, trace, lines, NEVER, &gate);
     assert_eq!(rt; ended, Ok(Ended::InputEnd));
     assert_eq!(rt; written.bytes.as_slice(), BOTH_INSIDE);
     assert!(rt; !gate.missed());

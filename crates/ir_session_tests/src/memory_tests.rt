@@ -20,7 +20,7 @@ use ir_runs::EnvKind;
 use ir_tests::guests::{DOUBLED, Source, TWO_COUNTERS, TWO_READERS};
 use ir_tests::meeting::Meeting;
 use ir_tests::recorded_guests::TWO_ASKING;
-use ir_tests::recordings::{BUDGET, Recorded, by_threads};
+use ir_tests::recordings::{LIMITS, Recorded, by_threads};
 use ir_tests::replays::is_cut;
 use ir_tests::sources::joined;
 use ir_tests::traces::{ENDED_BY_144, SECOND_FIRST, TraceRow, trace_bytes};
@@ -175,7 +175,7 @@ fn asked_in<R: Threads + Wait + Sync>(
     requires { IsAllowed One image.now }
 {
     let worlds = counting_worlds(alloc, image.entries().len(), count)?;
-    match record(rt, alloc, image, worlds, &OpenGate, BUDGET, Profile::One) {
+    match record(rt, alloc, image, worlds, &OpenGate, LIMITS) {
         Ok((trace, _outputs)) => Ok(trace.threads().len()),
         Err(RecordErr::NoMem) => Err(Short::Memory),
         Err(_) => Err(Short::Wrong),

@@ -14,17 +14,29 @@ use std::time::Clock;
 /// Lines, and what is answered.
 pub type Said = (&'static str, &'static str);
 
-/// What a session of these bytes answers, and how it ends. The reader fails after `reads` calls; the writer after
-/// `writes` calls, of which each takes a byte, or never.
+/// After how many calls the reader fails, and after how many the writer, which takes a byte in each, or never fails.
+#[derive(Clone, Copy, Debug)]
+pub struct Failing {
+    pub reads: u64,
+    pub writes: Option<u64>,
+}
+
+/// Neither fails.
+pub const NEVER: Failing = Failing {
+    reads: ENDLESS,
+    writes: None,
+};
+
+/// What a session of these bytes answers, and how it ends.
 pub fn answered_until<R: AllocGlobal + Threads + Clock + Sync, G: Gate + Sync>(
     rt: &R,
     image: &[u8],
     trace: &[u8],
     lines: &[u8],
-    reads: u64,
-    writes: Option<u64>,
+    failing: Failing,
     gate: &G,
 ) -> (Page, Result<Ended, SessionErr>) {
+    let Failing { reads, writes } = failing;
     let mut reader = Bytes::new(lines, reads);
     let mut writer = Page::new(rt.alloc(), writes.is_some(), writes.unwrap_or(ENDLESS));
     let hands = Given::new(rt, rt.alloc(), gate);
@@ -39,7 +51,7 @@ pub fn answered<R: AllocGlobal + Threads + Clock + Sync>(
     trace: &[u8],
     lines: &[u8],
 ) -> (Page, Result<Ended, SessionErr>) {
-    answered_until(rt, image, trace, lines, ENDLESS, None, &OpenGate)
+    answered_until(rt, image, trace, lines, NEVER, &OpenGate)
 }
 
 /// How a session ends that answers so.

@@ -9,7 +9,7 @@ use crate::worlds::{COUNTS, FAILS, Script, worlds};
 use ir_fit::{Fitted, fit};
 use ir_image::Image;
 use ir_object::{Gate, OpenGate};
-use ir_record::{Item, Outputs, RecordErr, record, record_in_order, record_with_refusals};
+use ir_record::{Item, Limits, Outputs, RecordErr, record, record_in_order, record_with_refusals};
 use ir_thread::Profile;
 use ir_trace::Trace;
 use std::alloc::Global;
@@ -22,6 +22,12 @@ pub const BUDGET: u64 = 1_000_000;
 
 // The same where threads try again and again until they are inside.
 const TRYING_BUDGET: u64 = 1_000_000_000;
+
+/// What a recorded run of such a test may take.
+pub const LIMITS: Limits = Limits {
+    budget: BUDGET,
+    profile: Profile::One,
+};
 
 /// What is recorded, or why nothing is.
 pub type Recorded = Result<(Trace, Outputs<Script>), RecordErr<Script>>;
@@ -66,7 +72,7 @@ pub fn by_threads<R: Threads + Wait + Sync, G: Gate + Sync>(
     requires { IsAllowed One image.now }
 {
     let worlds = worlds(alloc, image.entries().len(), answers, FAILS)?;
-    record(rt, alloc, image, worlds, gate, BUDGET, Profile::One)
+    record(rt, alloc, image, worlds, gate, LIMITS)
 }
 
 // The guest recorded on real threads, whose worlds count.
@@ -82,7 +88,7 @@ fn counting_by_threads<R: Threads + Wait + Sync, G: Gate + Sync>(
     requires allowed { IsAllowed profile image.now }
 {
     let worlds = worlds(alloc, image.entries().len(), &[], COUNTS)?;
-    record(rt, alloc, image, worlds, gate, budget, profile)
+    record(rt, alloc, image, worlds, gate, Limits { budget, profile })
 }
 
 // The same in an order.

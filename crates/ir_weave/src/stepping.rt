@@ -27,6 +27,13 @@ pub enum Tried {
     AtTarget,
 }
 
+// A word of an object.
+#[derive(Clone, Copy)]
+struct WordAt {
+    object: u8,
+    index: u8,
+}
+
 impl Weave {
     // A step that touches no object and is answered no value.
     fn go(&self, seat: &WeaveSeat, thread: &mut Thread, fitted: &Fitted, asked: Ask)
@@ -141,25 +148,18 @@ impl Weave {
     }
 
     // A word that is read.
-    fn read(
-        &self,
-        seat: &mut WeaveSeat,
-        thread: &mut Thread,
-        fitted: &Fitted,
-        object: u8,
-        index: u8,
-    )
+    fn read(&self, seat: &mut WeaveSeat, thread: &mut Thread, fitted: &Fitted, word: WordAt)
         requires seat { seat.old.table_id ≡ self.now.table.shared.table_id }
         requires table { IsFor self.now.table.shared.key fitted.now }
         requires thread { IsSeated self.now.table.shared.key seat.old.me.0 thread.old }
-        requires asking { IsAsking fitted.now thread.old (ask.Get object index) }
+        requires asking { IsAsking fitted.now thread.old (ask.Get word.object word.index) }
         ensures seat { (seat.new.table_id ≡ seat.old.table_id) × (seat.new.id ≡ seat.old.id) }
         ensures stepped { HasStepped self.now.table.shared.key seat.old.me seat.new.me thread.old thread.new }
     {
-        let value = self.get(seat, thread, object, index);
+        let value = self.get(seat, thread, word.object, word.index);
         thread.take_asked(
             fitted.image().code(),
-            Ask::Get(object, index),
+            Ask::Get(word.object, word.index),
             Reply::Value(value),
         );
     }
@@ -170,21 +170,20 @@ impl Weave {
         seat: &mut WeaveSeat,
         thread: &mut Thread,
         fitted: &Fitted,
-        object: u8,
-        index: u8,
+        word: WordAt,
         value: u32,
     )
         requires seat { seat.old.table_id ≡ self.now.table.shared.table_id }
         requires table { IsFor self.now.table.shared.key fitted.now }
         requires thread { IsSeated self.now.table.shared.key seat.old.me.0 thread.old }
-        requires asking { IsAsking fitted.now thread.old (ask.Put object index value) }
+        requires asking { IsAsking fitted.now thread.old (ask.Put word.object word.index value) }
         ensures seat { (seat.new.table_id ≡ seat.old.table_id) × (seat.new.id ≡ seat.old.id) }
         ensures stepped { HasStepped self.now.table.shared.key seat.old.me seat.new.me thread.old thread.new }
     {
-        self.put(seat, thread, object, index, value);
+        self.put(seat, thread, word.object, word.index, value);
         thread.take_asked(
             fitted.image().code(),
-            Ask::Put(object, index, value),
+            Ask::Put(word.object, word.index, value),
             Reply::Go,
         );
     }
@@ -207,9 +206,11 @@ impl Weave {
             }
             Ask::Try(object) => return self.try_in(seat, thread, fitted, object),
             Ask::Leave(object, access) => self.step_out(seat, thread, fitted, object, access),
-            Ask::Get(object, index) => self.read(seat, thread, fitted, object, index),
+            Ask::Get(object, index) => {
+                self.read(seat, thread, fitted, WordAt { object, index });
+            }
             Ask::Put(object, index, value) => {
-                self.write(seat, thread, fitted, object, index, value);
+                self.write(seat, thread, fitted, WordAt { object, index }, value);
             }
             Ask::Done => unreachable!(),
         }

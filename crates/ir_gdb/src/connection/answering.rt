@@ -3,22 +3,25 @@
 ghost use Rattle.std.specs.Prelude.{◌≡◌, ◌≤◌, ◌<◌, ◌&&◌, ℕ, [], length, codes, true, IfOk, IfErr};
 ghost use Rattle.ir_stream.specs.Endings.{flow_after};
 ghost use Rattle.ir_packet.specs.Reading.{item_found};
-ghost use Rattle.ir_packet.specs.Requests.{request_of, console_line};
+ghost use Rattle.ir_packet.specs.Requests.{request_of, console_line, break_conditions};
 ghost use Rattle.ir_packet.specs.Stream.{TooLong};
 ghost use Rattle.ir_packet.specs.declared.request.Request.TheVariants.{Register};
 ghost use Rattle.ir_debug.specs.Machine.{quits};
+ghost use Rattle.ir_gdb.specs.Guards.{guarded};
 ghost use Rattle.ir_gdb.specs.Replies.{has_reply};
-ghost use Rattle.ir_gdb.specs.Connection.{sign, before_new_reply, before_reply, is_copy, is_packet, Consults, AnswersLine, RepliesToItem};
-ghost use Rattle.ir_gdb.specs.Connection.{AnswersRequest, AnswersPacket, AnswersNew, AnswersItem, ends_request, request_ends, item_ends};
-ghost use Rattle.ir_gdb.specs.Connection.{SendsOrFails};
+ghost use Rattle.ir_gdb.specs.Connection.{sign, before_new_reply, before_reply, is_copy, is_packet, Consults, AnswersLine};
+ghost use Rattle.ir_gdb.specs.Connection.{IsBreakSet, SetsBreak, RepliesToItem, AnswersRequest, AnswersPacket, AnswersNew, AnswersItem, ends_request};
+ghost use Rattle.ir_gdb.specs.Connection.{request_ends, item_ends, SendsOrFails};
 
 use crate::connection::Connection;
 use crate::console::Answered;
+use crate::guarded::Guarded;
+use crate::point::Breakpoint;
 use ir_command::{Command, parse_line};
 use ir_object::Hands;
-use ir_packet::{Found, Reply, Request, put_line, request_of};
+use ir_packet::{Found, Reply, Request, break_conditions, put_line, request_of};
 use ir_stream::{Fault, Flow, Sink};
-use std::alloc::AllocError;
+use std::alloc::{AllocError, Global};
 
 // Whether gdb sends what was found again where it has waited for the reply.
 fn is_packet(found: Found) -> bool
@@ -97,6 +100,32 @@ impl Connection {
         }
     }
 
+    // Sets a breakpoint with the conditions of the packet that was read last, if there is memory for these.
+    fn set_break(&mut self, alloc: Global, point: Breakpoint) -> Reply
+        ensures reading { self.new.reading ≡ self.old.reading }
+        ensures link { IsBreakSet self.old.link (guarded point (break_conditions self.old.reading.payload)) result self.new.link }
+    {
+        let Ok(conditions) = break_conditions(alloc, self.reader.payload()) else {
+            return Reply::NoMemory;
+        };
+        self.remote.set_break(Guarded::new(point, conditions))
+    }
+
+    // `Z0`, `Z1` with conditions.
+    fn answer_break<W: Sink>(
+        &mut self,
+        alloc: Global,
+        point: Breakpoint,
+        writer: &mut W,
+    ) -> Result<(), Fault>
+        ensures reading { self.new.reading ≡ self.old.reading }
+        ensures writes { SendsOrFails W.written W.broken (SetsBreak self.old.link (guarded point (break_conditions self.old.reading.payload))) [] self.new.link writer.old writer.new result }
+        ensures fault { IfErr result (λ f. f ≡ Fault.Write) }
+    {
+        let reply = self.set_break(alloc, point);
+        self.send_reply(reply, writer)
+    }
+
     // Answers a request, which came with the payload that was read last.
     fn answer_request<H: Hands, W: Sink>(
         &mut self,
@@ -115,6 +144,10 @@ impl Connection {
             Request::Kill => Ok(Flow::Quits),
             Request::Console => {
                 self.answer_line(hands, writer)?;
+                Ok(Flow::Goes)
+            }
+            Request::SetBreakIf(address, hardware) => {
+                self.answer_break(hands.alloc(), Breakpoint { address, hardware }, writer)?;
                 Ok(Flow::Goes)
             }
             Request::NoAcknowledgements => {

@@ -2,6 +2,8 @@
 
 ghost use Rattle.std.specs.Prelude.{◌≡◌, ◌<◌, ◌≤◌, IfOk};
 ghost use Rattle.ir_cut.specs.Positions.{EachRun, cut_of, threads_of, last_of};
+ghost use Rattle.ir_command.specs.declared.command.Direction.TheVariants.{Forwards};
+ghost use Rattle.ir_debug.specs.Machine.{StopsAt};
 ghost use Rattle.ir_timeline.specs.Hand.{IsCutOf};
 ghost use Rattle.ir_gdb.specs.Stops.{position_of};
 ghost use Rattle.ir_gdb.specs.Together.{Comes};
@@ -70,6 +72,7 @@ impl Remote {
         requires within { (cut_of from.now thread ≤ position) × (position ≤ last_of self.now.stub.desk.fitted thread) }
         ensures cut { IfOk result (λ cut. IsCutOf self.now.stub.desk.fitted cut) }
         ensures there { IfOk result (λ cut. cut_of cut thread ≡ position) }
+        ensures least { IfOk result (λ cut. EachRun self.now.stub.desk.fitted (λ run. StopsAt run self.now.stub.desk.fitted from.now thread Forwards position cut)) }
     {
         let fitted = self.debugger.fitted();
         let t = thread as usize;

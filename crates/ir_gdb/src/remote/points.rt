@@ -1,10 +1,11 @@
 //! `Z` and `z`: breakpoints and watches.
 
-ghost use Rattle.std.specs.Prelude.{◌≡◌};
+ghost use Rattle.std.specs.Prelude.{◌≡◌, ◌++◌, [], ◌∷◌, true};
 ghost use Rattle.ir_mach.specs.Execution.{lies_in_memory};
-ghost use Rattle.ir_gdb.specs.Setting.{is_code_word, lies_in_objects, can_watch, room_setting, break_setting, watch_setting, setting_reply};
+ghost use Rattle.ir_gdb.specs.Setting.{has_break, breaks_without, is_code_word, lies_in_objects, can_watch, room_setting, break_setting, watch_setting, setting_reply};
 ghost use Rattle.ir_gdb.specs.Setting.{with_break, with_watch, clear_break_reply, clear_watch_reply, without_break, without_watch};
 
+use crate::guarded::Guarded;
 use crate::holders::{has_break, has_watch};
 use crate::point::{Breakpoint, Setting, Watched};
 use crate::remote::Remote;
@@ -96,15 +97,27 @@ impl Remote {
         self.setting(has_watch(self.watches.as_slice(), watched))
     }
 
-    #[tactic(auto, using(crate::proofs::Setting::stub_with_break_is_stub))]
-    /// `Z0`, `Z1`: sets a breakpoint of all threads.
-    pub fn set_break(&mut self, point: Breakpoint) -> Reply
-        ensures reply { result ≡ setting_reply (break_setting self.old.stub point) }
-        ensures stub { self.new.stub ≡ with_break self.old.stub point }
+    #[tactic(auto, using(crate::proofs::Setting::stub_with_replaced_break_is_stub, crate::proofs::Setting::room_without_break))]
+    // A breakpoint that is there gets other conditions.
+    fn replace_break(&mut self, guarded: Guarded)
+        requires { has_break self.old.stub.breaks guarded.point ≡ true }
+        ensures { self.new.stub ≡ record self.old.stub { breaks = breaks_without self.old.stub.breaks guarded.point ++ guarded ∷ [] } }
     {
-        let setting = self.break_setting(point);
-        if let Setting::New = setting {
-            self.breaks.set(point);
+        self.breaks.clear(guarded.point());
+        self.breaks.set(guarded);
+    }
+
+    #[tactic(auto, using(crate::proofs::Setting::stub_with_break_is_stub, crate::proofs::Setting::break_is_there))]
+    /// `Z0`, `Z1`: sets a breakpoint of all threads.
+    pub fn set_break(&mut self, guarded: Guarded) -> Reply
+        ensures reply { result ≡ setting_reply (break_setting self.old.stub guarded.point) }
+        ensures stub { self.new.stub ≡ with_break self.old.stub guarded }
+    {
+        let setting = self.break_setting(guarded.point());
+        match setting {
+            Setting::New => self.breaks.set(guarded),
+            Setting::There => self.replace_break(guarded),
+            Setting::BadAddress | Setting::Full => {}
         }
         setting_reply(setting)
     }

@@ -6,16 +6,17 @@ ghost use Rattle.ir_packet.specs.declared.request.Request.TheVariants.{Register}
 ghost use Rattle.ir_gdb.specs.Replies.{RepliesIfMemory, Lacks, plain_reply, after_plain, has_reply};
 
 use crate::fixed::fixed_reply;
+use crate::guarded::Guarded;
 use crate::point::{Breakpoint, Watched};
 use crate::remote::Remote;
 use crate::texts::{description, supported};
 use ir_object::Hands;
 use ir_packet::{Reply, Request, put_piece, put_text, reply_text};
-use std::alloc::AllocError;
+use std::alloc::{AllocError, Global};
 
 impl Remote {
     // The reply to a request that neither reads the run nor moves it, if it is such a one.
-    fn plain_reply(&mut self, request: Request) -> Option<Reply>
+    fn plain_reply(&mut self, alloc: Global, request: Request) -> Option<Reply>
         ensures reply { result ≡ plain_reply self.old.stub request }
         ensures stub { self.new.stub ≡ after_plain self.old.stub request }
     {
@@ -26,7 +27,8 @@ impl Remote {
             Request::Extended => Some(self.extend()),
             Request::EndProcess => Some(self.end_process()),
             Request::SetBreak(address, hardware) => {
-                Some(self.set_break(Breakpoint { address, hardware }))
+                let point = Breakpoint { address, hardware };
+                Some(self.set_break(Guarded::new(point, Vec::new(alloc))))
             }
             Request::ClearBreak(address, hardware) => {
                 Some(self.clear_break(Breakpoint { address, hardware }))
@@ -93,7 +95,7 @@ impl Remote {
         ensures err { OnErr result (Lacks self.old.stub request self.new.stub × (out.new.items ≡ out.old.items)) }
         ensures capacity { vec_capacity out.new ≡ vec_capacity out.old }
     {
-        match self.plain_reply(request) {
+        match self.plain_reply(hands.alloc(), request) {
             Some(reply) => {
                 put_text(out, reply_text(reply));
                 Ok(())

@@ -6,12 +6,13 @@ ghost use Rattle.ir_cut.specs.Positions.{EachRun, cut_of, threads_of, last_of, t
 ghost use Rattle.ir_hits.specs.Watchable.{AreWatchable};
 ghost use Rattle.ir_timeline.specs.Hand.{IsCutOf};
 ghost use Rattle.ir_gdb.specs.Stub.{IsWatched, most_stub_points, stub_spoken};
-ghost use Rattle.ir_gdb.specs.Stops.{watches_if, Leaves, WatchNext, position_of, StepsTo, RangesTo, ContinuesTo, StepsBackTo, StopsBelow, ContinuesBackTo, StopsInDirection, MovesTo, upwards_of};
+ghost use Rattle.ir_gdb.specs.Points.{watches_if, upwards_of};
+ghost use Rattle.ir_gdb.specs.Stops.{Leaves, WatchNext, position_of, StepsTo, RangesTo, ContinuesTo, StepsBackTo, StopsBelow, ContinuesBackTo, StopsInDirection, MovesTo};
 
 use crate::numbered::{Halts, points_downwards, points_upwards, watch_points};
 use crate::point::Watched;
 use crate::remote::Remote;
-use crate::stopped::{Stopped, after_range, end_above, end_below, reason_of_hit, stop_above};
+use crate::stopped::{Stopped, after_range, end_above, end_below, reason_of_hit, stop_or_end};
 use ir_command::Direction;
 use ir_cut::Cut;
 use ir_hits::NumberedPoint;
@@ -22,7 +23,7 @@ use std::alloc::{AllocError, Global};
 impl Remote {
     // The watches that count for a thread: all for the one that moves, and those of the objects for another.
     #[tactic(auto, using(crate::proofs::Setting::shared_are_watched))]
-    fn watches_if(&self, watched: bool) -> &[Watched]
+    pub(crate) fn watches_if(&self, watched: bool) -> &[Watched]
         ensures value { result.now ≡ watches_if self.now.stub watched }
         ensures watched { AllByRecursion IsWatched result.now }
         ensures few { length self.now.stub.breaks + length result.now ≤ most_stub_points }
@@ -51,7 +52,7 @@ impl Remote {
     }
 
     // The points of a thread for a search upwards.
-    fn upwards(
+    pub(crate) fn upwards(
         &self,
         alloc: Global,
         thread: u32,
@@ -189,22 +190,14 @@ impl Remote {
         ensures stops { IfOk result (λ to. EachRun self.old.stub.desk.fitted (λ run. RangesTo run self.old.stub thread low high watched to)) }
         ensures within { IfOk result (λ to. to.position ≤ last_of self.old.stub.desk.fitted thread) }
     {
-        let left = self.leaves(hands, thread, low, high)?;
-        self.debugger.fitted().known();
+        self.has_run();
         self.position(thread);
         let last = self.last(thread);
+        let left = self.leaves(hands, thread, low, high)?;
         let end = after_range(last, left);
-        let here = self.here()?;
-        let points = self.upwards(hands.alloc(), thread, watched)?;
-        let points = points.as_slice();
-        let to = end.position;
-        let hit = self
-            .debugger
-            .search_up_to(hands, &here, thread, to, points)?;
-        if let Some(hit) = hit {
-            return Ok(stop_above(self.watches_if(watched), self.breaks.as_slice(), hit));
-        }
-        Ok(end)
+        let hit = self.next_stop(hands, thread, end.position, watched)?;
+        let halts = self.halts(watched);
+        Ok(stop_or_end(halts.watches, halts.breaks, end, hit))
     }
 
     // To the next stop.
@@ -219,14 +212,11 @@ impl Remote {
         ensures stops { IfOk result (λ to. EachRun self.old.stub.desk.fitted (λ run. ContinuesTo run self.old.stub thread watched to)) }
         ensures within { IfOk result (λ to. to.position ≤ last_of self.old.stub.desk.fitted thread) }
     {
-        self.speak();
-        self.debugger.fitted().known();
-        let points = self.upwards(hands.alloc(), thread, watched)?;
-        let forwards = Direction::Forwards;
-        let points = points.as_slice();
-        let hit = self.debugger.search(hands, thread, forwards, points)?;
+        self.has_run();
         let last = self.last(thread);
-        Ok(end_above(self.watches_if(watched), self.breaks.as_slice(), last, hit))
+        let hit = self.first_stop_above(hands, thread, watched)?;
+        let halts = self.halts(watched);
+        Ok(end_above(halts.watches, halts.breaks, last, hit))
     }
 
     // Why a thread that isn't at 0 stays where it is when it moves back: a watch hits it there.

@@ -9,7 +9,7 @@ use Rattle.ir_graph.specs.Setup.{Setup}
 use Rattle.ir_image.specs.Guest.{object_count}
 use Rattle.ir_outcomes.specs.Explored.{AreExplored}
 use Rattle.ir_outcomes.specs.Exploring.{levels_left}
-use Rattle.ir_outcomes.proofs.CallerLemmas.{fewer_levels_left}
+use Rattle.ir_outcomes.proofs.CallerLemmas.{exploring_goes_on_further, fewer_levels_left}
 use Rattle.ir_thread.specs.State.{IsAllowed}
 use Rattle.ir_explore.specs.Printed.{HasPrinted, EndsEarly}
 use Rattle.ir_explore.specs.Texts.{Objects, objects_in}
@@ -22,10 +22,7 @@ levels-init g c =
     let e = c.args.exploring.now in
     let o = objects_in c.args.started in
     record {
-      is = c.requires.is;
-      setup = refl;
-      bounds = refl;
-      most = refl;
+      kept = record { is = c.requires.is; setup = refl; bounds = refl; most = refl };
       works = c.requires.works;
       printed = (
         [],
@@ -35,12 +32,12 @@ levels-init g c =
     }
 
 pub go_over-requires-clause-allowed : goal.go_over-requires-clause-allowed
-go_over-requires-clause-allowed g c = subst (λ (z : Setup). IsAllowed z.profile z.guest) (sym c.levels.invariant.setup) c.requires.allowed
+go_over-requires-clause-allowed g c = subst (λ (z : Setup). IsAllowed z.profile z.guest) (sym c.levels.invariant.kept.setup) c.requires.allowed
 
 pub print_from-requires-clause-objects : goal.print_from-requires-clause-objects
 print_from-requires-clause-objects g c = λ v s is.
-    (c.go_over.ensures.is.search.graph.reached v s is).like.objects
-    ∙ ap (λ (z : Setup). length (start_cells z.guest 0 (object_count z.guest))) (c.go_over.ensures.setup ∙ c.levels.invariant.setup)
+    (c.go_over.ensures.kept.is.search.graph.reached v s is).like.objects
+    ∙ ap (λ (z : Setup). length (start_cells z.guest 0 (object_count z.guest))) (c.go_over.ensures.kept.setup ∙ c.levels.invariant.kept.setup)
     ∙ sym (ap (λ (o : Objects). length o.first) c.requires.started)
 
 pub print_from-requires-clause-from : goal.print_from-requires-clause-from
@@ -59,14 +56,11 @@ levels-preserved g c =
     let before = c.levels.invariant.printed in
     let size = old.list.outcomes.ok.0 in
     let same = c.len-printed.ensures in
-    let kept = printed_among_more o old new c.len-printed.result before.0 (omega (arith, same, size)) c.levels.invariant.is.explored.nodes
+    let kept = printed_among_more o old new c.len-printed.result before.0 (omega (arith, same, size)) c.levels.invariant.kept.is.explored.nodes
     c.go_over.ensures.stay c.go_over.ensures.outcomes before.1 in
     let more = c.in_ok-print_from.ensures.printed before.0 kept in
     record {
-      is = c.go_over.ensures.is;
-      setup = c.go_over.ensures.setup ∙ c.levels.invariant.setup;
-      bounds = c.go_over.ensures.bounds ∙ c.levels.invariant.bounds;
-      most = c.go_over.ensures.most ∙ c.levels.invariant.most;
+      kept = exploring_goes_on_further c.args.exploring.now old new c.levels.invariant.kept c.go_over.ensures.kept;
       works = c.in_ok-print_from.ensures.works;
       printed = (
         before.0 ++ more.0,
@@ -82,9 +76,13 @@ levels-smaller g c =
     let new = c.go_over.new.self in
     let none = c.goes_on.ensures.stop c.levels-test.true in
     subst (λ z. levels_left new.stop (suc new.most - new.states.search.level.number) < levels_left z (suc old.most - old.states.search.level.number)) (sym none)
-    (subst (λ m. levels_left new.stop (suc m - new.states.search.level.number) < levels_left None (suc old.most - old.states.search.level.number)) (sym c.go_over.ensures.most)
+    (subst (λ m. levels_left new.stop (suc m - new.states.search.level.number) < levels_left None (suc old.most - old.states.search.level.number)) (sym c.go_over.ensures.kept.most)
     (fewer_levels_left new.stop old.states.search.level.number new.states.search.level.number old.most (c.goes_on.ensures.wanted c.levels-test.true)
     c.go_over.ensures.next))
+
+pub returns-in_err-print_from-clause-kept : goal.returns-in_err-print_from-clause-kept
+returns-in_err-print_from-clause-kept g c =
+    exploring_goes_on_further c.args.exploring.now c.levels.exploring c.go_over.new.self c.levels.invariant.kept c.go_over.ensures.kept
 
 pub returns-in_err-print_from-clause-failed : goal.returns-in_err-print_from-clause-failed
 returns-in_err-print_from-clause-failed g c =
@@ -97,12 +95,12 @@ returns-in_err-print_from-clause-failed g c =
     let before = c.levels.invariant.printed in
     let size = old.list.outcomes.ok.0 in
     let same = c.len-printed.ensures in
-    let kept = printed_among_more o old new c.len-printed.result before.0 (omega (arith, same, size)) c.levels.invariant.is.explored.nodes
+    let kept = printed_among_more o old new c.len-printed.result before.0 (omega (arith, same, size)) c.levels.invariant.kept.is.explored.nodes
     c.go_over.ensures.stay c.go_over.ensures.outcomes before.1 in
-    let explored = subst (λ z. AreExplored z old.states.graph.flats.items old.list.levels old.list.outcomes.items) c.levels.invariant.setup
-    c.levels.invariant.is.explored in
+    let explored = subst (λ z. AreExplored z old.states.graph.flats.items old.list.levels old.list.outcomes.items) c.levels.invariant.kept.setup
+    c.levels.invariant.kept.is.explored in
     let later = subst (λ z. AreExplored z new.states.graph.flats.items new.list.levels new.list.outcomes.items)
-    (c.go_over.ensures.setup ∙ c.levels.invariant.setup) c.go_over.ensures.is.explored in
+    (c.go_over.ensures.kept.setup ∙ c.levels.invariant.kept.setup) c.go_over.ensures.kept.is.explored in
     if_err_handed_on (λ e. EndsEarly e setup w) c.from_residual.result c.in_err-print_from.field-0.0 p.0 p.1 p.2
     (elim c.in_err-print_from.ensures.failed [
       | inl (memory, stays) ↦ subst (λ z. EndsEarly z setup w) (sym memory) (

@@ -54,10 +54,10 @@ returns-clause-ok g c =
       words = c.object_words.ensures.value i;
       first = (c.objects.ensures.value ∙ ap (λ z. z.objects) c.in_ok-start.ensures) i;
     } in
-    let same_setup = c.print_levels.ensures.setup ∙ c.in-Ok.ensures.setup ∙ c.setup-setup.ensures in
+    let same_setup = c.print_levels.ensures.kept.setup ∙ c.in-Ok.ensures.setup ∙ c.setup-setup.ensures in
     let is = subst (λ z. IsExplored z plan.bounds plan.switches e) same_setup
-    (subst (λ z. IsExplored s.states.graph.setup z plan.switches e) (c.print_levels.ensures.bounds ∙ c.in-Ok.ensures.bounds ∙ ap (λ (z : ExplorePlan). z.bounds) c.plan.view_is)
-    (subst (λ z. IsExplored s.states.graph.setup s.states.graph.bounds z e) (c.print_levels.ensures.most ∙ c.in-Ok.ensures.most ∙ ap (λ (z : ExplorePlan). z.switches) c.plan.view_is)
+    (subst (λ z. IsExplored s.states.graph.setup z plan.switches e) (c.print_levels.ensures.kept.bounds ∙ c.in-Ok.ensures.bounds ∙ ap (λ (z : ExplorePlan). z.bounds) c.plan.view_is)
+    (subst (λ z. IsExplored s.states.graph.setup s.states.graph.bounds z e) (c.print_levels.ensures.kept.most ∙ c.in-Ok.ensures.most ∙ ap (λ (z : ExplorePlan). z.switches) c.plan.view_is)
     c.end-explored.ensures.explored)) in
     let before = c.in_ok-print_levels.ensures.printed in
     let old = g.O.Sink.written c.args.out.now in
@@ -85,13 +85,13 @@ returns-clause-fails g c =
       words = c.object_words.ensures.value i;
       first = (c.objects.ensures.value ∙ ap (λ z. z.objects) c.in_ok-start.ensures) i;
     } in
-    let same_setup = c.print_levels.ensures.setup ∙ c.in-Ok.ensures.setup ∙ c.setup-setup.ensures in
+    let same_setup = c.print_levels.ensures.kept.setup ∙ c.in-Ok.ensures.setup ∙ c.setup-setup.ensures in
     let is = subst (λ z. IsExplored z plan.bounds plan.switches e) same_setup
-    (subst (λ z. IsExplored s.states.graph.setup z plan.switches e) (c.print_levels.ensures.bounds ∙ c.in-Ok.ensures.bounds ∙ ap (λ (z : ExplorePlan). z.bounds) c.plan.view_is)
-    (subst (λ z. IsExplored s.states.graph.setup s.states.graph.bounds z e) (c.print_levels.ensures.most ∙ c.in-Ok.ensures.most ∙ ap (λ (z : ExplorePlan). z.switches) c.plan.view_is)
+    (subst (λ z. IsExplored s.states.graph.setup z plan.switches e) (c.print_levels.ensures.kept.bounds ∙ c.in-Ok.ensures.bounds ∙ ap (λ (z : ExplorePlan). z.bounds) c.plan.view_is)
+    (subst (λ z. IsExplored s.states.graph.setup s.states.graph.bounds z e) (c.print_levels.ensures.kept.most ∙ c.in-Ok.ensures.most ∙ ap (λ (z : ExplorePlan). z.switches) c.plan.view_is)
     c.end-explored.ensures.explored)) in
     let explored = subst (λ z. AreExplored z s.states.graph.flats.items s.list.levels s.list.outcomes.items) same_setup
-    c.print_levels.ensures.is.explored in
+    c.print_levels.ensures.kept.is.explored in
     let before = c.in_ok-print_levels.ensures.printed in
     let old = g.O.Sink.written c.args.out.now in
     let mid = g.O.Sink.written c.print_levels.new.out in

@@ -1,14 +1,15 @@
-use Rattle.std.proofs.Common.{◌≡◌, ◌<◌, Some, List, false, inl, inr, length, sym, ap, ◌∙◌, subst, arith}
-use Rattle.std.specs.Prelude.{slice_get}
+use Rattle.std.proofs.Common.{◌≡◌, ◌<◌, Some, List, inl, inr, length, sym, ap, ◌∙◌, subst, arith}
 use Rattle.std.specs.List.{AllByRecursion}
 use Rattle.std.specs.Vec as vec
 use Rattle.std.proofs.lemmas.List.{get_or_read, with_items_is}
+use Rattle.std.proofs.lemmas.Option.{same_Some}
 use Rattle.ir_lemmas.proofs.CallerLemmas.{element_below_length, if_ok_of_implied}
 use Rattle.ir_state_store.specs.declared.spot.Spot.{Spot}
 use Rattle.ir_state_store.specs.Nodes.{IsWithin, Node, SourcedFlat, sourced_in}
 use Rattle.ir_state_store.specs.Table.{HaveNoTicks}
 use Rattle.ir_graph.specs.Hand.{with_items}
-use Rattle.ir_graph.specs.Nodes.{LookAlike, AllRest, LeadsFrom}
+use Rattle.ir_graph.specs.Kept.{IsNodeFor, IsSuccessor}
+use Rattle.ir_graph.specs.Nodes.{LookAlike, AllRest}
 use Rattle.ir_graph.specs.Plain.{LooksAlike}
 use Rattle.ir_graph.specs.Reached.{IsReached}
 use Rattle.ir_graph.specs.Times.{LeadsTickless}
@@ -21,7 +22,7 @@ pub index-requires : goal.index-requires
 index-requires c =
     let flats = c.args.flats.now in
     let turn = c.args.turn.now in
-    let f = element_below_length flats.items c.args.way.node c.requires.node in
+    let f = element_below_length flats.items c.args.way.node c.requires.way.node in
     let is = c.requires.turn f.0 f.1 in
     omega (arith, is.is.some, turn.numbers.ok.0)
 
@@ -29,13 +30,13 @@ pub index-requires-2 : goal.index-requires-2
 index-requires-2 c =
     let flats = c.args.flats.now in
     let turn = c.args.turn.now in
-    let f = element_below_length flats.items c.args.way.node c.requires.node in
+    let f = element_below_length flats.items c.args.way.node c.requires.way.node in
     let is = c.requires.turn f.0 f.1 in
     omega (
       arith,
       is.is.some,
       turn.afters.ok.0,
-      both_as_many flats.items flats.shared f.0 c.args.way.thread c.args.way.refused c.args.way.node turn c.requires.nodes f.1 (c.requires.thread f.0 f.1)
+      both_as_many flats.items flats.shared f.0 c.args.way.thread c.args.way.refused c.args.way.node turn c.requires.nodes f.1 (c.requires.way.thread f.0 f.1)
           (c.thread_number.ensures.sourced f.0 f.1) is c.requires.leads,
     )
 
@@ -44,9 +45,9 @@ with_both-requires-clause-own c = λ s at.
     let flats = c.args.flats.now in
     let turn = c.args.turn.now in
     let is = c.requires.turn s at in (
-      c.requires.thread s at,
+      c.requires.way.thread s at,
       subst (λ o. o < length s.flat.objects) (sym (get_or_read turn.numbers.items 0 c.index.result.now is.is.some c.index.ensures 0))
-          (both_first flats.items flats.shared s c.args.way.thread c.args.way.refused c.args.way.node turn c.requires.nodes at (c.requires.thread s at)
+          (both_first flats.items flats.shared s c.args.way.thread c.args.way.refused c.args.way.node turn c.requires.nodes at (c.requires.way.thread s at)
           (c.thread_number.ensures.sourced s at) is c.requires.leads),
     )
 
@@ -54,7 +55,7 @@ pub with_both-requires-clause-thread : goal.with_both-requires-clause-thread
 with_both-requires-clause-thread c =
     let flats = c.args.flats.now in
     let turn = c.args.turn.now in
-    let f = element_below_length flats.items c.args.way.node c.requires.node in
+    let f = element_below_length flats.items c.args.way.node c.requires.way.node in
     let is = c.requires.turn f.0 f.1 in
     is.is.to
 
@@ -62,19 +63,19 @@ pub with_both-requires-clause-spot : goal.with_both-requires-clause-spot
 with_both-requires-clause-spot c =
     let flats = c.args.flats.now in
     let turn = c.args.turn.now in
-    let f = element_below_length flats.items c.args.way.node c.requires.node in
+    let f = element_below_length flats.items c.args.way.node c.requires.way.node in
     let is = c.requires.turn f.0 f.1 in
     subst (λ (x : Spot). x.words < length flats.shared.words) (sym c.index-2.ensures)
-    (both_spot flats.items flats.shared f.0 c.args.way.thread c.args.way.refused c.args.way.node turn c.requires.nodes f.1 (c.requires.thread f.0 f.1)
+    (both_spot flats.items flats.shared f.0 c.args.way.thread c.args.way.refused c.args.way.node turn c.requires.nodes f.1 (c.requires.way.thread f.0 f.1)
     (c.thread_number.ensures.sourced f.0 f.1) is c.requires.leads c.index-2.result.now)
 
 pub put_spots-requires-clause-each : goal.put_spots-requires-clause-each
 put_spots-requires-clause-each c =
     let flats = c.args.flats.now in
     let turn = c.args.turn.now in
-    let f = element_below_length flats.items c.args.way.node c.requires.node in
+    let f = element_below_length flats.items c.args.way.node c.requires.way.node in
     let is = c.requires.turn f.0 f.1 in
-    ap length c.as_slice-2.ensures.value ∙ both_as_many flats.items flats.shared f.0 c.args.way.thread c.args.way.refused c.args.way.node turn c.requires.nodes f.1 (c.requires.thread f.0 f.1)
+    ap length c.as_slice-2.ensures.value ∙ both_as_many flats.items flats.shared f.0 c.args.way.thread c.args.way.refused c.args.way.node turn c.requires.nodes f.1 (c.requires.way.thread f.0 f.1)
     (c.thread_number.ensures.sourced f.0 f.1) is c.requires.leads
     ∙ ap length (sym c.as_slice.ensures.value)
 
@@ -82,27 +83,27 @@ pub put_spots-requires-clause-within : goal.put_spots-requires-clause-within
 put_spots-requires-clause-within c =
     let flats = c.args.flats.now in
     let turn = c.args.turn.now in
-    let f = element_below_length flats.items c.args.way.node c.requires.node in
+    let f = element_below_length flats.items c.args.way.node c.requires.way.node in
     let is = c.requires.turn f.0 f.1 in
     let node : Node = record { code = c.new.inside.code.now; threads = c.new.inside.threads.items; objects = c.new.inside.objects.items } in
     let number = get_or_read turn.numbers.items 0 c.index.result.now is.is.some c.index.ensures 0 in
-    let made = both_made flats.items flats.shared f.0 c.args.way.thread c.args.way.refused c.args.way.node turn c.requires.nodes f.1 (c.requires.thread f.0 f.1)
+    let made = both_made flats.items flats.shared f.0 c.args.way.thread c.args.way.refused c.args.way.node turn c.requires.nodes f.1 (c.requires.way.thread f.0 f.1)
     (c.thread_number.ensures.sourced f.0 f.1) is c.requires.leads c.in_ok-new.new node c.index.result.now c.index-2.result.now c.new.view_is
     (c.in_ok-new.ensures.state f.0 f.1) number in
     subst (AllByRecursion (λ o. o < length c.as_mut_slice.result.now)) (sym c.as_slice.ensures.value)
     (subst (λ (l : List Spot). AllByRecursion (λ o. o < length l) turn.numbers.items) (sym c.as_mut_slice.ensures.value)
-    (both_within flats.items flats.shared f.0 c.args.way.thread c.args.way.refused c.args.way.node turn c.requires.nodes f.1 (c.requires.thread f.0 f.1)
+    (both_within flats.items flats.shared f.0 c.args.way.thread c.args.way.refused c.args.way.node turn c.requires.nodes f.1 (c.requires.way.thread f.0 f.1)
     (c.thread_number.ensures.sourced f.0 f.1) is c.requires.leads node c.index-2.result.now made))
 
-pub node_of-requires-clause-is : goal.node_of-requires-clause-is
-node_of-requires-clause-is c =
+pub node_of-requires-clause-state : goal.node_of-requires-clause-state
+node_of-requires-clause-state c =
     let flats = c.args.flats.now in
     let turn = c.args.turn.now in
-    let f = element_below_length flats.items c.args.way.node c.requires.node in
+    let f = element_below_length flats.items c.args.way.node c.requires.way.node in
     let is = c.requires.turn f.0 f.1 in
     let node : Node = record { code = c.new.inside.code.now; threads = c.new.inside.threads.items; objects = c.new.inside.objects.items } in
     let number = get_or_read turn.numbers.items 0 c.index.result.now is.is.some c.index.ensures 0 in
-    let made = both_made flats.items flats.shared f.0 c.args.way.thread c.args.way.refused c.args.way.node turn c.requires.nodes f.1 (c.requires.thread f.0 f.1)
+    let made = both_made flats.items flats.shared f.0 c.args.way.thread c.args.way.refused c.args.way.node turn c.requires.nodes f.1 (c.requires.way.thread f.0 f.1)
     (c.thread_number.ensures.sourced f.0 f.1) is c.requires.leads c.in_ok-new.new node c.index.result.now c.index-2.result.now c.new.view_is
     (c.in_ok-new.ensures.state f.0 f.1) number in
     let spots = c.put_spots.new.objects in
@@ -112,56 +113,33 @@ node_of-requires-clause-is c =
     let all : objects ≡ with_items node.objects turn.numbers.items turn.afters.items =
     with_items_is c.new.inside.objects spots
     (ap length put ∙ length-with_items node.objects turn.numbers.items turn.afters.items ∙ sym c.new.inside.objects.ok.0) ∙ put in
-    both_node flats.items flats.shared f.0 c.args.way.thread c.args.way.refused c.args.way.node turn c.requires.nodes f.1 (c.requires.thread f.0 f.1)
-    (c.thread_number.ensures.sourced f.0 f.1) is c.requires.leads node objects c.index-2.result.now
-    (subst (IsWithin flats.shared) (sym c.new.view_is) c.in_ok-new.ensures.within) made all
-
-pub node_of-requires-clause-code : goal.node_of-requires-clause-code
-node_of-requires-clause-code c =
-    let flats = c.args.flats.now in
-    let turn = c.args.turn.now in
-    let f = element_below_length flats.items c.args.way.node c.requires.node in
-    let is = c.requires.turn f.0 f.1 in
-    let node : Node = record { code = c.new.inside.code.now; threads = c.new.inside.threads.items; objects = c.new.inside.objects.items } in
-    let number = get_or_read turn.numbers.items 0 c.index.result.now is.is.some c.index.ensures 0 in
-    let made = both_made flats.items flats.shared f.0 c.args.way.thread c.args.way.refused c.args.way.node turn c.requires.nodes f.1 (c.requires.thread f.0 f.1)
-    (c.thread_number.ensures.sourced f.0 f.1) is c.requires.leads c.in_ok-new.new node c.index.result.now c.index-2.result.now c.new.view_is
-    (c.in_ok-new.ensures.state f.0 f.1) number in
-    c.requires.code f.0 f.1 ∙ sym (ap (λ (z : SourcedFlat). z.flat.code) made)
-
-pub node_of-requires-clause-like : goal.node_of-requires-clause-like
-node_of-requires-clause-like c = λ u k there.
-    let flats = c.args.flats.now in
-    let turn = c.args.turn.now in
-    let f = element_below_length flats.items c.args.way.node c.requires.node in
-    let is = c.requires.turn f.0 f.1 in
-    let node : Node = record { code = c.new.inside.code.now; threads = c.new.inside.threads.items; objects = c.new.inside.objects.items } in
-    let number = get_or_read turn.numbers.items 0 c.index.result.now is.is.some c.index.ensures 0 in
-    let made = both_made flats.items flats.shared f.0 c.args.way.thread c.args.way.refused c.args.way.node turn c.requires.nodes f.1 (c.requires.thread f.0 f.1)
-    (c.thread_number.ensures.sourced f.0 f.1) is c.requires.leads c.in_ok-new.new node c.index.result.now c.index-2.result.now c.new.view_is
-    (c.in_ok-new.ensures.state f.0 f.1) number in
-    let spots = c.put_spots.new.objects in
-    let objects = (vec.with_items c.new.inside.objects spots).items in
-    let put : spots ≡ with_items node.objects turn.numbers.items turn.afters.items =
-    c.put_spots.ensures ∙ (λ i. with_items (c.as_mut_slice.ensures.value i) (c.as_slice.ensures.value i) (c.as_slice-2.ensures.value i)) in
-    let all : objects ≡ with_items node.objects turn.numbers.items turn.afters.items =
-    with_items_is c.new.inside.objects spots
-    (ap length put ∙ length-with_items node.objects turn.numbers.items turn.afters.items ∙ sym c.new.inside.objects.ok.0) ∙ put in
-    let state = both_state flats.items flats.shared f.0 c.args.way.thread c.args.way.refused c.args.way.node turn c.requires.nodes f.1 (c.requires.thread f.0 f.1)
+    let state = both_state flats.items flats.shared f.0 c.args.way.thread c.args.way.refused c.args.way.node turn c.requires.nodes f.1 (c.requires.way.thread f.0 f.1)
     (c.thread_number.ensures.sourced f.0 f.1) is c.requires.leads node objects c.index-2.result.now made all in
-    subst (λ (z : SourcedFlat). LooksAlike z.flat k.flat) (sym state)
-    (both_like flats.items flats.shared f.0 c.args.way.thread c.args.way.refused c.args.way.node turn c.requires.nodes f.1 (c.requires.thread f.0 f.1)
-    (c.thread_number.ensures.sourced f.0 f.1) is c.requires.leads u k there)
+    record {
+      is =
+          both_node flats.items flats.shared f.0 c.args.way.thread c.args.way.refused c.args.way.node turn c.requires.nodes f.1 (c.requires.way.thread f.0 f.1)
+          (c.thread_number.ensures.sourced f.0 f.1) is c.requires.leads node objects c.index-2.result.now
+          (subst (IsWithin flats.shared) (sym c.new.view_is) c.in_ok-new.ensures.within) made all;
+      code = c.requires.code f.0 f.1 ∙ sym (ap (λ (z : SourcedFlat). z.flat.code) made);
+      like = λ u k there.
+          subst (λ (z : SourcedFlat). LooksAlike z.flat k.flat) (sym state)
+          (both_like flats.items flats.shared f.0 c.args.way.thread c.args.way.refused c.args.way.node turn c.requires.nodes f.1 (c.requires.way.thread f.0 f.1)
+          (c.thread_number.ensures.sourced f.0 f.1) is c.requires.leads u k there);
+      rest =
+          subst (λ (z : SourcedFlat). AllRest z.flat) (sym state)
+          (both_rests flats.items flats.shared f.0 c.args.way.thread c.args.way.refused c.args.way.node turn c.requires.nodes f.1 (c.requires.way.thread f.0 f.1)
+          (c.thread_number.ensures.sourced f.0 f.1) is c.requires.leads);
+    }
 
-pub node_of-requires-clause-rest : goal.node_of-requires-clause-rest
-node_of-requires-clause-rest c =
+pub returns-clause-kept : goal.returns-clause-kept
+returns-clause-kept c =
     let flats = c.args.flats.now in
     let turn = c.args.turn.now in
-    let f = element_below_length flats.items c.args.way.node c.requires.node in
+    let f = element_below_length flats.items c.args.way.node c.requires.way.node in
     let is = c.requires.turn f.0 f.1 in
     let node : Node = record { code = c.new.inside.code.now; threads = c.new.inside.threads.items; objects = c.new.inside.objects.items } in
     let number = get_or_read turn.numbers.items 0 c.index.result.now is.is.some c.index.ensures 0 in
-    let made = both_made flats.items flats.shared f.0 c.args.way.thread c.args.way.refused c.args.way.node turn c.requires.nodes f.1 (c.requires.thread f.0 f.1)
+    let made = both_made flats.items flats.shared f.0 c.args.way.thread c.args.way.refused c.args.way.node turn c.requires.nodes f.1 (c.requires.way.thread f.0 f.1)
     (c.thread_number.ensures.sourced f.0 f.1) is c.requires.leads c.in_ok-new.new node c.index.result.now c.index-2.result.now c.new.view_is
     (c.in_ok-new.ensures.state f.0 f.1) number in
     let spots = c.put_spots.new.objects in
@@ -171,21 +149,34 @@ node_of-requires-clause-rest c =
     let all : objects ≡ with_items node.objects turn.numbers.items turn.afters.items =
     with_items_is c.new.inside.objects spots
     (ap length put ∙ length-with_items node.objects turn.numbers.items turn.afters.items ∙ sym c.new.inside.objects.ok.0) ∙ put in
-    let state = both_state flats.items flats.shared f.0 c.args.way.thread c.args.way.refused c.args.way.node turn c.requires.nodes f.1 (c.requires.thread f.0 f.1)
+    let state = both_state flats.items flats.shared f.0 c.args.way.thread c.args.way.refused c.args.way.node turn c.requires.nodes f.1 (c.requires.way.thread f.0 f.1)
     (c.thread_number.ensures.sourced f.0 f.1) is c.requires.leads node objects c.index-2.result.now made all in
-    subst (λ (z : SourcedFlat). AllRest z.flat) (sym state)
-    (both_rests flats.items flats.shared f.0 c.args.way.thread c.args.way.refused c.args.way.node turn c.requires.nodes f.1 (c.requires.thread f.0 f.1)
-    (c.thread_number.ensures.sourced f.0 f.1) is c.requires.leads)
+    let h = sourced_in flats.shared (record node { objects = objects }) in
+    record {
+      adds = c.node_of.ensures.adds;
+      reached = λ x before.
+          c.node_of.ensures.reached x before (subst (IsReached x) (sym state)
+          (both_reached flats.items flats.shared f.0 c.args.way.thread c.args.way.refused c.args.way.node turn c.requires.nodes f.1 (c.requires.way.thread f.0 f.1)
+          (c.thread_number.ensures.sourced f.0 f.1) is c.requires.leads x (before c.args.way.node f.0 f.1)));
+      has = λ x before was new. elim (c.node_of.ensures.ticks new) [
+        | inl old ↦ was old
+        | inr ticks ↦ ticks_have_timed_run x h
+            (subst (IsReached x) (sym state)
+            (both_reached flats.items flats.shared f.0 c.args.way.thread c.args.way.refused c.args.way.node turn c.requires.nodes f.1 (c.requires.way.thread f.0 f.1)
+            (c.thread_number.ensures.sourced f.0 f.1) is c.requires.leads x (before c.args.way.node f.0 f.1))) ticks
+      ];
+      were = λ none. (c.node_of.ensures.tickless none).0;
+    }
 
-pub returns-clause-reached : goal.returns-clause-reached
-returns-clause-reached c = λ x before.
+pub returns-clause-next : goal.returns-clause-next
+returns-clause-next c =
     let flats = c.args.flats.now in
     let turn = c.args.turn.now in
-    let f = element_below_length flats.items c.args.way.node c.requires.node in
+    let f = element_below_length flats.items c.args.way.node c.requires.way.node in
     let is = c.requires.turn f.0 f.1 in
     let node : Node = record { code = c.new.inside.code.now; threads = c.new.inside.threads.items; objects = c.new.inside.objects.items } in
     let number = get_or_read turn.numbers.items 0 c.index.result.now is.is.some c.index.ensures 0 in
-    let made = both_made flats.items flats.shared f.0 c.args.way.thread c.args.way.refused c.args.way.node turn c.requires.nodes f.1 (c.requires.thread f.0 f.1)
+    let made = both_made flats.items flats.shared f.0 c.args.way.thread c.args.way.refused c.args.way.node turn c.requires.nodes f.1 (c.requires.way.thread f.0 f.1)
     (c.thread_number.ensures.sourced f.0 f.1) is c.requires.leads c.in_ok-new.new node c.index.result.now c.index-2.result.now c.new.view_is
     (c.in_ok-new.ensures.state f.0 f.1) number in
     let spots = c.put_spots.new.objects in
@@ -195,93 +186,20 @@ returns-clause-reached c = λ x before.
     let all : objects ≡ with_items node.objects turn.numbers.items turn.afters.items =
     with_items_is c.new.inside.objects spots
     (ap length put ∙ length-with_items node.objects turn.numbers.items turn.afters.items ∙ sym c.new.inside.objects.ok.0) ∙ put in
-    let state = both_state flats.items flats.shared f.0 c.args.way.thread c.args.way.refused c.args.way.node turn c.requires.nodes f.1 (c.requires.thread f.0 f.1)
-    (c.thread_number.ensures.sourced f.0 f.1) is c.requires.leads node objects c.index-2.result.now made all in
-    c.node_of.ensures.reached x before (subst (IsReached x) (sym state)
-    (both_reached flats.items flats.shared f.0 c.args.way.thread c.args.way.refused c.args.way.node turn c.requires.nodes f.1 (c.requires.thread f.0 f.1)
-    (c.thread_number.ensures.sourced f.0 f.1) is c.requires.leads x (before c.args.way.node f.0 f.1)))
-
-pub returns-clause-leads : goal.returns-clause-leads
-returns-clause-leads c =
-    let flats = c.args.flats.now in
-    let turn = c.args.turn.now in
-    let f = element_below_length flats.items c.args.way.node c.requires.node in
-    let is = c.requires.turn f.0 f.1 in
-    let node : Node = record { code = c.new.inside.code.now; threads = c.new.inside.threads.items; objects = c.new.inside.objects.items } in
-    let number = get_or_read turn.numbers.items 0 c.index.result.now is.is.some c.index.ensures 0 in
-    let made = both_made flats.items flats.shared f.0 c.args.way.thread c.args.way.refused c.args.way.node turn c.requires.nodes f.1 (c.requires.thread f.0 f.1)
-    (c.thread_number.ensures.sourced f.0 f.1) is c.requires.leads c.in_ok-new.new node c.index.result.now c.index-2.result.now c.new.view_is
-    (c.in_ok-new.ensures.state f.0 f.1) number in
-    let spots = c.put_spots.new.objects in
-    let objects = (vec.with_items c.new.inside.objects spots).items in
-    let put : spots ≡ with_items node.objects turn.numbers.items turn.afters.items =
-    c.put_spots.ensures ∙ (λ i. with_items (c.as_mut_slice.ensures.value i) (c.as_slice.ensures.value i) (c.as_slice-2.ensures.value i)) in
-    let all : objects ≡ with_items node.objects turn.numbers.items turn.afters.items =
-    with_items_is c.new.inside.objects spots
-    (ap length put ∙ length-with_items node.objects turn.numbers.items turn.afters.items ∙ sym c.new.inside.objects.ok.0) ∙ put in
-    let state = both_state flats.items flats.shared f.0 c.args.way.thread c.args.way.refused c.args.way.node turn c.requires.nodes f.1 (c.requires.thread f.0 f.1)
+    let state = both_state flats.items flats.shared f.0 c.args.way.thread c.args.way.refused c.args.way.node turn c.requires.nodes f.1 (c.requires.way.thread f.0 f.1)
     (c.thread_number.ensures.sourced f.0 f.1) is c.requires.leads node objects c.index-2.result.now made all in
     let h = sourced_in flats.shared (record node { objects = objects }) in
     let new = c.node_of.new.flats.items in
-    if_ok_of_implied (λ w. (k : SourcedFlat) → slice_get new w ≡ Some k → LookAlike h k)
-    (λ w. LeadsFrom new c.args.way.thread c.args.way.refused c.args.way.node (Some w)) c.node_of.result
-    (λ w alike. both_leads flats.items flats.shared f.0 c.args.way.thread c.args.way.refused c.args.way.node turn c.requires.nodes f.1 (c.requires.thread f.0 f.1)
-    (c.thread_number.ensures.sourced f.0 f.1) is c.requires.leads new w c.node_of.ensures.stay
-    (λ k at. subst (λ z. LookAlike z k) state (alike k at))) c.node_of.ensures.alike
-
-pub returns-clause-has : goal.returns-clause-has
-returns-clause-has c = λ x before was new.
-    let flats = c.args.flats.now in
-    let turn = c.args.turn.now in
-    let f = element_below_length flats.items c.args.way.node c.requires.node in
-    let is = c.requires.turn f.0 f.1 in
-    let node : Node = record { code = c.new.inside.code.now; threads = c.new.inside.threads.items; objects = c.new.inside.objects.items } in
-    let number = get_or_read turn.numbers.items 0 c.index.result.now is.is.some c.index.ensures 0 in
-    let made = both_made flats.items flats.shared f.0 c.args.way.thread c.args.way.refused c.args.way.node turn c.requires.nodes f.1 (c.requires.thread f.0 f.1)
-    (c.thread_number.ensures.sourced f.0 f.1) is c.requires.leads c.in_ok-new.new node c.index.result.now c.index-2.result.now c.new.view_is
-    (c.in_ok-new.ensures.state f.0 f.1) number in
-    let spots = c.put_spots.new.objects in
-    let objects = (vec.with_items c.new.inside.objects spots).items in
-    let put : spots ≡ with_items node.objects turn.numbers.items turn.afters.items =
-    c.put_spots.ensures ∙ (λ i. with_items (c.as_mut_slice.ensures.value i) (c.as_slice.ensures.value i) (c.as_slice-2.ensures.value i)) in
-    let all : objects ≡ with_items node.objects turn.numbers.items turn.afters.items =
-    with_items_is c.new.inside.objects spots
-    (ap length put ∙ length-with_items node.objects turn.numbers.items turn.afters.items ∙ sym c.new.inside.objects.ok.0) ∙ put in
-    let state = both_state flats.items flats.shared f.0 c.args.way.thread c.args.way.refused c.args.way.node turn c.requires.nodes f.1 (c.requires.thread f.0 f.1)
-    (c.thread_number.ensures.sourced f.0 f.1) is c.requires.leads node objects c.index-2.result.now made all in
-    let h = sourced_in flats.shared (record node { objects = objects }) in elim (c.node_of.ensures.ticks new) [
-      | inl old ↦ was old
-      | inr ticks ↦ ticks_have_timed_run x h
-          (subst (IsReached x) (sym state)
-          (both_reached flats.items flats.shared f.0 c.args.way.thread c.args.way.refused c.args.way.node turn c.requires.nodes f.1 (c.requires.thread f.0 f.1)
-          (c.thread_number.ensures.sourced f.0 f.1) is c.requires.leads x (before c.args.way.node f.0 f.1))) ticks
-    ]
-
-pub returns-clause-tickless : goal.returns-clause-tickless
-returns-clause-tickless c =
-    let flats = c.args.flats.now in
-    let turn = c.args.turn.now in
-    let f = element_below_length flats.items c.args.way.node c.requires.node in
-    let is = c.requires.turn f.0 f.1 in
-    let node : Node = record { code = c.new.inside.code.now; threads = c.new.inside.threads.items; objects = c.new.inside.objects.items } in
-    let number = get_or_read turn.numbers.items 0 c.index.result.now is.is.some c.index.ensures 0 in
-    let made = both_made flats.items flats.shared f.0 c.args.way.thread c.args.way.refused c.args.way.node turn c.requires.nodes f.1 (c.requires.thread f.0 f.1)
-    (c.thread_number.ensures.sourced f.0 f.1) is c.requires.leads c.in_ok-new.new node c.index.result.now c.index-2.result.now c.new.view_is
-    (c.in_ok-new.ensures.state f.0 f.1) number in
-    let spots = c.put_spots.new.objects in
-    let objects = (vec.with_items c.new.inside.objects spots).items in
-    let put : spots ≡ with_items node.objects turn.numbers.items turn.afters.items =
-    c.put_spots.ensures ∙ (λ i. with_items (c.as_mut_slice.ensures.value i) (c.as_slice.ensures.value i) (c.as_slice-2.ensures.value i)) in
-    let all : objects ≡ with_items node.objects turn.numbers.items turn.afters.items =
-    with_items_is c.new.inside.objects spots
-    (ap length put ∙ length-with_items node.objects turn.numbers.items turn.afters.items ∙ sym c.new.inside.objects.ok.0) ∙ put in
-    let state = both_state flats.items flats.shared f.0 c.args.way.thread c.args.way.refused c.args.way.node turn c.requires.nodes f.1 (c.requires.thread f.0 f.1)
-    (c.thread_number.ensures.sourced f.0 f.1) is c.requires.leads node objects c.index-2.result.now made all in
-    let h = sourced_in flats.shared (record node { objects = objects }) in
-    let new = c.node_of.new.flats.items in
-    if_ok_of_implied (λ w. (k : SourcedFlat) → slice_get new w ≡ Some k → LookAlike h k)
-    (λ w. c.node_of.new.timed ≡ false → LeadsTickless new c.args.way.thread c.args.way.refused c.args.way.node w) c.node_of.result
-    (λ w alike none. both_lead_tickless flats.items flats.shared f.0 c.args.way.thread c.args.way.refused c.args.way.node turn c.requires.nodes f.1 (c.requires.thread f.0 f.1)
-    (c.thread_number.ensures.sourced f.0 f.1) is c.requires.leads new w c.node_of.ensures.stay
-    (λ k at. subst (λ z. LookAlike z k) state (alike k at))
-    (subst (λ (z : SourcedFlat). HaveNoTicks z.sources) state (c.node_of.ensures.tickless none).1)) c.node_of.ensures.alike
+    if_ok_of_implied (IsNodeFor flats.items new h) (λ w. IsSuccessor flats.items new c.node_of.new.timed c.args.way (Some w)) c.node_of.result
+    (λ w gives. record {
+      within = λ v e. subst (λ z. z < length new) (same_Some w v e) gives.within;
+      added = elim gives.added [ inl same ↦ inl same | inr p ↦ inr (ap Some p.0, p.1) ];
+      leads = both_leads flats.items flats.shared f.0 c.args.way.thread c.args.way.refused c.args.way.node turn c.requires.nodes f.1 (c.requires.way.thread f.0 f.1)
+          (c.thread_number.ensures.sourced f.0 f.1) is c.requires.leads new w c.node_of.ensures.adds.stay
+          (λ k at. subst (λ z. LookAlike z k) state (gives.alike k at));
+      tickless = λ v e none. subst (LeadsTickless new c.args.way.thread c.args.way.refused c.args.way.node) (same_Some w v e)
+          (both_lead_tickless flats.items flats.shared f.0 c.args.way.thread c.args.way.refused c.args.way.node turn c.requires.nodes f.1 (c.requires.way.thread f.0 f.1)
+          (c.thread_number.ensures.sourced f.0 f.1) is c.requires.leads new w c.node_of.ensures.adds.stay
+          (λ k at. subst (λ z. LookAlike z k) state (gives.alike k at))
+          (subst (λ (z : SourcedFlat). HaveNoTicks z.sources) state (c.node_of.ensures.tickless none).1));
+    }) c.node_of.ensures.gives

@@ -1,4 +1,4 @@
-use Rattle.std.proofs.Common.{◌≡◌, ◌<◌, Some, inl, inr, sym, ap, ◌∙◌, subst}
+use Rattle.std.proofs.Common.{◌≡◌, ◌⊎◌, ◌<◌, suc, Some, inl, inr, length, refl, sym, ap, ◌∙◌, subst}
 use Rattle.std.specs.Prelude.{slice_get}
 use Rattle.ir_runs.specs.Run.{Can}
 use Rattle.ir_flat.specs.Flat.{machine, tables}
@@ -8,6 +8,7 @@ use Rattle.std.proofs.lemmas.Option.{same_Some}
 use Rattle.ir_state_store.specs.Table.{HaveForm, HaveTicks, HaveNoTicks}
 use Rattle.ir_graph.specs.Times.{LeadsTickless}
 use Rattle.ir_graph.proofs.Times.{ticks_have_timed_run}
+use Rattle.ir_graph.specs.Kept.{NodesAdded}
 use Rattle.ir_graph.specs.Nodes.{LookAlike, AllRest, NodesStay}
 use Rattle.ir_graph.specs.Plain.{sourced_flat, LooksAlike, MayGo}
 use Rattle.ir_graph.specs.Reached.{IsReached, AllReached}
@@ -15,6 +16,7 @@ use Rattle.ir_graph.proofs.Reached.{reached_after_step}
 use Rattle.ir_graph.proofs.Stops.{stop_after_entry, may_stop_by_thread_stop}
 use Rattle.ir_graph.proofs.Found.{no_step_leads_nowhere, reached_like, reached_each, reached_others, reached_thread, reached_rests, leads_to_alike_node, leads_tickless}
 use Rattle.ir_graph.proofs.Forms.{like_moment_form}
+use Rattle.ir_graph.proofs.Kept.{nodes_kept_unchanged}
 use Rattle.ir_graph.proofs.Plain.{TakesStep, rest_takes_step, like_transitive, step_flat_is_like, plain_flat_is_like}
 use Rattle.ir_graph.proofs.nodes.node_by_steps.Goals as goal
 
@@ -22,7 +24,7 @@ pub run_to_rest-requires-clause-source : goal.run_to_rest-requires-clause-source
 run_to_rest-requires-clause-source c =
     let s = sourced_flat c.state.inside.flat c.state.inside.sources.items in
     let at = subst (λ z. slice_get c.args.flats.now.items c.args.way.node ≡ Some z) (sym c.state.view_is) c.in_ok-state.ensures.found in
-    subst (λ n. c.args.way.thread < n) (sym (c.requires.nodes.each c.args.way.node s at)) (c.requires.thread s at)
+    subst (λ n. c.args.way.thread < n) (sym (c.requires.nodes.each c.args.way.node s at)) (c.requires.way.thread s at)
 
 pub by_number_of-requires-clause-sourced : goal.by_number_of-requires-clause-sourced
 by_number_of-requires-clause-sourced c =
@@ -33,7 +35,7 @@ by_number_of-requires-clause-sourced c =
     let u = sourced_flat g sources in
     let t = c.args.way.thread in
     let at = subst (λ z. slice_get c.args.flats.now.items c.args.way.node ≡ Some z) (sym c.state.view_is) c.in_ok-state.ensures.found in
-    let less = c.requires.thread s at in
+    let less = c.requires.way.thread s at in
     let rests = c.requires.nodes.rest c.args.way.node s at t less in
     let one = c.in_default-take.ensures in
     let step : TakesStep (sourced_flat c.state.inside.flat c.state.inside.sources.items) (sourced_flat c.take.new.self c.state.inside.sources.items)
@@ -55,7 +57,7 @@ by_number_of-requires-clause-form c =
     let u = sourced_flat g sources in
     let t = c.args.way.thread in
     let at = subst (λ z. slice_get c.args.flats.now.items c.args.way.node ≡ Some z) (sym c.state.view_is) c.in_ok-state.ensures.found in
-    let less = c.requires.thread s at in
+    let less = c.requires.way.thread s at in
     let rests = c.requires.nodes.rest c.args.way.node s at t less in
     let one = c.in_default-take.ensures in
     let step : TakesStep (sourced_flat c.state.inside.flat c.state.inside.sources.items) (sourced_flat c.take.new.self c.state.inside.sources.items)
@@ -76,7 +78,7 @@ by_number_of-requires-clause-thread c =
     let u = sourced_flat g sources in
     let t = c.args.way.thread in
     let at = subst (λ z. slice_get c.args.flats.now.items c.args.way.node ≡ Some z) (sym c.state.view_is) c.in_ok-state.ensures.found in
-    let less = c.requires.thread s at in
+    let less = c.requires.way.thread s at in
     let rests = c.requires.nodes.rest c.args.way.node s at t less in
     let one = c.in_default-take.ensures in
     let step : TakesStep (sourced_flat c.state.inside.flat c.state.inside.sources.items) (sourced_flat c.take.new.self c.state.inside.sources.items)
@@ -95,7 +97,7 @@ by_number_of-requires-clause-others c = λ k is.
     let u = sourced_flat g sources in
     let t = c.args.way.thread in
     let at = subst (λ z. slice_get c.args.flats.now.items c.args.way.node ≡ Some z) (sym c.state.view_is) c.in_ok-state.ensures.found in
-    let less = c.requires.thread s at in
+    let less = c.requires.way.thread s at in
     let rests = c.requires.nodes.rest c.args.way.node s at t less in
     let one = c.in_default-take.ensures in
     let step : TakesStep (sourced_flat c.state.inside.flat c.state.inside.sources.items) (sourced_flat c.take.new.self c.state.inside.sources.items)
@@ -106,27 +108,54 @@ by_number_of-requires-clause-others c = λ k is.
     subst (λ z. HasOthersOf z w t) (same_Some s k (sym at ∙ is))
     (reached_others c.args.flats.now.items s u w t c.in-Some.answer c.args.way.node c.requires.nodes at less step goes c.run_to_rest.ensures.others)
 
-pub returns-in-Err-clause-leads : goal.returns-in-Err-clause-leads
-returns-in-Err-clause-leads c =
+pub returns-in-Err-clause-next : goal.returns-in-Err-clause-next
+returns-in-Err-clause-next c =
     let f = c.state.inside.flat in
     let s = sourced_flat f c.state.inside.sources.items in
     let t = c.args.way.thread in
     let at = subst (λ z. slice_get c.args.flats.now.items c.args.way.node ≡ Some z) (sym c.state.view_is) c.in_ok-state.ensures.found in
-    let less = c.requires.thread s at in
-    no_step_leads_nowhere c.args.flats.now.items s t c.args.way.refused c.args.way.node c.requires.nodes at less
-    (subst (λ r. Can (machine f) (tables f) (t, r) → ⊥) c.in-Some.ensures.result c.in-Err.ensures.refused)
+    let less = c.requires.way.thread s at in record {
+      within = λ w e. absurd (cc e);
+      added = inl refl;
+      leads =
+          no_step_leads_nowhere c.args.flats.now.items s t c.args.way.refused c.args.way.node c.requires.nodes at less
+          (subst (λ r. Can (machine f) (tables f) (t, r) → ⊥) c.in-Some.ensures.result c.in-Err.ensures.refused);
+      tickless = λ w e. absurd (cc e);
+    }
 
-pub node_of-requires-clause-code : goal.node_of-requires-clause-code
-node_of-requires-clause-code c =
+pub node_of-requires-clause-state : goal.node_of-requires-clause-state
+node_of-requires-clause-state c =
     let f = c.state.inside.flat in
-    let s = sourced_flat f c.state.inside.sources.items in
-    let w = c.run_to_rest.new.state in
+    let g = c.take.new.self in
+    let sources = c.state.inside.sources.items in
+    let s = sourced_flat f sources in
+    let u = sourced_flat g sources in
+    let t = c.args.way.thread in
     let at = subst (λ z. slice_get c.args.flats.now.items c.args.way.node ≡ Some z) (sym c.state.view_is) c.in_ok-state.ensures.found in
+    let less = c.requires.way.thread s at in
+    let rests = c.requires.nodes.rest c.args.way.node s at t less in
+    let one = c.in_default-take.ensures in
+    let step : TakesStep (sourced_flat c.state.inside.flat c.state.inside.sources.items) (sourced_flat c.take.new.self c.state.inside.sources.items)
+    c.args.way.thread c.in-Some.answer =
+    rest_takes_step f g sources t c.in-Some.answer rests one.admitted one.taken one.code one.threads one.objects in
+    let w = c.run_to_rest.new.state in
+    let goes = c.run_to_rest.ensures.goes in
     let same : w.flat.code ≡ s.flat.code = c.run_to_rest.ensures.goes.code ∙ c.in_default-take.ensures.code in
-    c.by_number_of.ensures.code ∙ c.requires.code s at ∙ sym same ∙ sym (ap (λ (z : SourcedFlat). z.flat.code) c.in_ok-new.ensures.state)
+    record {
+      is = c.in_ok-new.ensures.node;
+      code = c.by_number_of.ensures.code ∙ c.requires.code s at ∙ sym same ∙ sym (ap (λ (z : SourcedFlat). z.flat.code) c.in_ok-new.ensures.state);
+      like = λ v k is.
+          subst (λ (z : SourcedFlat). LooksAlike z.flat k.flat) (sym c.in_ok-new.ensures.state)
+          (reached_like c.args.flats.now.items s u w t c.in-Some.answer c.args.way.node c.requires.nodes at less step goes v k
+          (subst (λ z. slice_get z v ≡ Some k) c.by_number_of.ensures.items is));
+      rest =
+          subst (λ (z : SourcedFlat). AllRest z.flat) (sym c.in_ok-new.ensures.state)
+          (reached_rests c.args.flats.now.items s u w t c.in-Some.answer c.args.way.node c.requires.nodes at less step goes c.run_to_rest.ensures.others
+          c.in_default-run_to_rest.ensures.rests);
+    }
 
-pub node_of-requires-clause-like : goal.node_of-requires-clause-like
-node_of-requires-clause-like c = λ v k is.
+pub returns-in-Ok-clause-next : goal.returns-in-Ok-clause-next
+returns-in-Ok-clause-next c =
     let f = c.state.inside.flat in
     let g = c.take.new.self in
     let sources = c.state.inside.sources.items in
@@ -134,49 +163,7 @@ node_of-requires-clause-like c = λ v k is.
     let u = sourced_flat g sources in
     let t = c.args.way.thread in
     let at = subst (λ z. slice_get c.args.flats.now.items c.args.way.node ≡ Some z) (sym c.state.view_is) c.in_ok-state.ensures.found in
-    let less = c.requires.thread s at in
-    let rests = c.requires.nodes.rest c.args.way.node s at t less in
-    let one = c.in_default-take.ensures in
-    let step : TakesStep (sourced_flat c.state.inside.flat c.state.inside.sources.items) (sourced_flat c.take.new.self c.state.inside.sources.items)
-    c.args.way.thread c.in-Some.answer =
-    rest_takes_step f g sources t c.in-Some.answer rests one.admitted one.taken one.code one.threads one.objects in
-    let w = c.run_to_rest.new.state in
-    let goes = c.run_to_rest.ensures.goes in
-    subst (λ (z : SourcedFlat). LooksAlike z.flat k.flat) (sym c.in_ok-new.ensures.state)
-    (reached_like c.args.flats.now.items s u w t c.in-Some.answer c.args.way.node c.requires.nodes at less step goes v k
-    (subst (λ z. slice_get z v ≡ Some k) c.by_number_of.ensures.items is))
-
-pub node_of-requires-clause-rest : goal.node_of-requires-clause-rest
-node_of-requires-clause-rest c =
-    let f = c.state.inside.flat in
-    let g = c.take.new.self in
-    let sources = c.state.inside.sources.items in
-    let s = sourced_flat f sources in
-    let u = sourced_flat g sources in
-    let t = c.args.way.thread in
-    let at = subst (λ z. slice_get c.args.flats.now.items c.args.way.node ≡ Some z) (sym c.state.view_is) c.in_ok-state.ensures.found in
-    let less = c.requires.thread s at in
-    let rests = c.requires.nodes.rest c.args.way.node s at t less in
-    let one = c.in_default-take.ensures in
-    let step : TakesStep (sourced_flat c.state.inside.flat c.state.inside.sources.items) (sourced_flat c.take.new.self c.state.inside.sources.items)
-    c.args.way.thread c.in-Some.answer =
-    rest_takes_step f g sources t c.in-Some.answer rests one.admitted one.taken one.code one.threads one.objects in
-    let w = c.run_to_rest.new.state in
-    let goes = c.run_to_rest.ensures.goes in
-    subst (λ (z : SourcedFlat). AllRest z.flat) (sym c.in_ok-new.ensures.state)
-    (reached_rests c.args.flats.now.items s u w t c.in-Some.answer c.args.way.node c.requires.nodes at less step goes c.run_to_rest.ensures.others
-    c.in_default-run_to_rest.ensures.rests)
-
-pub returns-in-Ok-clause-leads : goal.returns-in-Ok-clause-leads
-returns-in-Ok-clause-leads c =
-    let f = c.state.inside.flat in
-    let g = c.take.new.self in
-    let sources = c.state.inside.sources.items in
-    let s = sourced_flat f sources in
-    let u = sourced_flat g sources in
-    let t = c.args.way.thread in
-    let at = subst (λ z. slice_get c.args.flats.now.items c.args.way.node ≡ Some z) (sym c.state.view_is) c.in_ok-state.ensures.found in
-    let less = c.requires.thread s at in
+    let less = c.requires.way.thread s at in
     let rests = c.requires.nodes.rest c.args.way.node s at t less in
     let one = c.in_default-take.ensures in
     let step : TakesStep (sourced_flat c.state.inside.flat c.state.inside.sources.items) (sourced_flat c.take.new.self c.state.inside.sources.items)
@@ -186,14 +173,31 @@ returns-in-Ok-clause-leads c =
     let goes = c.run_to_rest.ensures.goes in
     let r = c.in-Some.ensures.result in
     let may = subst (MayGo c.args.way.refused) c.ask-asked.ensures.value c.in-Some.ensures.has in
-    leads_to_alike_node c.args.flats.now.items s u w t c.args.way.refused c.args.way.node c.requires.nodes at less may
-    (subst (TakesStep (sourced_flat c.state.inside.flat c.state.inside.sources.items) (sourced_flat c.take.new.self c.state.inside.sources.items)
-    c.args.way.thread) r step) goes c.node_of.new.flats.items c.in-Ok.next
-    (subst (λ z. NodesStay z c.node_of.new.flats.items) c.by_number_of.ensures.items c.node_of.ensures.stay)
-    (λ k is. subst (λ z. LookAlike z k) c.in_ok-new.ensures.state (c.in-Ok.ensures.alike k is))
+    let gives = c.in-Ok.ensures.gives in
+    let new = c.node_of.new.flats.items in
+    let items = c.by_number_of.ensures.items in
+    record {
+      within = λ v e. subst (λ z. z < length new) (same_Some c.in-Ok.next v e) gives.within;
+      added = subst (λ z. (length new ≡ length z) ⊎ ((Some c.in-Ok.next ≡ Some (length z)) × (length new ≡ suc (length z)))) items
+          (elim gives.added [ inl same ↦ inl same | inr p ↦ inr (ap Some p.0, p.1) ]);
+      leads =
+          leads_to_alike_node c.args.flats.now.items s u w t c.args.way.refused c.args.way.node c.requires.nodes at less may
+          (subst (TakesStep (sourced_flat c.state.inside.flat c.state.inside.sources.items) (sourced_flat c.take.new.self c.state.inside.sources.items)
+          c.args.way.thread) r step) goes c.node_of.new.flats.items c.in-Ok.next
+          (subst (λ z. NodesStay z c.node_of.new.flats.items) c.by_number_of.ensures.items c.node_of.ensures.adds.stay)
+          (λ k is. subst (λ z. LookAlike z k) c.in_ok-new.ensures.state (c.in-Ok.ensures.gives.alike k is));
+      tickless = λ p is none.
+          subst (LeadsTickless c.node_of.new.flats.items t c.args.way.refused c.args.way.node) (same_Some c.in-Ok.next p is)
+          (leads_tickless c.args.flats.now.items s u w t c.args.way.refused c.args.way.node c.requires.nodes at less may
+          (subst (TakesStep (sourced_flat c.state.inside.flat c.state.inside.sources.items) (sourced_flat c.take.new.self c.state.inside.sources.items)
+          c.args.way.thread) r step) goes c.node_of.new.flats.items c.in-Ok.next
+          (subst (λ z. NodesStay z c.node_of.new.flats.items) c.by_number_of.ensures.items c.node_of.ensures.adds.stay)
+          (λ k is. subst (λ z. LookAlike z k) c.in_ok-new.ensures.state (c.in-Ok.ensures.gives.alike k is))
+          (subst (λ (z : SourcedFlat). HaveNoTicks z.sources) c.in_ok-new.ensures.state (c.node_of.ensures.tickless none).1));
+    }
 
-pub returns-in-Ok-clause-reached : goal.returns-in-Ok-clause-reached
-returns-in-Ok-clause-reached c = λ x all.
+pub returns-in-Ok-clause-kept : goal.returns-in-Ok-clause-kept
+returns-in-Ok-clause-kept c =
     let f = c.state.inside.flat in
     let g = c.take.new.self in
     let sources = c.state.inside.sources.items in
@@ -201,7 +205,7 @@ returns-in-Ok-clause-reached c = λ x all.
     let u = sourced_flat g sources in
     let t = c.args.way.thread in
     let at = subst (λ z. slice_get c.args.flats.now.items c.args.way.node ≡ Some z) (sym c.state.view_is) c.in_ok-state.ensures.found in
-    let less = c.requires.thread s at in
+    let less = c.requires.way.thread s at in
     let rests = c.requires.nodes.rest c.args.way.node s at t less in
     let one = c.in_default-take.ensures in
     let step : TakesStep (sourced_flat c.state.inside.flat c.state.inside.sources.items) (sourced_flat c.take.new.self c.state.inside.sources.items)
@@ -209,12 +213,22 @@ returns-in-Ok-clause-reached c = λ x all.
     rest_takes_step f g sources t c.in-Some.answer rests one.admitted one.taken one.code one.threads one.objects in
     let w = c.run_to_rest.new.state in
     let goes = c.run_to_rest.ensures.goes in
-    c.node_of.ensures.reached x (subst (AllReached x) (sym c.by_number_of.ensures.items) all)
-    (subst (IsReached x) (sym c.in_ok-new.ensures.state)
-    (reached_after_step x s u w t c.in-Some.answer (all c.args.way.node s at) rests step goes))
+    record {
+      adds = subst (λ z. NodesAdded c.args.bounds.nodes z c.node_of.new.flats.items) c.by_number_of.ensures.items c.node_of.ensures.adds;
+      reached = λ x all.
+          c.node_of.ensures.reached x (subst (AllReached x) (sym c.by_number_of.ensures.items) all)
+          (subst (IsReached x) (sym c.in_ok-new.ensures.state)
+          (reached_after_step x s u w t c.in-Some.answer (all c.args.way.node s at) rests step goes));
+      has = λ x all was new. elim (c.node_of.ensures.ticks new) [
+        | inl old ↦ was old
+        | inr ticks ↦ ticks_have_timed_run x w (reached_after_step x s u w t c.in-Some.answer (all c.args.way.node s at) rests step goes)
+            (subst (λ (z : SourcedFlat). HaveTicks z.sources) c.in_ok-new.ensures.state ticks)
+      ];
+      were = λ none. (c.node_of.ensures.tickless none).0;
+    }
 
-pub returns-clause-reached : goal.returns-clause-reached
-returns-clause-reached c = λ x all.
+pub returns-clause-kept : goal.returns-clause-kept
+returns-clause-kept c =
     let f = c.state.inside.flat in
     let g = c.take.new.self in
     let sources = c.state.inside.sources.items in
@@ -222,7 +236,7 @@ returns-clause-reached c = λ x all.
     let u = sourced_flat g sources in
     let t = c.args.way.thread in
     let at = subst (λ z. slice_get c.args.flats.now.items c.args.way.node ≡ Some z) (sym c.state.view_is) c.in_ok-state.ensures.found in
-    let less = c.requires.thread s at in
+    let less = c.requires.way.thread s at in
     let rests = c.requires.nodes.rest c.args.way.node s at t less in
     let one = c.in_default-take.ensures in
     let step : TakesStep (sourced_flat c.state.inside.flat c.state.inside.sources.items) (sourced_flat c.take.new.self c.state.inside.sources.items)
@@ -230,9 +244,19 @@ returns-clause-reached c = λ x all.
     rest_takes_step f g sources t c.in-Some.answer rests one.admitted one.taken one.code one.threads one.objects in
     let w = c.run_to_rest.new.state in
     let goes = c.run_to_rest.ensures.goes in
-    c.node_of.ensures.reached x (subst (AllReached x) (sym c.by_number_of.ensures.items) all)
-    (subst (IsReached x) (sym c.in_ok-new.ensures.state)
-    (reached_after_step x s u w t c.in-Some.answer (all c.args.way.node s at) rests step goes))
+    record {
+      adds = subst (λ z. NodesAdded c.args.bounds.nodes z c.node_of.new.flats.items) c.by_number_of.ensures.items c.node_of.ensures.adds;
+      reached = λ x all.
+          c.node_of.ensures.reached x (subst (AllReached x) (sym c.by_number_of.ensures.items) all)
+          (subst (IsReached x) (sym c.in_ok-new.ensures.state)
+          (reached_after_step x s u w t c.in-Some.answer (all c.args.way.node s at) rests step goes));
+      has = λ x all was new. elim (c.node_of.ensures.ticks new) [
+        | inl old ↦ was old
+        | inr ticks ↦ ticks_have_timed_run x w (reached_after_step x s u w t c.in-Some.answer (all c.args.way.node s at) rests step goes)
+            (subst (λ (z : SourcedFlat). HaveTicks z.sources) c.in_ok-new.ensures.state ticks)
+      ];
+      were = λ none. (c.node_of.ensures.tickless none).0;
+    }
 
 pub returns-in-Err-run_to_rest-clause-stopped : goal.returns-in-Err-run_to_rest-clause-stopped
 returns-in-Err-run_to_rest-clause-stopped c = λ x all.
@@ -243,7 +267,7 @@ returns-in-Err-run_to_rest-clause-stopped c = λ x all.
     let u = sourced_flat g sources in
     let t = c.args.way.thread in
     let at = subst (λ z. slice_get c.args.flats.now.items c.args.way.node ≡ Some z) (sym c.state.view_is) c.in_ok-state.ensures.found in
-    let less = c.requires.thread s at in
+    let less = c.requires.way.thread s at in
     let rests = c.requires.nodes.rest c.args.way.node s at t less in
     let one = c.in_default-take.ensures in
     let step : TakesStep (sourced_flat c.state.inside.flat c.state.inside.sources.items) (sourced_flat c.take.new.self c.state.inside.sources.items)
@@ -255,82 +279,5 @@ returns-in-Err-run_to_rest-clause-stopped c = λ x all.
     (stop_after_entry x c.args.bounds.private c.in-Err-run_to_rest.stop s u w t c.in-Some.answer (all c.args.way.node s at) rests step goes
     c.in-Err-run_to_rest.ensures.stopped)
 
-pub returns-in_err-new-clause-reached : goal.returns-in_err-new-clause-reached
-returns-in_err-new-clause-reached c = λ x all. subst (AllReached x) (sym c.by_number_of.ensures.items) all
-
-pub returns-in-Ok-clause-stay : goal.returns-in-Ok-clause-stay
-returns-in-Ok-clause-stay c = subst (λ z. NodesStay z c.node_of.new.flats.items) c.by_number_of.ensures.items c.node_of.ensures.stay
-
-pub returns-clause-stay : goal.returns-clause-stay
-returns-clause-stay c = subst (λ z. NodesStay z c.node_of.new.flats.items) c.by_number_of.ensures.items c.node_of.ensures.stay
-
-pub returns-in-Ok-clause-has : goal.returns-in-Ok-clause-has
-returns-in-Ok-clause-has c = λ x all was new.
-    let f = c.state.inside.flat in
-    let g = c.take.new.self in
-    let sources = c.state.inside.sources.items in
-    let s = sourced_flat f sources in
-    let u = sourced_flat g sources in
-    let t = c.args.way.thread in
-    let at = subst (λ z. slice_get c.args.flats.now.items c.args.way.node ≡ Some z) (sym c.state.view_is) c.in_ok-state.ensures.found in
-    let less = c.requires.thread s at in
-    let rests = c.requires.nodes.rest c.args.way.node s at t less in
-    let one = c.in_default-take.ensures in
-    let step : TakesStep (sourced_flat c.state.inside.flat c.state.inside.sources.items) (sourced_flat c.take.new.self c.state.inside.sources.items)
-    c.args.way.thread c.in-Some.answer =
-    rest_takes_step f g sources t c.in-Some.answer rests one.admitted one.taken one.code one.threads one.objects in
-    let w = c.run_to_rest.new.state in
-    let goes = c.run_to_rest.ensures.goes in elim (c.node_of.ensures.ticks new) [
-      | inl old ↦ was old
-      | inr ticks ↦ ticks_have_timed_run x w (reached_after_step x s u w t c.in-Some.answer (all c.args.way.node s at) rests step goes)
-          (subst (λ (z : SourcedFlat). HaveTicks z.sources) c.in_ok-new.ensures.state ticks)
-    ]
-
-pub returns-clause-has : goal.returns-clause-has
-returns-clause-has c = λ x all was new.
-    let f = c.state.inside.flat in
-    let g = c.take.new.self in
-    let sources = c.state.inside.sources.items in
-    let s = sourced_flat f sources in
-    let u = sourced_flat g sources in
-    let t = c.args.way.thread in
-    let at = subst (λ z. slice_get c.args.flats.now.items c.args.way.node ≡ Some z) (sym c.state.view_is) c.in_ok-state.ensures.found in
-    let less = c.requires.thread s at in
-    let rests = c.requires.nodes.rest c.args.way.node s at t less in
-    let one = c.in_default-take.ensures in
-    let step : TakesStep (sourced_flat c.state.inside.flat c.state.inside.sources.items) (sourced_flat c.take.new.self c.state.inside.sources.items)
-    c.args.way.thread c.in-Some.answer =
-    rest_takes_step f g sources t c.in-Some.answer rests one.admitted one.taken one.code one.threads one.objects in
-    let w = c.run_to_rest.new.state in
-    let goes = c.run_to_rest.ensures.goes in elim (c.node_of.ensures.ticks new) [
-      | inl old ↦ was old
-      | inr ticks ↦ ticks_have_timed_run x w (reached_after_step x s u w t c.in-Some.answer (all c.args.way.node s at) rests step goes)
-          (subst (λ (z : SourcedFlat). HaveTicks z.sources) c.in_ok-new.ensures.state ticks)
-    ]
-
-pub returns-in-Ok-clause-tickless : goal.returns-in-Ok-clause-tickless
-returns-in-Ok-clause-tickless c = λ p is none.
-    let f = c.state.inside.flat in
-    let g = c.take.new.self in
-    let sources = c.state.inside.sources.items in
-    let s = sourced_flat f sources in
-    let u = sourced_flat g sources in
-    let t = c.args.way.thread in
-    let at = subst (λ z. slice_get c.args.flats.now.items c.args.way.node ≡ Some z) (sym c.state.view_is) c.in_ok-state.ensures.found in
-    let less = c.requires.thread s at in
-    let rests = c.requires.nodes.rest c.args.way.node s at t less in
-    let one = c.in_default-take.ensures in
-    let step : TakesStep (sourced_flat c.state.inside.flat c.state.inside.sources.items) (sourced_flat c.take.new.self c.state.inside.sources.items)
-    c.args.way.thread c.in-Some.answer =
-    rest_takes_step f g sources t c.in-Some.answer rests one.admitted one.taken one.code one.threads one.objects in
-    let w = c.run_to_rest.new.state in
-    let goes = c.run_to_rest.ensures.goes in
-    let r = c.in-Some.ensures.result in
-    let may = subst (MayGo c.args.way.refused) c.ask-asked.ensures.value c.in-Some.ensures.has in
-    subst (LeadsTickless c.node_of.new.flats.items t c.args.way.refused c.args.way.node) (same_Some c.in-Ok.next p is)
-    (leads_tickless c.args.flats.now.items s u w t c.args.way.refused c.args.way.node c.requires.nodes at less may
-    (subst (TakesStep (sourced_flat c.state.inside.flat c.state.inside.sources.items) (sourced_flat c.take.new.self c.state.inside.sources.items)
-    c.args.way.thread) r step) goes c.node_of.new.flats.items c.in-Ok.next
-    (subst (λ z. NodesStay z c.node_of.new.flats.items) c.by_number_of.ensures.items c.node_of.ensures.stay)
-    (λ k is. subst (λ z. LookAlike z k) c.in_ok-new.ensures.state (c.in-Ok.ensures.alike k is))
-    (subst (λ (z : SourcedFlat). HaveNoTicks z.sources) c.in_ok-new.ensures.state (c.node_of.ensures.tickless none).1))
+pub returns-in_err-new-clause-kept : goal.returns-in_err-new-clause-kept
+returns-in_err-new-clause-kept c = nodes_kept_unchanged c.args.bounds.nodes _ _ _ c.requires.nodes c.requires.room (sym c.by_number_of.ensures.items)

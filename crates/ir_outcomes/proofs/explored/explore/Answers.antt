@@ -12,10 +12,10 @@ go_over-requires-clause-allowed g c =
 
 pub levels-preserved : goal.levels-preserved
 levels-preserved g c = record {
-  is = c.go_over.ensures.is;
-  setup = c.go_over.ensures.setup ∙ c.levels.invariant.setup;
-  bounds = c.go_over.ensures.bounds ∙ c.levels.invariant.bounds;
-  most = c.go_over.ensures.most ∙ c.levels.invariant.most;
+  is = c.go_over.ensures.kept.is;
+  setup = c.go_over.ensures.kept.setup ∙ c.levels.invariant.setup;
+  bounds = c.go_over.ensures.kept.bounds ∙ c.levels.invariant.bounds;
+  most = c.go_over.ensures.kept.most ∙ c.levels.invariant.most;
 }
 
 pub levels-smaller : goal.levels-smaller
@@ -24,7 +24,7 @@ levels-smaller g c =
     let new = c.go_over.new.self in
     let none = c.goes_on.ensures.stop c.levels-test.true in
     subst (λ z. levels_left new.stop (suc new.most - new.states.search.level.number) < levels_left z (suc old.most - old.states.search.level.number)) (sym none)
-    (subst (λ m. levels_left new.stop (suc m - new.states.search.level.number) < levels_left None (suc old.most - old.states.search.level.number)) (sym c.go_over.ensures.most)
+    (subst (λ m. levels_left new.stop (suc m - new.states.search.level.number) < levels_left None (suc old.most - old.states.search.level.number)) (sym c.go_over.ensures.kept.most)
     (fewer_levels_left new.stop old.states.search.level.number new.states.search.level.number old.most (c.goes_on.ensures.wanted c.levels-test.true)
     c.go_over.ensures.next))
 

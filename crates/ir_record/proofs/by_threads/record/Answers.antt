@@ -23,12 +23,12 @@ run_workers-requires-clause-ready g c κs within =
     subst (λ (z : Guest × List ℕ). (k : ℕ) (d : _) → k < length old
     → IsReadyWorker g.W.World.answers g.W.World.broken z.0 id z.1 (Rattle.std.proofs.Common.get_or old k d))
     (λ i. (sym c.in_ok-crew.ensures.key i, sym same i))
-    (new_workers_are_ready g.W.World.answers g.W.World.broken c.args.image.now c.args.budget c.args.profile 0 id old c.args.worlds.items
+    (new_workers_are_ready g.W.World.answers g.W.World.broken c.args.image.now c.args.limits.budget c.args.limits.profile 0 id old c.args.worlds.items
     (c.in_ok-workers.ensures.new id c.in_ok-crew.ensures.seats.0) c.in_ok-workers.ensures.worlds c.requires.works)
 
 -- the workers that were started have run to such ends
 abbrev Ran : (g : given.Over) → goal.After-workers-3-1 g → (end : List (Worker g.row.W.Denot)) → Type 0
-Ran g c end = HaveRun g.W.World.answers g.W.World.broken g.W.World.origin c.args.image.now c.args.budget c.args.profile
+Ran g c end = HaveRun g.W.World.answers g.W.World.broken g.W.World.origin c.args.image.now c.args.limits.budget c.args.limits.profile
     c.in_ok-crew.crew.table.shared.table_id c.args.worlds.items c.in_ok-workers.workers.items end
 
 ran : (g : given.Over) (c : goal.After-workers-3-1 g) (end : List (Worker g.row.W.Denot))
@@ -81,7 +81,7 @@ returns-in-Some-clause-failed g c = (
       ∙ ap (map g.W.World.broken) (sym c.worlds_of.ensures)) c.in-Some.ensures.failed,
   subst (AreSameWorlds g.W.World.origin c.args.worlds.items) (sym c.worlds_of.ensures)
       (worlds_there (ran_some g c.before.before.before)),
-  subst (EachWentOn g.W.World.answers g.W.World.broken c.args.image.now c.args.budget c.args.profile c.args.worlds.items)
+  subst (EachWentOn g.W.World.answers g.W.World.broken c.args.image.now c.args.limits.budget c.args.limits.profile c.args.worlds.items)
       (sym c.worlds_of.ensures) (each_there (ran_some g c.before.before.before)),
 )
 

@@ -7,7 +7,7 @@ abbrev pub invariant-sweeps : goal.invariant-sweeps
 invariant-sweeps g l = record {
   nodes : length l.marks ≡ length l.fn.marks;
   stays : StaysOpen l.fn.marks l.marks;
-  ways : (v : ℕ) → IsNodeOpen l.marks v → HasMarked (g.S.Successors.noted l.graph) l.threads l.fn.marks v;
+  ways : (v : ℕ) → IsNodeOpen l.marks v → HasMarked (g.S.Successors.shape l.graph).noted l.threads l.fn.marks v;
 }
 
 abbrev pub decreases-sweeps : goal.decreases-sweeps

@@ -8,7 +8,7 @@ use Rattle.ir_search.proofs.ways.sweep.Goals.{else-not-marks-node-via-else-not-m
 
 pub loop-k-preserved : goal.loop-k-preserved
 loop-k-preserved g c =
-    let noted = g.S.Successors.noted c.args.graph.now in
+    let noted = (g.S.Successors.shape c.args.graph.now).noted in
     let marks = c.loop-k.marks in
     let k : ℕ = c.loop-k.k in
     let node : ℕ = length c.loop-k.marks - 1 - c.loop-k.k in

@@ -2,7 +2,8 @@ use Rattle.std.proofs.Common.{ap, ◌∙◌, refl, sym}
 use Rattle.ir_stream.specs.Endings.{flow_after}
 use Rattle.ir_gdb.specs.Connection.{Connecting, unacknowledged}
 use Rattle.ir_stream.proofs.CallerLemmas.{writes_or_fails_whole, writes_or_fails_error}
-use Rattle.ir_gdb.proofs.Arms.{request_ends_none, replied_sent, replied_part, detach_sent, detach_part, console_sent, console_part, quiet_sent, quiet_part, sent_nothing_after_kill}
+use Rattle.ir_gdb.proofs.Arms.{request_ends_none, replied_sent, replied_part, detach_sent, detach_part, console_sent, console_part, quiet_sent}
+use Rattle.ir_gdb.proofs.Arms.{quiet_part, guarded_sent, guarded_part, sent_nothing_after_kill}
 use Rattle.ir_gdb.proofs.connection.Connection.answer_request.Goals as goal
 
 pub returns-in-Kill-clause-writes : goal.returns-in-Kill-clause-writes
@@ -22,6 +23,19 @@ pub returns-in_ok-answer_line-in-Console-clause-writes : goal.returns-in_ok-answ
 returns-in_ok-answer_line-in-Console-clause-writes g c = writes_or_fails_whole (console_sent c.args.self.now.link c.args.self.now.reading.payload
     c.args.request c.answer_line.new.self.link (g.W.Sink.written c.args.writer.now) (g.W.Sink.written c.answer_line.new.writer) c.in-Console.is
     c.in_ok-answer_line-in-Console.ensures.writes.ok) c.in_ok-answer_line-in-Console.ensures.writes.stays
+
+pub returns-in_err-answer_break-in-SetBreakIf-clause-writes : goal.returns-in_err-answer_break-in-SetBreakIf-clause-writes
+returns-in_err-answer_break-in-SetBreakIf-clause-writes g c = writes_or_fails_error _ c.from_residual-in_err-answer_break-in-SetBreakIf.result
+    c.from_residual-in_err-answer_break-in-SetBreakIf.ensures.1
+    (guarded_part c.args.self.now.link c.args.self.now.reading.payload c.args.request c.args.self.now.link (g.W.Sink.written c.args.writer.now)
+    (g.W.Sink.written c.answer_break.new.writer) c.in-SetBreakIf.address c.in-SetBreakIf.hardware c.in-SetBreakIf.is
+    c.in_err-answer_break-in-SetBreakIf.ensures.writes.prefix) c.in_err-answer_break-in-SetBreakIf.ensures.writes.err
+
+pub returns-in_ok-answer_break-in-SetBreakIf-clause-writes : goal.returns-in_ok-answer_break-in-SetBreakIf-clause-writes
+returns-in_ok-answer_break-in-SetBreakIf-clause-writes g c = writes_or_fails_whole (guarded_sent c.args.self.now.link c.args.self.now.reading.payload
+    c.args.request c.answer_break.new.self.link (g.W.Sink.written c.args.writer.now) (g.W.Sink.written c.answer_break.new.writer)
+    c.in-SetBreakIf.address c.in-SetBreakIf.hardware c.in-SetBreakIf.is
+    c.in_ok-answer_break-in-SetBreakIf.ensures.writes.ok) c.in_ok-answer_break-in-SetBreakIf.ensures.writes.stays
 
 pub returns-in_err-send_reply-in-NoAcknowledgements-clause-writes : goal.returns-in_err-send_reply-in-NoAcknowledgements-clause-writes
 returns-in_err-send_reply-in-NoAcknowledgements-clause-writes g c =
@@ -51,12 +65,13 @@ pub returns-in_err-answer-in_default-clause-writes : goal.returns-in_err-answer-
 returns-in_err-answer-in_default-clause-writes g c = writes_or_fails_error _ c.from_residual-in_err-answer-in_default.result c.from_residual-in_err-answer-in_default.ensures.1
     (replied_part c.args.self.now.link
     c.args.self.now.reading.payload c.args.request c.args.self.now.link (g.W.Sink.written c.args.writer.now) (g.W.Sink.written c.answer-in_default.new.writer)
-    c.in_default.not-Kill c.in_default.not-Console c.in_default.not-NoAcknowledgements c.in_err-answer-in_default.ensures.writes.prefix) c.in_err-answer-in_default.ensures.writes.err
+    c.in_default.not-Kill c.in_default.not-Console c.in_default.not-NoAcknowledgements c.in_default.not-SetBreakIf
+    c.in_err-answer-in_default.ensures.writes.prefix) c.in_err-answer-in_default.ensures.writes.err
 
 pub returns-in_ok-answer-in_default-clause-writes : goal.returns-in_ok-answer-in_default-clause-writes
 returns-in_ok-answer-in_default-clause-writes g c = writes_or_fails_whole (replied_sent c.args.self.now.link
     c.args.self.now.reading.payload c.args.request c.answer-in_default.new.self.link (g.W.Sink.written c.args.writer.now)
-    (g.W.Sink.written c.answer-in_default.new.writer) c.in_default.not-Kill c.in_default.not-Console c.in_default.not-NoAcknowledgements
+    (g.W.Sink.written c.answer-in_default.new.writer) c.in_default.not-Kill c.in_default.not-Console c.in_default.not-NoAcknowledgements c.in_default.not-SetBreakIf
     c.in_ok-answer-in_default.ensures.writes.ok) c.in_ok-answer-in_default.ensures.writes.stays
 
 pub returns-in_ok-answer-in_default-clause-flow : goal.returns-in_ok-answer-in_default-clause-flow

@@ -1,7 +1,7 @@
 use Rattle.std.proofs.Common.{◌≡◌, ◌∙◌, sym, ap}
 use Rattle.ir_gdb.specs.Serving.{Serving}
 use Rattle.ir_gdb.specs.Stub.{stub_spoken}
-use Rattle.ir_gdb.specs.Stops.{downwards_of}
+use Rattle.ir_gdb.specs.Points.{downwards_of}
 use Rattle.ir_gdb.proofs.Stopping.{serving_seen, search_is_downwards_of, search_end_stops_below}
 use Rattle.ir_gdb.proofs.remote.Remote.found_below.Goals as goal
 

@@ -6,11 +6,14 @@ use Rattle.ir_graph.proofs.Grown.{graph_after_nodes, graph_after_both, is_graph_
 use Rattle.ir_graph.proofs.Timed.{knows_times_nodes_added, knows_times_after_note, knows_times_equal_rows}
 use Rattle.ir_graph.proofs.graph.GraphSuccessors.next.Goals as goal
 
-pub successor-requires-clause-thread : goal.successor-requires-clause-thread
-successor-requires-clause-thread c = λ f is.
-    let g = c.args.self.now in
-    unnoted_thread_exists g.setup g.flats.items (noted_by g.rows.items g.refused_rows.items) (length g.rows.items) c.args.thread
-    c.args.refused c.args.node c.args.node f c.requires.sound.0 (sym c.known.ensures ∙ c.in_default.is) is
+pub successor-requires-clause-way : goal.successor-requires-clause-way
+successor-requires-clause-way c =
+    let g = c.args.self.now in record {
+      node = c.requires.node;
+      thread = λ f is.
+          unnoted_thread_exists g.setup g.flats.items (noted_by g.rows.items g.refused_rows.items) (length g.rows.items) c.args.thread
+          c.args.refused c.args.node c.args.node f c.requires.sound.0 (sym c.known.ensures ∙ c.in_default.is) is;
+    }
 
 pub successor-requires-clause-code : goal.successor-requires-clause-code
 successor-requires-clause-code c = λ f is.
@@ -31,10 +34,10 @@ returns-in_err-next-clause-sound c =
     let g = c.args.self.now in
     let grown = c.successor.ensures in
     let known = knows_times_nodes_added g.setup g.flats.items c.successor.new.flats.items (noted_by g.rows.items g.refused_rows.items)
-    (length g.rows.items) g.timed c.successor.new.timed c.requires.sound.0 c.requires.sound.3 grown.stay
-    (grown.has g.setup c.requires.sound.0.reached c.requires.sound.3.has) grown.were in (
+    (length g.rows.items) g.timed c.successor.new.timed c.requires.sound.0 c.requires.sound.3 grown.kept.adds.stay
+    (grown.kept.has g.setup c.requires.sound.0.reached c.requires.sound.3.has) grown.kept.were in (
       graph_after_nodes g.setup g.flats.items c.successor.new.flats.items (noted_by g.rows.items g.refused_rows.items)
-          (length g.rows.items) c.requires.sound.0 grown.stay grown.nodes (grown.reached g.setup c.requires.sound.0.reached) grown.grown,
+          (length g.rows.items) c.requires.sound.0 grown.kept.adds.stay grown.kept.adds.nodes (grown.kept.reached g.setup c.requires.sound.0.reached) grown.kept.adds.grown,
       subst (λ z. AreTurns z c.successor.new.flats.shared c.successor.new.ahead) c.code-code.ensures grown.turns,
       grown.store ∙ c.requires.sound.2,
       known,
@@ -59,15 +62,15 @@ returns-in_err-note_way-clause-sound c =
     ⊎ ((t ≡ c.args.thread) × (refused ≡ c.args.refused) × (v ≡ c.args.node) × (noted_by new tries t refused v ≡ Some c.in_ok-next.next))) values
     c.note_way.ensures.only) in
     let noted = graph_after_both g.setup g.flats.items flats g.rows.items g.refused_rows.items new tries c.args.thread
-    c.args.refused c.args.node c.in_ok-next.next c.requires.sound.0 grown.stay grown.nodes
-    (grown.reached g.setup c.requires.sound.0.reached) grown.grown only threads (sym c.known.ensures ∙ c.in_default.is)
-    c.requires.node c.in_ok-next.ensures.within c.in_ok-next.ensures.leads in
+    c.args.refused c.args.node c.in_ok-next.next c.requires.sound.0 grown.kept.adds.stay grown.kept.adds.nodes
+    (grown.kept.reached g.setup c.requires.sound.0.reached) grown.kept.adds.grown only threads (sym c.known.ensures ∙ c.in_default.is)
+    c.requires.node c.in_ok-next.ensures.next.within c.in_ok-next.ensures.next.leads in
     let known = knows_times_equal_rows g.setup flats c.successor.new.timed new tries same also
     (knows_times_after_note g.setup flats (noted_by g.rows.items g.refused_rows.items) (noted_by new tries) c.successor.new.timed c.args.thread c.args.refused
     c.args.node c.in_ok-next.next
     (knows_times_nodes_added g.setup g.flats.items flats (noted_by g.rows.items g.refused_rows.items) (length g.rows.items) g.timed
-    c.successor.new.timed c.requires.sound.0 c.requires.sound.3 grown.stay
-    (grown.has g.setup c.requires.sound.0.reached c.requires.sound.3.has) grown.were) only c.in_ok-next.ensures.tickless) in (
+    c.successor.new.timed c.requires.sound.0 c.requires.sound.3 grown.kept.adds.stay
+    (grown.kept.has g.setup c.requires.sound.0.reached c.requires.sound.3.has) grown.kept.were) only c.in_ok-next.ensures.next.tickless) in (
       is_graph_of_equal_rows g.setup flats new tries same also noted,
       subst (λ z. AreTurns z c.successor.new.flats.shared c.successor.new.ahead) c.code-code.ensures grown.turns,
       grown.store ∙ c.requires.sound.2,
@@ -93,15 +96,15 @@ returns-clause-sound c =
     ⊎ ((t ≡ c.args.thread) × (refused ≡ c.args.refused) × (v ≡ c.args.node) × (noted_by new tries t refused v ≡ Some c.in_ok-next.next))) values
     c.note_way.ensures.only) in
     let noted = graph_after_both g.setup g.flats.items flats g.rows.items g.refused_rows.items new tries c.args.thread
-    c.args.refused c.args.node c.in_ok-next.next c.requires.sound.0 grown.stay grown.nodes
-    (grown.reached g.setup c.requires.sound.0.reached) grown.grown only threads (sym c.known.ensures ∙ c.in_default.is)
-    c.requires.node c.in_ok-next.ensures.within c.in_ok-next.ensures.leads in
+    c.args.refused c.args.node c.in_ok-next.next c.requires.sound.0 grown.kept.adds.stay grown.kept.adds.nodes
+    (grown.kept.reached g.setup c.requires.sound.0.reached) grown.kept.adds.grown only threads (sym c.known.ensures ∙ c.in_default.is)
+    c.requires.node c.in_ok-next.ensures.next.within c.in_ok-next.ensures.next.leads in
     let known = knows_times_equal_rows g.setup flats c.successor.new.timed new tries same also
     (knows_times_after_note g.setup flats (noted_by g.rows.items g.refused_rows.items) (noted_by new tries) c.successor.new.timed c.args.thread c.args.refused
     c.args.node c.in_ok-next.next
     (knows_times_nodes_added g.setup g.flats.items flats (noted_by g.rows.items g.refused_rows.items) (length g.rows.items) g.timed
-    c.successor.new.timed c.requires.sound.0 c.requires.sound.3 grown.stay
-    (grown.has g.setup c.requires.sound.0.reached c.requires.sound.3.has) grown.were) only c.in_ok-next.ensures.tickless) in (
+    c.successor.new.timed c.requires.sound.0 c.requires.sound.3 grown.kept.adds.stay
+    (grown.kept.has g.setup c.requires.sound.0.reached c.requires.sound.3.has) grown.kept.were) only c.in_ok-next.ensures.next.tickless) in (
       is_graph_of_equal_rows g.setup flats new tries same also noted,
       subst (λ z. AreTurns z c.successor.new.flats.shared c.successor.new.ahead) c.code-code.ensures grown.turns,
       grown.store ∙ c.requires.sound.2,

@@ -8,32 +8,33 @@ use Rattle.ir_graph.proofs.states.States.go_over.Goals as goal
 pub go_over-requires-clause-sound : goal.go_over-requires-clause-sound
 go_over-requires-clause-sound g c = (c.requires.is.graph, c.requires.is.turns, c.requires.is.code, c.requires.is.times)
 
-pub returns-clause-is : goal.returns-clause-is
-returns-clause-is g c =
-    let setup = ap (λ z. z.0) c.go_over.ensures.origin in record {
-      graph = c.go_over.ensures.sound.0;
-      turns = c.go_over.ensures.sound.1;
-      code = c.go_over.ensures.sound.2;
-      times = c.go_over.ensures.sound.3;
-      room = c.go_over.ensures.room;
-      threads = c.go_over.ensures.threads ∙ c.requires.is.threads ∙ c.requires.is.graph.number ∙ ap (λ z. length z.guest.entries) (sym setup)
-          ∙ sym c.go_over.ensures.sound.0.number;
-      ways = c.go_over.ensures.has.reached;
-      few = c.go_over.ensures.has.few;
+pub returns-clause-kept : goal.returns-clause-kept
+returns-clause-kept g c =
+    let keeps = c.go_over.ensures.keeps in
+    let setup = ap (λ z. z.0) keeps.grows.origin in record {
+      is = record {
+        graph = keeps.sound.0;
+        turns = keeps.sound.1;
+        code = keeps.sound.2;
+        times = keeps.sound.3;
+        room = keeps.room;
+        threads = c.go_over.ensures.threads ∙ c.requires.is.threads ∙ c.requires.is.graph.number ∙ ap (λ z. length z.guest.entries) (sym setup)
+            ∙ sym keeps.sound.0.number;
+        ways = keeps.reached;
+        few = keeps.few;
+      };
+      setup = setup;
+      bounds = λ i. record { nodes = keeps.grows.limit i; private = (ap (λ z. z.1) keeps.grows.origin) i };
+      stay = keeps.grows.stay;
+      adds = keeps.adds;
     }
-
-pub returns-clause-setup : goal.returns-clause-setup
-returns-clause-setup g c = ap (λ z. z.0) c.go_over.ensures.origin
-
-pub returns-clause-bounds : goal.returns-clause-bounds
-returns-clause-bounds g c = λ i. record { nodes = c.go_over.ensures.limit i; private = (ap (λ z. z.1) c.go_over.ensures.origin) i }
 
 pub returns-clause-searched : goal.returns-clause-searched
 returns-clause-searched g c =
     let graph = c.go_over.new.graph in
     let search = c.go_over.new.self in
-    let setup = ap (λ z. z.0) c.go_over.ensures.origin in
-    let sound = c.go_over.ensures.sound.0 in
+    let setup = ap (λ z. z.0) c.go_over.ensures.keeps.grows.origin in
+    let sound = c.go_over.ensures.keeps.sound.0 in
     let threads : length (rows search.opened.items) ≡ length graph.rows.items =
     c.go_over.ensures.threads ∙ c.requires.is.threads ∙ c.requires.is.graph.number ∙ ap (λ z. length z.guest.entries) (sym setup) ∙ sym sound.number in
     on_ok_of_implied c.go_over.result
@@ -45,8 +46,8 @@ pub returns-clause-part : goal.returns-clause-part
 returns-clause-part g c =
     let graph = c.go_over.new.graph in
     let search = c.go_over.new.self in
-    let setup = ap (λ z. z.0) c.go_over.ensures.origin in
-    let sound = c.go_over.ensures.sound.0 in
+    let setup = ap (λ z. z.0) c.go_over.ensures.keeps.grows.origin in
+    let sound = c.go_over.ensures.keeps.sound.0 in
     let threads : length (rows search.opened.items) ≡ length graph.rows.items =
     c.go_over.ensures.threads ∙ c.requires.is.threads ∙ c.requires.is.graph.number ∙ ap (λ z. length z.guest.entries) (sym setup) ∙ sym sound.number in
     searched_by graph.setup graph.flats.items graph.rows.items graph.refused_rows.items search.found.nodes.items

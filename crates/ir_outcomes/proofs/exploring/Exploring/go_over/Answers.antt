@@ -1,4 +1,4 @@
-use Rattle.std.proofs.Common.{◌≤◌, suc, inl, inr, sym, subst, arith}
+use Rattle.std.proofs.Common.{◌≤◌, suc, inl, inr, refl, sym, subst, arith}
 use Rattle.ir_lemmas.proofs.CallerLemmas.{on_ok_of_implied}
 use Rattle.ir_search.specs.declared.origin.Level.{Level}
 use Rattle.ir_graph.specs.Searched.{AreSearched}
@@ -12,7 +12,7 @@ use Rattle.ir_outcomes.proofs.exploring.Exploring.go_over.Goals as goal
 
 pub show_new-shown-requires-clause-allowed : goal.show_new-shown-requires-clause-allowed
 show_new-shown-requires-clause-allowed g c =
-    subst (λ (z : Setup). IsAllowed z.profile z.guest) (sym c.go_over-searched.ensures.setup) c.requires.allowed
+    subst (λ (z : Setup). IsAllowed z.profile z.guest) (sym c.go_over-searched.ensures.kept.setup) c.requires.allowed
 
 pub show_new-shown-requires-clause-searched : goal.show_new-shown-requires-clause-searched
 show_new-shown-requires-clause-searched g c =
@@ -23,7 +23,7 @@ show_new-shown-requires-clause-searched g c =
 pub show_new-shown-requires-clause-few : goal.show_new-shown-requires-clause-few
 show_new-shown-requires-clause-few g c =
     let going = c.requires.is.going c.requires.stop in
-    let a = going.few in let b = c.go_over-searched.ensures.adds.longer in omega (arith, a, b)
+    let a = going.few in let b = c.go_over-searched.ensures.kept.adds.longer in omega (arith, a, b)
 
 pub show_new-shown-requires-clause-has : goal.show_new-shown-requires-clause-has
 show_new-shown-requires-clause-has g c =
@@ -31,39 +31,44 @@ show_new-shown-requires-clause-has g c =
     let s = c.go_over-searched.new.self in
     let going = c.requires.is.going c.requires.stop in
     subst (λ z. HasShown z s.graph.flats.items s.search.found.nodes.items old.list.seen old.list.listed.items old.list.outcomes.items)
-    (sym c.go_over-searched.ensures.setup)
+    (sym c.go_over-searched.ensures.kept.setup)
     (shown_among old.states.graph.setup old.states.graph.flats.items s.graph.flats.items old.states.search.found.nodes.items s.search.found.nodes.items
     old.list.seen old.list.listed.items old.list.outcomes.items going.has
-    (let a = going.few in let b = going.between.all in omega (arith, a, b)) going.few c.go_over-searched.ensures.stay
-    c.go_over-searched.ensures.adds.stays)
+    (let a = going.few in let b = going.between.all in omega (arith, a, b)) going.few c.go_over-searched.ensures.kept.stay
+    c.go_over-searched.ensures.kept.adds.stays)
 
-pub returns-clause-is : goal.returns-clause-is
-returns-clause-is g c =
+pub returns-clause-kept : goal.returns-clause-kept
+returns-clause-kept g c =
     let s = c.go_over-searched.new.self in
     let searched = c.go_over-searched in
     let shown = c.show_new-shown in
     let may = MayStop s.graph.setup s.graph.flats.items s.graph.bounds.nodes s.graph.bounds.private in
     let most = c.args.self.now.most in
     record {
-      search = searched.ensures.is;
-      explored = shown.ensures.explored;
-      wanted = error_keeps_property (λ (l : Level). l.number ≤ suc most) searched.result s.search.level c.args.self.now.states.search.level
-          (on_ok_of_implied searched.result (λ next. let a = c.requires.wanted in omega (arith, a, next)) searched.ensures.next) searched.ensures.level
-          (let a = c.requires.wanted in omega (arith, a));
-      going = λ none.
-          let n = c.first_stop-self.ensures.none none in
-          let seen = ok_fact_if_no_error shown.result n.0 shown.ensures.seen in record {
-            between = ok_fact_if_no_error searched.result n.1 searched.ensures.between;
-            searched = λ some. ok_fact_if_no_error searched.result n.1 searched.ensures.searched;
-            has = ok_fact_if_no_error shown.result n.0 shown.ensures.has;
-            few = omega (arith, seen);
-            seen = λ some. seen;
-            levels = ok_fact_if_no_error shown.result n.0 shown.ensures.levels;
-          };
-      stopped = λ why is. elim (c.first_stop-self.ensures.some why is) [
-        | inl e ↦ known_error_fact may shown.result why e shown.ensures.refused
-        | inr e ↦ known_error_fact may searched.result why e searched.ensures.stopped
-      ];
+      is = record {
+        search = searched.ensures.kept.is;
+        explored = shown.ensures.explored;
+        wanted = error_keeps_property (λ (l : Level). l.number ≤ suc most) searched.result s.search.level c.args.self.now.states.search.level
+            (on_ok_of_implied searched.result (λ next. let a = c.requires.wanted in omega (arith, a, next)) searched.ensures.next) searched.ensures.level
+            (let a = c.requires.wanted in omega (arith, a));
+        going = λ none.
+            let n = c.first_stop-self.ensures.none none in
+            let seen = ok_fact_if_no_error shown.result n.0 shown.ensures.seen in record {
+              between = ok_fact_if_no_error searched.result n.1 searched.ensures.between;
+              searched = λ some. ok_fact_if_no_error searched.result n.1 searched.ensures.searched;
+              has = ok_fact_if_no_error shown.result n.0 shown.ensures.has;
+              few = omega (arith, seen);
+              seen = λ some. seen;
+              levels = ok_fact_if_no_error shown.result n.0 shown.ensures.levels;
+            };
+        stopped = λ why is. elim (c.first_stop-self.ensures.some why is) [
+          | inl e ↦ known_error_fact may shown.result why e shown.ensures.refused
+          | inr e ↦ known_error_fact may searched.result why e searched.ensures.stopped
+        ];
+      };
+      setup = searched.ensures.kept.setup;
+      bounds = searched.ensures.kept.bounds;
+      most = refl;
     }
 
 pub returns-clause-next : goal.returns-clause-next

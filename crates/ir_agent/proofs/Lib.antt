@@ -1,0 +1,2 @@
+mod Room
+mod Steps

@@ -1,0 +1,154 @@
+//! The arguments of `ir shrink`.
+
+use crate::asked::Asked;
+use crate::condition_text::ConditionText;
+use crate::conditions::{conditions_of, stale_by};
+use crate::recording::{INPUT, OUTPUT, input_arg, output_arg, random_arg, random_in};
+use crate::subcommands::Row;
+use crate::values::{IMAGE, TRACE, UNTIL, file_arg, given_text, image_arg, text_of};
+use clap::{Arg, ArgAction, ArgMatches, Command};
+use ir_record_command::number_within;
+use std::alloc::{AllocError, Global};
+
+const OUT: &str = "OUT";
+
+const SECONDS: &str = "seconds";
+
+// The most seconds that can be asked for.
+const MOST_SECONDS: u64 = 1_000_000;
+
+/// What follows the help of `ir shrink`.
+pub const SHRINK_AFTER: &str =
+    "TRACE is a recording of IMAGE that fulfils each COND, as `ir hunt` or `ir record --order` wrote it. A run is looked for that fulfils
+each COND too, with fewer context switches. A context switch is a step of another thread than the one that took the step before.
+First an order of the threads is made that TRACE allows, with few switches; it is recorded, and has to give TRACE. Then turns are
+left out, and turns of one thread are drawn together, as long as the run still fulfils each COND with fewer switches: by halves
+first, then by quarters, and at last turn by turn. What is left out runs behind the others, each thread as far as it can.
+`shrunk S0 to S1 order LIST` is printed, of S0 switches and of S1 that are left. LIST is for `ir record --order`. Then comes one of
+  minimal              a last pass has tried each item of LIST: where it is left out, or made endless, with the next item or without
+                       it, the run doesn't fulfil each COND, or has no fewer switches. There may be other runs with fewer
+  stopped seconds      the time of `--seconds` was over before that was known
+OUT is written, and the lines of `ir record` follow. COND is a single argument: one of these, `!` before one to negate it, or
+several with ` | ` between them, of which one has to hold. `ir hunt --help` says more of them:
+   end T E, code T V, word O I V, out T TEXT, fault, bad, budget, stale
+S and FILE have to be those with which TRACE was recorded, and its calls of CLOCK have to be counted: threads that ran on real ones
+have another CLOCK, if they call it. B and P are those of TRACE. OUT is TRACE only for those who want to lose TRACE: it is refused.
+Exit status: 0 shrunk, 1 a file that can't be read or written or is too long, 2 bad arguments, 3 a refused image or trace, or a
+COND about what the guest hasn't, 4 no run of IMAGE has TRACE, or none with this S and FILE, 5 the run of TRACE doesn't fulfil a COND,
+which is said, 6 the time was over: OUT is the best so far.
+";
+
+/// What the help says of it, beside its arguments.
+pub fn row<'a>() -> Row<'a> {
+    Row {
+        name: "shrink",
+        about: "Records a run with fewer context switches that fulfils the same conditions",
+        after: SHRINK_AFTER,
+    }
+}
+
+/// What is shrunk, how, and where to.
+#[derive(Drop)]
+pub struct ShrinkArguments {
+    /// The file of the image.
+    pub image: String,
+    /// The file of the trace.
+    pub trace: String,
+    /// The file that the trace of the shrunk run is written to.
+    pub out: String,
+    /// The conditions, as they are written, but for those on stale writes.
+    pub until: Vec<ConditionText>,
+    /// Whether a stale write of the run has to rest on what was read, or none; `None` if nothing is asked of them.
+    pub stale: Option<bool>,
+    /// How many seconds the search may take; `None` if as many as it takes.
+    pub seconds: Option<u32>,
+    /// Where random words start.
+    pub random: u64,
+    /// The file that guests read.
+    pub input: Option<String>,
+    /// What the paths of the files of what threads print begin with, if they are asked for.
+    pub output: Option<String>,
+}
+
+fn until_arg<'a>(alloc: Global) -> Arg<'a> {
+    Arg::new(alloc, UNTIL)
+        .long(UNTIL)
+        .value_name("COND")
+        .required(true)
+        .action(ArgAction::Append)
+        .help("What has to hold of a run; given more than once, all of it")
+}
+
+fn seconds_arg<'a>(alloc: Global) -> Arg<'a> {
+    Arg::new(alloc, SECONDS)
+        .long(SECONDS)
+        .value_name("N")
+        .allow_negative_numbers(true)
+        .help(
+            "The seconds after which no further run is begun, from 1 to 1000000; without it the search goes on to its end",
+        )
+}
+
+/// The command with its arguments.
+pub fn with_arguments<'a>(alloc: Global, command: Command<'a>) -> Result<Command<'a>, AllocError> {
+    command
+        .arg(image_arg(alloc))?
+        .arg(file_arg(alloc, TRACE, "The file with the trace"))?
+        .arg(file_arg(
+            alloc,
+            OUT,
+            "The file that the trace of the shrunk run is written to",
+        ))?
+        .arg(until_arg(alloc))?
+        .arg(seconds_arg(alloc))?
+        .arg(random_arg(alloc))?
+        .arg(input_arg(alloc))?
+        .arg(output_arg(alloc))
+}
+
+// The most seconds that are asked for, if they are, or what is wrong with their number.
+fn seconds_by(
+    alloc: Global,
+    matches: &ArgMatches<'_>,
+) -> Result<Result<Option<u32>, String>, AllocError> {
+    let Some(text) = matches.get_str(SECONDS) else {
+        return Ok(Ok(None));
+    };
+    match number_within(1, MOST_SECONDS, text) {
+        Some(number) => Ok(Ok(Some(number as u32))),
+        None => Ok(Err(format!(in alloc;
+            "--{SECONDS}: '{text}' is no number from 1 to {MOST_SECONDS}"
+        )?)),
+    }
+}
+
+/// What its arguments ask for.
+pub fn asked(alloc: Global, matches: &ArgMatches<'_>) -> Result<Asked, AllocError> {
+    let until = match conditions_of(alloc, matches)? {
+        Ok(until) => until,
+        Err(why) => return Ok(Asked::Nothing(why)),
+    };
+    let stale = match stale_by(alloc, matches)? {
+        Ok(stale) => stale,
+        Err(why) => return Ok(Asked::Nothing(why)),
+    };
+    let seconds = match seconds_by(alloc, matches)? {
+        Ok(seconds) => seconds,
+        Err(why) => return Ok(Asked::Nothing(why)),
+    };
+    let random = match random_in(alloc, matches)? {
+        Ok(random) => random,
+        Err(why) => return Ok(Asked::Nothing(why)),
+    };
+    Ok(Asked::Shrink(ShrinkArguments {
+        image: text_of(alloc, matches, IMAGE)?,
+        trace: text_of(alloc, matches, TRACE)?,
+        out: text_of(alloc, matches, OUT)?,
+        until,
+        stale,
+        seconds,
+        random,
+        input: given_text(alloc, matches, INPUT)?,
+        output: given_text(alloc, matches, OUTPUT)?,
+    }))
+}

@@ -1,0 +1,230 @@
+//! `ir shrink`: a recorded run is shrunk to one with fewer context switches.
+
+ghost use Rattle.std.specs.Prelude.{◌≡◌, OnOk, false};
+
+use crate::conditions::{conditions_of, copied_texts};
+use crate::ends::tell_ends;
+use crate::explaining::explain_files;
+use crate::files::{bytes_of, image_in, is_lost, say};
+use crate::recording::{
+    Places, RecordingPaths, input_of, loses_input, output_places, record_files,
+};
+use crate::surroundings::Surroundings;
+use ir_arguments::ShrinkArguments;
+use ir_files::{ExitStatus, Folder, MOST_FILE_BYTES};
+use ir_opened::{Opened, open_fit, refuse};
+use ir_past::PastErr;
+use ir_record_command::{ParsedImage, RecordPlan};
+use ir_shrink::{GivenRun, ShrinkPlan, Shrunk, shrink_run};
+use ir_stream::Sink;
+use ir_trace::{Trace, read_trace};
+use std::alloc::Global;
+use std::time::Clock;
+
+// The files of the recording.
+fn paths(arguments: &ShrinkArguments) -> RecordingPaths<'_> {
+    RecordingPaths {
+        image: arguments.image.as_str(),
+        trace: arguments.out.as_str(),
+        input: &arguments.input,
+        list: None,
+        output: arguments.output.as_ref(),
+    }
+}
+
+// Whether a file that is read would be lost by what is written, which is reported.
+fn loses_given<D: Folder, E: Sink>(folder: &D, faults: &mut E, arguments: &ShrinkArguments) -> bool
+    ensures kept { result ≡ false → faults.new ≡ faults.old }
+{
+    let (trace, out) = (arguments.trace.as_str(), arguments.out.as_str());
+    is_lost(
+        folder,
+        faults,
+        "OUT would be written over TRACE",
+        trace,
+        out,
+    ) || loses_input(folder, faults, &paths(arguments))
+}
+
+// The bytes of an image and of a trace.
+#[derive(Drop)]
+struct Given {
+    image: Vec<u8>,
+    trace: Vec<u8>,
+}
+
+// The bytes of the files that are read; if there are none, the reason is reported.
+fn given_by<D: Folder, E: Sink>(
+    alloc: Global,
+    folder: &D,
+    faults: &mut E,
+    arguments: &ShrinkArguments,
+) -> Result<Given, ExitStatus>
+    ensures kept { OnOk result (faults.new ≡ faults.old) }
+{
+    let image = image_in(alloc, folder, faults, arguments.image.as_str())?;
+    match bytes_of(
+        alloc,
+        folder,
+        faults,
+        arguments.trace.as_str(),
+        MOST_FILE_BYTES,
+    ) {
+        Some(trace) => Ok(Given { image, trace }),
+        None => Err(ExitStatus::Failed),
+    }
+}
+
+// The trace that a run of the image has. If there is none, the line that says so is printed, and the reason is reported.
+fn fitting_trace<O: Sink, E: Sink>(
+    alloc: Global,
+    given: &Given,
+    out: &mut O,
+    faults: &mut E,
+) -> Result<Trace, ExitStatus>
+    requires { O.broken out.old ≡ false }
+    ensures kept { OnOk result (faults.new ≡ faults.old) }
+    ensures quiet { OnOk result (out.new ≡ out.old) }
+{
+    let (image, trace) = (given.image.as_slice(), given.trace.as_slice());
+    match open_fit(alloc, image, trace) {
+        Ok(Opened::Fits(_)) => match read_trace(alloc, trace) {
+            Ok(trace) => Ok(trace),
+            Err(_) => {
+                say(faults, "memory ran out", "", "");
+                Err(ExitStatus::Failed)
+            }
+        },
+        Ok(Opened::Refused(why)) => match refuse(&why, out) {
+            Ok(status) => {
+                explain_files(alloc, image, trace, status, faults);
+                Err(status)
+            }
+            Err(why) => {
+                say(faults, why.words(), "", "");
+                Err(ExitStatus::Failed)
+            }
+        },
+        Err(_) => {
+            say(faults, "memory ran out", "", "");
+            Err(ExitStatus::Failed)
+        }
+    }
+}
+
+/// Shrinks the run of a guest with a trace. Its trace and outputs go into files at these paths.
+pub fn shrunk_into<R, D, G, O, E>(
+    around: &Surroundings<'_, R, D, G>,
+    places: Places<'_, '_>,
+    given: &GivenRun<'_, '_>,
+    plan: &ShrinkPlan<'_>,
+    out: &mut O,
+    faults: &mut E,
+) -> Result<Shrunk, ExitStatus>
+where
+    R: Clock + AllocGlobal,
+    D: Folder,
+    O: Sink,
+    E: Sink,
+    requires writes { O.broken out.old ≡ false }
+    requires reports { E.broken faults.old ≡ false }
+{
+    let Surroundings { rt, folder, .. } = *around;
+    let mut files = record_files(rt.alloc(), folder, places.trace, places.outputs);
+    shrink_run(rt, given, plan, &mut files, out, faults)
+}
+
+/// The exit status of what was shrunk. At a terminal it is reported how the threads ended.
+pub fn shrunk_status<E: Sink>(
+    alloc: Global,
+    explains: bool,
+    shrunk: &Shrunk,
+    faults: &mut E,
+) -> ExitStatus {
+    if explains {
+        tell_ends(alloc, &shrunk.trace, faults);
+    }
+    if shrunk.is_minimal {
+        ExitStatus::Done
+    } else {
+        ExitStatus::GaveUp
+    }
+}
+
+// Shrinks the run of a guest with the trace in a file, records what it is shrunk to into another, and what its threads print into others where they
+// are asked for.
+pub fn shrink_file<R, D, G, O, E>(
+    around: &Surroundings<'_, R, D, G>,
+    arguments: &ShrinkArguments,
+    explains: bool,
+    out: &mut O,
+    faults: &mut E,
+) -> ExitStatus
+where
+    R: Clock + AllocGlobal,
+    D: Folder,
+    O: Sink,
+    E: Sink,
+    requires writes { O.broken out.old ≡ false }
+    requires reports { E.broken faults.old ≡ false }
+{
+    match shrunk_by(around, arguments, out, faults) {
+        Ok(shrunk) => shrunk_status(around.rt.alloc(), explains, &shrunk, faults),
+        Err(status) => status,
+    }
+}
+
+// The same; what it is shrunk to, or the exit status.
+fn shrunk_by<R, D, G, O, E>(
+    around: &Surroundings<'_, R, D, G>,
+    arguments: &ShrinkArguments,
+    out: &mut O,
+    faults: &mut E,
+) -> Result<Shrunk, ExitStatus>
+where
+    R: Clock + AllocGlobal,
+    D: Folder,
+    O: Sink,
+    E: Sink,
+    requires writes { O.broken out.old ≡ false }
+    requires reports { E.broken faults.old ≡ false }
+{
+    let (alloc, folder) = (around.rt.alloc(), around.folder);
+    if loses_given(folder, faults, arguments) {
+        return Err(ExitStatus::BadArguments);
+    }
+    let given = given_by(alloc, folder, faults, arguments)?;
+    let trace = fitting_trace(alloc, &given, out, faults)?;
+    let image = ParsedImage::new(alloc, given.image.as_slice());
+    let conditions = conditions_of(alloc, faults, &image, arguments.until.as_slice())?;
+    let outputs = output_places(alloc, folder, faults, &paths(arguments), &image)?;
+    let Some(input) = input_of(alloc, folder, faults, &arguments.input) else {
+        return Err(ExitStatus::Failed);
+    };
+    let Ok(texts) = copied_texts(alloc, arguments.until.as_slice()) else {
+        say(faults, "memory ran out", "", "");
+        return Err(ExitStatus::Failed);
+    };
+    let plan = ShrinkPlan {
+        record: RecordPlan {
+            order: None,
+            budget: trace.budget(),
+            random: arguments.random,
+            input: input.as_slice(),
+            profile: trace.profile(),
+        },
+        conditions: conditions.as_slice(),
+        texts: texts.as_slice(),
+        stale: arguments.stale,
+        seconds: arguments.seconds,
+    };
+    let places = Places {
+        trace: arguments.out.as_str(),
+        outputs: outputs.as_ref().map(|each| each.as_slice()),
+    };
+    let run = GivenRun {
+        image: &image,
+        trace: &trace,
+    };
+    shrunk_into(around, places, &run, &plan, out, faults)
+}

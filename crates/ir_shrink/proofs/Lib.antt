@@ -1,0 +1,10 @@
+mod Changing
+mod Ends
+mod Items
+mod Judged
+mod Moves
+mod Played
+mod Recorded
+mod Steps
+mod Tests
+mod Unique

@@ -1,0 +1,13 @@
+use Rattle.std.proofs.Common.{◌≤◌}
+use Rattle.ir_shrink.specs.Judging.{IsKeptOf}
+use Rattle.ir_shrink.specs.Shrinking.{goal_of}
+use Rattle.ir_shrink.proofs.judging.Judge.swept_by_chunks.Given as goal
+
+abbrev pub invariant-sizes : goal.invariant-sizes
+invariant-sizes g l = record {
+  kept : IsKeptOf (goal_of l.self.image.now l.self.plan.now) l.kept;
+  fewer : l.kept.switches ≤ l.fn.kept.switches;
+}
+
+abbrev pub decreases-sizes : goal.decreases-sizes
+decreases-sizes g l = l.size

@@ -1,0 +1,11 @@
+pub mod Items
+pub mod Judging
+pub mod Laws
+pub mod Lines
+pub mod Moments
+pub mod Played
+pub mod Shrinking
+pub mod Stale
+pub mod Steps
+pub mod Stopping
+pub mod Switches
