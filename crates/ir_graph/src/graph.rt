@@ -1,16 +1,18 @@
 //! The graph of a guest, as it grows.
 
-ghost use Rattle.std.specs.Prelude.{◌≡◌, ℕ, length};
+ghost use Rattle.std.specs.Prelude.{◌≡◌, length};
 ghost use Rattle.ir_graph.specs.Ahead.{AreTurns};
 ghost use Rattle.ir_graph.specs.Graph.{IsGraph};
 ghost use Rattle.ir_graph.specs.Notes.{noted_by};
 ghost use Rattle.ir_graph.specs.Setup.{Setup};
 ghost use Rattle.ir_graph.specs.Stops.{MayStop};
 ghost use Rattle.ir_graph.specs.Times.{KnowsTimes};
+ghost use Rattle.ir_graph.specs.declared.bounds.Bounds.{Bounds};
 ghost use Rattle.ir_state_store.specs.Nodes.{SourcedFlat};
 
 use crate::ahead::Ahead;
-use crate::nodes::{Bounds, successor};
+use crate::bounds::Bounds;
+use crate::nodes::successor;
 use crate::notes::{Row, known, note_way};
 use crate::setup::Setup;
 use crate::way::Way;
@@ -34,7 +36,7 @@ pub struct Graph<'a> {
 }
 
 impl<'a> Successors for Graph<'a> {
-    ghost Origin = { Setup × ℕ };
+    ghost Origin = { Setup × Bounds };
 
     ghost Node = { SourcedFlat };
 
@@ -43,14 +45,18 @@ impl<'a> Successors for Graph<'a> {
       nodes = g.flats.items;
       size = length g.flats.items;
       most = g.bounds.nodes;
-      origin = (g.setup, g.bounds.private);
+      origin = (g.setup, g.bounds);
     } };
 
-    ghost may_stop = { λ g. MayStop g.setup g.flats.items g.bounds.nodes g.bounds.private };
+    ghost may_stop = { λ g. MayStop g.setup g.flats.items g.bounds };
 
     ghost is_sound = { λ g. IsGraph g.setup g.flats.items (noted_by g.rows.items g.refused_rows.items) (length g.rows.items)
         × AreTurns g.setup.guest.code g.flats.shared g.ahead × (g.flats.code ≡ g.setup.guest.code)
         × KnowsTimes g.setup g.flats.items (noted_by g.rows.items g.refused_rows.items) g.timed };
+
+    fn seconds(&self) -> Option<u32> {
+        self.bounds.seconds
+    }
 
     fn known(&self, thread: usize, refused: bool, node: usize) -> Option<Option<usize>> {
         if refused {
