@@ -5,7 +5,6 @@ ghost use Rattle.std.specs.Prelude.{◌≤◌, IfOk};
 use crate::asked::{Asked, Explored};
 use crate::condition_text::ConditionText;
 use crate::conditions::{hang_by, outcome_conditions_of};
-use crate::hunt::{SECONDS, seconds_by};
 use crate::recording::{
     INPUT, OUTPUT, input_arg, output_arg, profile_arg, profile_in, random_arg, random_in,
 };
@@ -94,6 +93,8 @@ const SWITCHES: &str = "switches";
 
 const PRIVATE: &str = "private";
 
+const SECONDS: &str = "seconds";
+
 const MAX: &str = "max";
 
 // The most of each option.
@@ -102,6 +103,8 @@ const MOST_STATES: u64 = 100_000_000;
 const MOST_SWITCHES: u64 = 1_000_000;
 
 const MOST_PRIVATE: u64 = MOST_BUDGET;
+
+const MOST_SECONDS: u64 = 1_000_000;
 
 const MOST_OUTCOMES: u64 = 100_000_000;
 
@@ -201,7 +204,7 @@ fn max_arg<'a>(alloc: Global) -> Arg<'a> {
         .value_name("K")
         .allow_negative_numbers(true)
         .help(
-            "The most outcomes, from 1 to 100000000: the search stops where it finds one more; without it all are looked for",
+            "The most outcomes, from 1 to 100000000: the search stops once it knows one more; without it all are looked for",
         )
 }
 
@@ -263,6 +266,20 @@ fn switches_of(
     }
 }
 
+// The most seconds that are asked for, if they are, or what is wrong with their number.
+fn seconds_of(
+    alloc: Global,
+    matches: &ArgMatches<'_>,
+) -> Result<Result<Option<u32>, String>, AllocError> {
+    if matches.get_str(SECONDS).is_none() {
+        return Ok(Ok(None));
+    }
+    match number_in_option(alloc, matches, SECONDS, 1, MOST_SECONDS)? {
+        Ok(seconds) => Ok(Ok(Some(seconds as u32))),
+        Err(why) => Ok(Err(why)),
+    }
+}
+
 // The most outcomes that are asked for, if they are, or what is wrong with their number.
 fn outcomes_of(
     alloc: Global,
@@ -291,7 +308,7 @@ fn reach_of(alloc: Global, matches: &ArgMatches<'_>) -> Result<Result<Reach, Str
         Ok(switches) => switches,
         Err(why) => return Ok(Err(why)),
     };
-    let seconds = match seconds_by(alloc, matches)? {
+    let seconds = match seconds_of(alloc, matches)? {
         Ok(seconds) => seconds,
         Err(why) => return Ok(Err(why)),
     };

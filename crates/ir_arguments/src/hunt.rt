@@ -19,8 +19,7 @@ const JOBS: &str = "jobs";
 // The most threads that can be asked for.
 const MOST_JOBS: u64 = 64;
 
-/// The option with the most seconds.
-pub const SECONDS: &str = "seconds";
+const SECONDS: &str = "seconds";
 
 const SHRINK: &str = "shrink";
 
@@ -166,8 +165,8 @@ fn jobs_by(alloc: Global, matches: &ArgMatches<'_>) -> Result<Result<usize, Stri
     }
 }
 
-/// The most seconds that are asked for, if they are, or what is wrong with their number.
-pub fn seconds_by(
+// The most seconds that are asked for, if they are, or what is wrong with their number.
+fn seconds_by(
     alloc: Global,
     matches: &ArgMatches<'_>,
 ) -> Result<Result<Option<u32>, String>, AllocError> {
