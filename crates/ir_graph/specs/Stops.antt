@@ -1,7 +1,7 @@
 -- Why a search over the states of a guest stops.
 use Rattle.std.specs.Prelude.{◌≡◌, ℕ, ◌≤◌, ◌+◌, ◌^◌, false, List, Some, length}
 use Rattle.ir_search.specs.declared.stop.Stop.{Stop}
-use Rattle.ir_search.specs.declared.stop.Stop.TheVariants.{Nodes, Private, Log, World, Memory, Time, Outcomes}
+use Rattle.ir_search.specs.declared.stop.Stop.TheVariants.{Nodes, Private, Log, World, Memory, Time}
 use Rattle.ir_thread.specs.State.{ask_of}
 use Rattle.ir_runs.specs.declared.env_kind.EnvKind.TheVariants.{Clock}
 use Rattle.ir_thread.specs.declared.ask.Ask.{Ask}
@@ -50,12 +50,9 @@ pub record IsStop (x : Setup) (limit : ℕ) (stop : Stop) : Type 0 where
   pub stops : StopsFollowing from at thread limit stop
 
 -- Why a search over these states stops within its bounds: there are as many as there may be, out of memory, its seconds are bounded, or some
--- thread is not followed. It has no outcomes.
+-- thread is not followed.
 abbrev pub MayStop : Setup → List SourcedFlat → Bounds → Stop → Type 0
 MayStop x states bounds Nodes = length states ≡ bounds.nodes
 MayStop x states bounds Memory = Unit {0}
 MayStop x states bounds Time = (seconds : ℕ) × (bounds.seconds ≡ Some seconds)
-MayStop x states bounds Outcomes = ⊥
-MayStop x states bounds (Private t) = IsStop x bounds.private (Private t)
-MayStop x states bounds (Log t) = IsStop x bounds.private (Log t)
-MayStop x states bounds (World t) = IsStop x bounds.private (World t)
+MayStop x states bounds why = IsStop x bounds.private why

@@ -29,7 +29,7 @@ may_end_by_stop setup flats bounds outcomes (Log t) may = may
 may_end_by_stop setup flats bounds outcomes (World t) may = may
 may_end_by_stop setup flats bounds outcomes Memory may = may
 may_end_by_stop setup flats bounds outcomes Time may = may
-may_end_by_stop setup flats bounds outcomes Outcomes may = absurd may
+may_end_by_stop setup flats bounds outcomes Outcomes may = absurd may.stops
 
 -- as many as may be, where there are no fewer
 pub most_if_no_fewer : (bounds : Bounds) (most count : ℕ) → bounds.outcomes ≡ Some most → IsFew bounds count → most ≤ count

@@ -84,8 +84,7 @@ pub fn show_new(alloc: Global, states: &States<'_>, list: &mut Listing) -> Resul
     ensures stay { Stay list.old.outcomes.items list.new.outcomes.items }
     // Once all are shown
     ensures has { OnOk result (HasShown states.now.graph.setup states.now.graph.flats.items states.now.search.found.nodes.items list.new.seen list.new.listed.items list.new.outcomes.items) }
-    ensures seen { OnOk result (list.new.seen ≡ length states.now.search.found.nodes.items) }
-    ensures levels { OnOk result (list.new.levels ≡ states.now.search.level.number) }
+    ensures whole { OnOk result ((list.new.seen ≡ length states.now.search.found.nodes.items) × (list.new.levels ≡ states.now.search.level.number)) }
     ensures few { IsFew states.now.graph.bounds (length list.new.outcomes.items) }
     ensures refused { IfErr result (λ why. MayEnd states.now.graph.setup states.now.graph.flats.items states.now.graph.bounds list.new.outcomes.items why) }
 {

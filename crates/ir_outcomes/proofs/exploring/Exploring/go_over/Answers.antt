@@ -60,13 +60,14 @@ returns-clause-kept g c =
             (let a = c.requires.wanted in omega (arith, a));
         going = λ none.
             let n = c.first_stop-self.ensures.none none in
-            let seen = ok_fact_if_no_error shown.result n.0 shown.ensures.seen in record {
+            let whole = ok_fact_if_no_error shown.result n.0 shown.ensures.whole in
+            let seen = whole.0 in record {
               between = ok_fact_if_no_error searched.result n.1 searched.ensures.between;
               searched = λ some. ok_fact_if_no_error searched.result n.1 searched.ensures.searched;
               has = ok_fact_if_no_error shown.result n.0 shown.ensures.has;
               few = omega (arith, seen);
               seen = λ some. seen;
-              levels = ok_fact_if_no_error shown.result n.0 shown.ensures.levels;
+              levels = whole.1;
             };
         few = shown.ensures.few;
         stopped = λ why is. elim (c.first_stop-self.ensures.some why is) [
