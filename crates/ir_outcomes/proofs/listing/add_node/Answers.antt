@@ -5,7 +5,7 @@ use Rattle.ir_search.proofs.CallerLemmas.{slice_get_append_kept}
 use Rattle.ir_graph.specs.Listing.{AreOutcomes}
 use Rattle.ir_outcomes.specs.Explored.{IsFew}
 use Rattle.ir_outcomes.specs.Exploring.{HasShown}
-use Rattle.ir_outcomes.proofs.Ends.{further_if_new}
+use Rattle.ir_outcomes.proofs.Ends.{further_if_new, may_end_by_stop}
 use Rattle.ir_outcomes.proofs.Listed.{has_shown_step}
 use Rattle.ir_outcomes.proofs.listing.add_node.Goals as goal
 
@@ -47,6 +47,11 @@ returns-then-is_full-clause-refused c =
       c.is_full.ensures.full c.if-is_full.true ∙ ap Some (c.len.ensures ∙ c.args.list.now.outcomes.ok.0),
       further_if_new setup flats origins node listed c.args.list.now.outcomes.items x s.0 c.requires.has different s.1 (c.in-Ok.ensures.shown s.0 s.1),
     )
+
+pub returns-in-Err-clause-refused : goal.returns-in-Err-clause-refused
+returns-in-Err-clause-refused c =
+    may_end_by_stop c.args.states.now.graph.setup c.args.states.now.graph.flats.items c.args.states.now.graph.bounds c.args.list.now.outcomes.items
+    c.in-Err.stop c.in-Err.ensures.refused
 
 pub returns-clause-few : goal.returns-clause-few
 returns-clause-few c =
