@@ -864,7 +864,7 @@ def check_seconds(folder):
     assembled(folder, "long", source_of([ROUND * 3] * 4, 1))
     ended = run("explore long.img --states 100000000 --seconds 1", folder)
     lines = ended.stdout.decode().splitlines()
-    found = re.fullmatch(r"stopped time covered (\d+) outcomes (\d+) states \d+", lines[-1])
+    found = re.fullmatch(r"stopped seconds covered (\d+) outcomes (\d+) states \d+", lines[-1])
     wants("a search of a second", (bool(found), ended.returncode), (True, 6))
     least = run(f"explore long.img --states 100000000 --switches {found[1]}", folder).stdout.decode().splitlines()
     wants("the outcomes of a search of a second", lines[:len(least) - 1], least[:-1])

@@ -36,7 +36,7 @@ done. States that differ only in registers that the code doesn't read any more c
   stopped WHY covered C outcomes K states N      it stopped before: what is printed is right, and complete up to C switches; `-`
                                                  is for not at all. WHY is `states`, the limit is reached; `private T`, thread T
                                                  reached the limit of steps without an entry or a try; `world T`, thread T has
-                                                 called CLOCK too often to be counted; `log T`, a log is full; `time`, the seconds
+                                                 called CLOCK too often to be counted; `log T`, a log is full; `seconds`, those
                                                  of --seconds are over; `outcomes`, as many as --max wants are found, and some
                                                  complete run has another; or `memory`
 The line goes on with `clock counted` only if some run calls CLOCK, and after `finished` exactly then.

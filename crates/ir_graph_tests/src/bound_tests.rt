@@ -50,7 +50,7 @@ fn time_that_is_over_stops_a_search_of_bounded_seconds(rt: HostRuntime) -> Resul
     let (status, out, _) = printed_before(&rt, LOST_UPDATE, &plan, &Late)?;
     assert_eq!(rt;
         out.bytes.as_slice(),
-        b"stopped time covered - outcomes 0 states 1\n".as_slice()
+        b"stopped seconds covered - outcomes 0 states 1\n".as_slice()
     );
     assert_eq!(rt; status, 6);
     Ok(())
