@@ -1,7 +1,6 @@
 -- Why a search for outcomes ends before it is over.
-use Rattle.std.proofs.Common.{◌≡◌, ℕ, suc, ◌≤◌, ◌<◌, List, [], ◌∷◌, ◌++◌, Some, length, ap, ◌∙◌, arith}
+use Rattle.std.proofs.Common.{◌≡◌, ℕ, suc, List, [], ◌∷◌, ◌++◌, Some, length, arith}
 use Rattle.std.specs.Prelude.{slice_get}
-use Rattle.ir_search.specs.declared.origin.Origin.{Origin}
 use Rattle.ir_search.specs.declared.stop.Stop.{Stop}
 use Rattle.ir_search.specs.declared.stop.Stop.TheVariants.{Nodes, Private, Log, World, Memory, Time, Outcomes}
 use Rattle.ir_search.proofs.CallerLemmas.{slice_get_append_kept, slice_get_some_below}
@@ -15,7 +14,7 @@ use Rattle.ir_graph.specs.Outcomes.{run_outcome}
 use Rattle.ir_graph.specs.Setup.{Setup}
 use Rattle.ir_graph.specs.Stops.{MayStop}
 use Rattle.ir_graph.specs.declared.bounds.Bounds.{Bounds}
-use Rattle.ir_outcomes.specs.Explored.{HasFurther, IsFew, MayEnd}
+use Rattle.ir_outcomes.specs.Explored.{HasFurther, MayEnd}
 use Rattle.ir_outcomes.specs.Exploring.{HasShown}
 use Rattle.ir_outcomes.specs.Shown.{IsShown}
 use Rattle.ir_outcomes.specs.declared.shown.Shown.{Shown}
@@ -30,12 +29,6 @@ may_end_by_stop setup flats bounds outcomes (World t) may = may
 may_end_by_stop setup flats bounds outcomes Memory may = may
 may_end_by_stop setup flats bounds outcomes Time may = may
 may_end_by_stop setup flats bounds outcomes Outcomes may = absurd may.stops
-
--- as many as may be, where there are no fewer
-pub most_if_no_fewer : (bounds : Bounds) (most count : ℕ) → bounds.outcomes ≡ Some most → IsFew bounds count → most ≤ count
-    → bounds.outcomes ≡ Some count
-most_if_no_fewer bounds most count is few reached =
-    let a = few most is in is ∙ ap Some (omega (arith, a, reached))
 
 -- a node whose outcome is new comes to another than those that are listed
 pub further_if_new : (setup : Setup) (flats : List SourcedFlat) (origins : List Origin) (node : ℕ) (listed : List ℕ) (outcomes : List Shown) (x : Shown)
