@@ -1,12 +1,13 @@
 //! The graph of a guest, as it grows.
 
-ghost use Rattle.std.specs.Prelude.{◌≡◌, ℕ, length};
+ghost use Rattle.std.specs.Prelude.{◌≡◌, length};
 ghost use Rattle.ir_graph.specs.Ahead.{AreTurns};
 ghost use Rattle.ir_graph.specs.Graph.{IsGraph};
 ghost use Rattle.ir_graph.specs.Notes.{noted_by};
 ghost use Rattle.ir_graph.specs.Setup.{Setup};
 ghost use Rattle.ir_graph.specs.Stops.{MayStop};
 ghost use Rattle.ir_graph.specs.Times.{KnowsTimes};
+ghost use Rattle.ir_graph.specs.declared.bounds.Bounds.{Bounds};
 ghost use Rattle.ir_state_store.specs.Nodes.{SourcedFlat};
 
 use crate::ahead::Ahead;
@@ -35,7 +36,7 @@ pub struct Graph<'a> {
 }
 
 impl<'a> Successors for Graph<'a> {
-    ghost Origin = { Setup × ℕ };
+    ghost Origin = { Setup × Bounds };
 
     ghost Node = { SourcedFlat };
 
@@ -44,7 +45,7 @@ impl<'a> Successors for Graph<'a> {
       nodes = g.flats.items;
       size = length g.flats.items;
       most = g.bounds.nodes;
-      origin = (g.setup, g.bounds.private);
+      origin = (g.setup, g.bounds);
     } };
 
     ghost may_stop = { λ g. MayStop g.setup g.flats.items g.bounds };

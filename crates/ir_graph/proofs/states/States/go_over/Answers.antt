@@ -24,7 +24,7 @@ returns-clause-kept g c =
         few = keeps.few;
       };
       setup = setup;
-      bounds = λ i. record { nodes = keeps.grows.limit i; private = (ap (λ z. z.1) keeps.grows.origin) i };
+      bounds = ap (λ z. z.1) keeps.grows.origin;
       stay = keeps.grows.stay;
       adds = keeps.adds;
     }
