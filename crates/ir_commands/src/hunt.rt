@@ -6,12 +6,12 @@ use crate::conditions::{conditions_of, copied_texts};
 use crate::ends::recorded_status;
 use crate::files::{image_in, say};
 use crate::recording::{Places, RecordingPaths, beside_of, loses_input, record_files};
-use crate::shrink::{shrunk_into, shrunk_status};
+use crate::shrink::{plan_like, shrunk_into, shrunk_status};
 use crate::surroundings::Surroundings;
 use ir_arguments::HuntArguments;
 use ir_files::{ExitStatus, Folder};
 use ir_hunt::{HuntPlan, hunt_run};
-use ir_record_command::{ParsedImage, RecordPlan};
+use ir_record_command::ParsedImage;
 use ir_shrink::{GivenRun, ShrinkPlan, Shrunk};
 use ir_stream::Sink;
 use ir_trace::Trace;
@@ -60,7 +60,7 @@ struct Hunted<'a, 'i> {
 }
 
 // Shrinks a run that was found, whose trace and outputs go into files at these paths, over what was found.
-fn shrunk<R, D, G, O, E>(
+fn shrunk<R: Clock + AllocGlobal, D: Folder, G, O: Sink, E: Sink>(
     around: &Surroundings<'_, R, D, G>,
     places: Places<'_, '_>,
     hunted: Hunted<'_, '_>,
@@ -68,11 +68,6 @@ fn shrunk<R, D, G, O, E>(
     out: &mut O,
     faults: &mut E,
 ) -> Result<Shrunk, ExitStatus>
-where
-    R: Clock + AllocGlobal,
-    D: Folder,
-    O: Sink,
-    E: Sink,
     requires writes { O.broken out.old ≡ false }
     requires reports { E.broken faults.old ≡ false }
 {
@@ -87,13 +82,7 @@ where
         return Err(ExitStatus::Failed);
     };
     let shrinking = ShrinkPlan {
-        record: RecordPlan {
-            order: None,
-            budget: plan.record.budget,
-            random: plan.record.random,
-            input: plan.record.input,
-            profile: plan.record.profile,
-        },
+        record: plan_like(found, plan.record.random, plan.record.input),
         conditions: plan.conditions,
         texts: texts.as_slice(),
         stale: plan.stale,
@@ -135,18 +124,13 @@ where
 }
 
 // Hunts for a run of a guest; the exit status.
-fn hunted_by<R, D, G, O, E>(
+fn hunted_by<R: Threads + Sync + Clock + Eprint + AllocGlobal, D: Folder, G, O: Sink, E: Sink>(
     around: &Surroundings<'_, R, D, G>,
     arguments: &HuntArguments,
     explains: bool,
     out: &mut O,
     faults: &mut E,
 ) -> Result<ExitStatus, ExitStatus>
-where
-    R: Threads + Sync + Clock + Eprint + AllocGlobal,
-    D: Folder,
-    O: Sink,
-    E: Sink,
     requires writes { O.broken out.old ≡ false }
     requires reports { E.broken faults.old ≡ false }
 {
@@ -159,10 +143,7 @@ where
     let image = ParsedImage::new(alloc, image.as_slice());
     let conditions = conditions_of(alloc, faults, &image, arguments.until.as_slice())?;
     let (outputs, input) = beside_of(alloc, folder, faults, &paths, &image)?;
-    let places = Places {
-        trace: paths.trace,
-        outputs: outputs.as_ref().map(|each| each.as_slice()),
-    };
+    let places = Places::new(paths.trace, &outputs);
     let plan = HuntPlan {
         record: arguments.options.plan(None, input.as_slice()),
         way: arguments.way,

@@ -173,6 +173,42 @@ fn status_of<E: Sink>(
     }
 }
 
+// What was recorded of a guest; its files are written. If nothing was, the exit status.
+fn recorded_by<R, D, G, O, E>(
+    around: &Surroundings<'_, R, D, G>,
+    arguments: &RecordArguments,
+    out: &mut O,
+    faults: &mut E,
+) -> Result<Trace, ExitStatus>
+where
+    R: Threads + Wait + Sync + Clock + AllocGlobal,
+    D: Folder,
+    G: Gate + Sync,
+    O: Sink,
+    E: Sink,
+    requires writes { O.broken out.old ≡ false }
+    requires reports { E.broken faults.old ≡ false }
+{
+    let (rt, folder) = (around.rt, around.folder);
+    let alloc = rt.alloc();
+    if loses_input(folder, faults, &paths(arguments)) {
+        return Err(ExitStatus::BadArguments);
+    }
+    let image = image_in(alloc, folder, faults, arguments.image.as_str())?;
+    let image = ParsedImage::new(alloc, image.as_slice());
+    let beside = Beside::of(alloc, rt, folder, faults, arguments, &image)?;
+    let input = beside.input.as_slice();
+    let order = beside.list.as_ref().map(|list| list.as_str());
+    let paths = beside.outputs.as_ref().map(|paths| paths.as_slice());
+    let plan = arguments.plan(order, input);
+    let mut files = record_files(alloc, folder, arguments.trace.as_str(), paths);
+    let recording = Recording {
+        image: &image,
+        plan: &plan,
+    };
+    record_run(rt, around.gate, &recording, &mut files, out, faults)
+}
+
 // Records a guest into a file, and what its threads print into others where they are asked for.
 pub fn record_file<R, D, G, O, E>(
     around: &Surroundings<'_, R, D, G>,
@@ -190,30 +226,8 @@ where
     requires writes { O.broken out.old ≡ false }
     requires reports { E.broken faults.old ≡ false }
 {
-    let (rt, folder) = (around.rt, around.folder);
-    let alloc = rt.alloc();
-    if loses_input(folder, faults, &paths(arguments)) {
-        return ExitStatus::BadArguments;
-    }
-    let image = match image_in(alloc, folder, faults, arguments.image.as_str()) {
-        Ok(image) => image,
-        Err(status) => return status,
-    };
-    let image = ParsedImage::new(alloc, image.as_slice());
-    let beside = match Beside::of(alloc, rt, folder, faults, arguments, &image) {
-        Ok(beside) => beside,
-        Err(status) => return status,
-    };
-    let input = beside.input.as_slice();
-    let order = beside.list.as_ref().map(|list| list.as_str());
-    let paths = beside.outputs.as_ref().map(|paths| paths.as_slice());
-    let plan = arguments.plan(order, input);
-    let mut files = record_files(alloc, folder, arguments.trace.as_str(), paths);
-    let recording = Recording {
-        image: &image,
-        plan: &plan,
-    };
-    match record_run(rt, around.gate, &recording, &mut files, out, faults) {
+    let alloc = around.rt.alloc();
+    match recorded_by(around, arguments, out, faults) {
         Ok(recorded) => status_of(alloc, &recorded, arguments.status, explains, faults),
         Err(status) => status,
     }

@@ -1,6 +1,6 @@
 //! What a recording reads and writes.
 
-ghost use Rattle.std.specs.Prelude.{◌≡◌, OnSome, OnOk, IfSome, None, false};
+ghost use Rattle.std.specs.Prelude.{◌≡◌, OnSome, OnOk, IfSome, None, false, option_map};
 ghost use Rattle.ir_files.specs.Writers.{writer_of};
 ghost use Rattle.ir_commands.specs.Exploring.{IsInput};
 ghost use Rattle.ir_commands.specs.Files.{TellsFault};
@@ -33,6 +33,19 @@ pub struct Places<'a, 'b> {
     pub trace: &'a str,
     /// What each thread prints, if it is asked for.
     pub outputs: Option<&'b [String]>,
+}
+
+impl<'a, 'b> Places<'a, 'b> {
+    /// The trace goes to this path, and what each thread prints to these, if it is asked for.
+    pub fn new(trace: &'a str, outputs: &'b Option<Vec<String>>) -> Places<'a, 'b>
+        ensures trace { result.trace.now ≡ trace.now }
+        ensures outputs { option_map (λ paths. paths.now) result.outputs ≡ option_map (λ paths. paths.items) outputs.now }
+    {
+        Places {
+            trace,
+            outputs: outputs.as_ref().map(|each| each.as_slice()),
+        }
+    }
 }
 
 /// Where a recording goes: its trace to one path, and what each thread prints to these, if it is asked for.

@@ -1,6 +1,6 @@
 //! `ir shrink`: a recorded run is shrunk to one with fewer context switches.
 
-ghost use Rattle.std.specs.Prelude.{◌≡◌, OnOk, false};
+ghost use Rattle.std.specs.Prelude.{◌≡◌, None, OnOk, false};
 
 use crate::conditions::{conditions_of, copied_texts};
 use crate::ends::tell_ends;
@@ -112,6 +112,19 @@ fn fitting_trace<O: Sink, E: Sink>(
     }
 }
 
+/// How a run with a trace is recorded in another order, where random words start so and these bytes are read: with its budget and its profile.
+pub fn plan_like<'a>(trace: &Trace, random: u64, input: &'a [u8]) -> RecordPlan<'a>
+    ensures { result ≡ record { order = None; budget = trace.now.budget; random = random; input = input.now; profile = trace.now.profile } }
+{
+    RecordPlan {
+        order: None,
+        budget: trace.budget(),
+        random,
+        input,
+        profile: trace.profile(),
+    }
+}
+
 /// Shrinks the run of a guest with a trace. Its trace and outputs go into files at these paths.
 pub fn shrunk_into<R, D, G, O, E>(
     around: &Surroundings<'_, R, D, G>,
@@ -175,17 +188,12 @@ where
 }
 
 // The same; what it is shrunk to, or the exit status.
-fn shrunk_by<R, D, G, O, E>(
+fn shrunk_by<R: Clock + AllocGlobal, D: Folder, G, O: Sink, E: Sink>(
     around: &Surroundings<'_, R, D, G>,
     arguments: &ShrinkArguments,
     out: &mut O,
     faults: &mut E,
 ) -> Result<Shrunk, ExitStatus>
-where
-    R: Clock + AllocGlobal,
-    D: Folder,
-    O: Sink,
-    E: Sink,
     requires writes { O.broken out.old ≡ false }
     requires reports { E.broken faults.old ≡ false }
 {
@@ -206,22 +214,13 @@ where
         return Err(ExitStatus::Failed);
     };
     let plan = ShrinkPlan {
-        record: RecordPlan {
-            order: None,
-            budget: trace.budget(),
-            random: arguments.random,
-            input: input.as_slice(),
-            profile: trace.profile(),
-        },
+        record: plan_like(&trace, arguments.random, input.as_slice()),
         conditions: conditions.as_slice(),
         texts: texts.as_slice(),
         stale: arguments.stale,
         seconds: arguments.seconds,
     };
-    let places = Places {
-        trace: arguments.out.as_str(),
-        outputs: outputs.as_ref().map(|each| each.as_slice()),
-    };
+    let places = Places::new(arguments.out.as_str(), &outputs);
     let run = GivenRun {
         image: &image,
         trace: &trace,

@@ -77,57 +77,51 @@ where
     explore_hang(rt, &hang, &mut files, out, faults)
 }
 
-// Looks for an outcome of a guest, or a run that hangs, and records such a run into a file, and what its threads print into others where they are asked
-// for.
-pub fn until_file<R, D, G, O, E>(
+// The trace of a run with the outcome that is looked for, or of one that hangs; its files are written. If there is none, the exit status.
+fn found_by<R: Clock + AllocGlobal, D: Folder, G: Observer, O: Sink, E: Sink>(
     around: &Surroundings<'_, R, D, G>,
     arguments: &UntilArguments,
-    explains: bool,
     out: &mut O,
     faults: &mut E,
-) -> ExitStatus
-where
-    R: Clock + AllocGlobal,
-    D: Folder,
-    G: Observer,
-    O: Sink,
-    E: Sink,
+) -> Result<Trace, ExitStatus>
     requires writes { O.broken out.old ≡ false }
     requires reports { E.broken faults.old ≡ false }
 {
-    let folder = around.folder;
-    let alloc = around.rt.alloc();
+    let (alloc, folder) = (around.rt.alloc(), around.folder);
     let paths = paths(arguments);
     if loses_input(folder, faults, &paths) {
-        return ExitStatus::BadArguments;
+        return Err(ExitStatus::BadArguments);
     }
-    let image = match image_in(alloc, folder, faults, paths.image) {
-        Ok(image) => image,
-        Err(status) => return status,
-    };
+    let image = image_in(alloc, folder, faults, paths.image)?;
     let image = ParsedImage::new(alloc, image.as_slice());
-    let conditions = match conditions_of(alloc, faults, &image, arguments.until.as_slice()) {
-        Ok(conditions) => conditions,
-        Err(status) => return status,
-    };
-    let (outputs, input) = match beside_of(alloc, folder, faults, &paths, &image) {
-        Ok(beside) => beside,
-        Err(status) => return status,
-    };
-    let places = Places {
-        trace: paths.trace,
-        outputs: outputs.as_ref().map(|each| each.as_slice()),
-    };
+    let conditions = conditions_of(alloc, faults, &image, arguments.until.as_slice())?;
+    let (outputs, input) = beside_of(alloc, folder, faults, &paths, &image)?;
+    let places = Places::new(paths.trace, &outputs);
     let plan = UntilPlan {
         image: &image,
         explore: plan_of(&arguments.explore, input.as_slice()),
         conditions: conditions.as_slice(),
         observer: around.gate,
     };
-    let found = if arguments.hang {
+    if arguments.hang {
         hang_into(around, places, &plan, out, faults)
     } else {
         found_into(around, places, &plan, out, faults)
-    };
-    recorded_status(alloc, found, explains, faults)
+    }
+}
+
+// Looks for an outcome of a guest, or a run that hangs, and records such a run into a file, and what its threads print into others where they are asked
+// for.
+pub fn until_file<R: Clock + AllocGlobal, D: Folder, G: Observer, O: Sink, E: Sink>(
+    around: &Surroundings<'_, R, D, G>,
+    arguments: &UntilArguments,
+    explains: bool,
+    out: &mut O,
+    faults: &mut E,
+) -> ExitStatus
+    requires writes { O.broken out.old ≡ false }
+    requires reports { E.broken faults.old ≡ false }
+{
+    let found = found_by(around, arguments, out, faults);
+    recorded_status(around.rt.alloc(), found, explains, faults)
 }
