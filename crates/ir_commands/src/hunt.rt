@@ -60,7 +60,7 @@ struct Hunted<'a, 'i> {
 }
 
 // Shrinks a run that was found, whose trace and outputs go into files at these paths, over what was found.
-fn shrunk<R: Clock + AllocGlobal, D: Folder, G, O: Sink, E: Sink>(
+fn shrunk<R: Clock + Eprint + AllocGlobal, D: Folder, G, O: Sink, E: Sink>(
     around: &Surroundings<'_, R, D, G>,
     places: Places<'_, '_>,
     hunted: Hunted<'_, '_>,
@@ -87,6 +87,7 @@ fn shrunk<R: Clock + AllocGlobal, D: Folder, G, O: Sink, E: Sink>(
         texts: texts.as_slice(),
         stale: plan.stale,
         seconds: plan.seconds,
+        is_shown: plan.is_shown,
     };
     let run = GivenRun {
         image,
@@ -105,7 +106,7 @@ fn ended<R, D, G, O, E>(
     faults: &mut E,
 ) -> ExitStatus
 where
-    R: Clock + AllocGlobal,
+    R: Clock + Eprint + AllocGlobal,
     D: Folder,
     O: Sink,
     E: Sink,

@@ -135,7 +135,7 @@ pub fn shrunk_into<R, D, G, O, E>(
     faults: &mut E,
 ) -> Result<Shrunk, ExitStatus>
 where
-    R: Clock + AllocGlobal,
+    R: Clock + Eprint + AllocGlobal,
     D: Folder,
     O: Sink,
     E: Sink,
@@ -174,23 +174,24 @@ pub fn shrink_file<R, D, G, O, E>(
     faults: &mut E,
 ) -> ExitStatus
 where
-    R: Clock + AllocGlobal,
+    R: Clock + Eprint + AllocGlobal,
     D: Folder,
     O: Sink,
     E: Sink,
     requires writes { O.broken out.old ≡ false }
     requires reports { E.broken faults.old ≡ false }
 {
-    match shrunk_by(around, arguments, out, faults) {
+    match shrunk_by(around, arguments, explains, out, faults) {
         Ok(shrunk) => shrunk_status(around.rt.alloc(), explains, &shrunk, faults),
         Err(status) => status,
     }
 }
 
 // The same; what it is shrunk to, or the exit status.
-fn shrunk_by<R: Clock + AllocGlobal, D: Folder, G, O: Sink, E: Sink>(
+fn shrunk_by<R: Clock + Eprint + AllocGlobal, D: Folder, G, O: Sink, E: Sink>(
     around: &Surroundings<'_, R, D, G>,
     arguments: &ShrinkArguments,
+    explains: bool,
     out: &mut O,
     faults: &mut E,
 ) -> Result<Shrunk, ExitStatus>
@@ -219,6 +220,7 @@ fn shrunk_by<R: Clock + AllocGlobal, D: Folder, G, O: Sink, E: Sink>(
         texts: texts.as_slice(),
         stale: arguments.stale,
         seconds: arguments.seconds,
+        is_shown: explains,
     };
     let places = Places::new(arguments.out.as_str(), &outputs);
     let run = GivenRun {

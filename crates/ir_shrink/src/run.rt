@@ -112,7 +112,7 @@ impl<C: Clock> Judge<'_, C> {
 }
 
 // What the search of a plan comes to.
-fn seek<R: Clock>(
+fn seek<R: Clock + Eprint>(
     rt: &R,
     alloc: Global,
     image: &ParsedImage<'_>,
@@ -132,8 +132,10 @@ fn seek<R: Clock>(
     };
     let given = judge.given(trace)?;
     let before = given.switches;
-    let pace = Pace::new(rt, plan.seconds);
-    let shrunken = judge.shrunken(&pace, given)?;
+    let pace = Pace::new(rt, plan.seconds, plan.is_shown);
+    let shrunken = judge.shrunken(&pace, given);
+    pace.end(rt);
+    let shrunken = shrunken?;
     let after = shrunken.kept.switches;
     let is_minimal = shrunken.is_minimal;
     let list = list_of_items(alloc, shrunken.kept.items.as_slice())?;
@@ -214,7 +216,7 @@ fn by_list<'a>(how: &RecordPlan<'a>, list: &'a str) -> RecordPlan<'a>
 /// # Errors
 /// The exit status. It is `NotFit` if no order is found whose run has the trace, and `NotSo` if the run doesn't fulfil a condition. Else it
 /// is the status of a fault, as of `record_run`. Which it is, is reported in one line, and nothing is written before that is known.
-pub fn shrink_run<R: Clock + AllocGlobal, W: WholeSink, P: OutputSink, O: Sink, E: Sink>(
+pub fn shrink_run<R: Clock + Eprint + AllocGlobal, W: WholeSink, P: OutputSink, O: Sink, E: Sink>(
     rt: &R,
     given: &GivenRun<'_, '_>,
     plan: &ShrinkPlan<'_>,

@@ -74,7 +74,7 @@ fn drawn(
     Ok(all)
 }
 
-impl<C: Clock> Judge<'_, C> {
+impl<C: Clock + Eprint> Judge<'_, C> {
     // Something better where the item at a place has endless turns. Where so many items are left out there, or those after it, nothing is.
     fn longer_at(&self, kept: &Kept, place: usize, size: usize) -> Result<Option<Kept>, AllocError>
         requires place { place < length kept.now.items.items }
@@ -170,7 +170,10 @@ impl<C: Clock> Judge<'_, C> {
             }
             let tried = self.tried_at(&kept, place, size)?;
             match tried {
-                Some(better) => kept = better,
+                Some(better) => {
+                    pace.show(self.clock, better.switches);
+                    kept = better;
+                }
                 None => place = place.saturating_add(size),
             }
         }
@@ -225,7 +228,10 @@ impl<C: Clock> Judge<'_, C> {
         'rounds: loop {
             let next = self.sought(pace, &kept)?;
             match next {
-                Sought::Better(better) => kept = better,
+                Sought::Better(better) => {
+                    pace.show(self.clock, better.switches);
+                    kept = better;
+                }
                 Sought::Nothing => {
                     return Ok(Shrunken {
                         kept,
