@@ -133,9 +133,7 @@ fn seek<R: Clock + Eprint>(
     let given = judge.given(trace)?;
     let before = given.switches;
     let pace = Pace::new(rt, plan.seconds, plan.is_shown);
-    let shrunken = judge.shrunken(&pace, given);
-    pace.end(rt);
-    let shrunken = shrunken?;
+    let shrunken = judge.shrunken(&pace, given)?;
     let after = shrunken.kept.switches;
     let is_minimal = shrunken.is_minimal;
     let list = list_of_items(alloc, shrunken.kept.items.as_slice())?;

@@ -213,11 +213,8 @@ impl<C: Clock + Eprint> Judge<'_, C> {
         Ok(Sought::Nothing)
     }
 
-    /// What a run is shrunk to.
-    ///
-    /// # Errors
-    /// Out of memory.
-    pub fn shrunken(&self, pace: &Pace, kept: Kept) -> Result<Shrunken, AllocError>
+    // What a run is shrunk to, in rounds until there is nothing better.
+    fn shrunken_by_rounds(&self, pace: &Pace, kept: Kept) -> Result<Shrunken, AllocError>
         requires { IsKeptOf (goal_of self.now.image.now self.now.plan.now) kept }
         ensures kept { IfOk result (λ s. IsKeptOf (goal_of self.now.image.now self.now.plan.now) s.kept) }
         ensures fewer { IfOk result (λ s. s.kept.switches ≤ kept.switches) }
@@ -246,5 +243,21 @@ impl<C: Clock + Eprint> Judge<'_, C> {
                 }
             }
         }
+    }
+
+    /// What a run is shrunk to. What the pace shows is taken off the terminal then.
+    ///
+    /// # Errors
+    /// Out of memory.
+    pub fn shrunken(&self, pace: &Pace, kept: Kept) -> Result<Shrunken, AllocError>
+        requires { IsKeptOf (goal_of self.now.image.now self.now.plan.now) kept }
+        ensures kept { IfOk result (λ s. IsKeptOf (goal_of self.now.image.now self.now.plan.now) s.kept) }
+        ensures fewer { IfOk result (λ s. s.kept.switches ≤ kept.switches) }
+        ensures minimal { IfOk result (λ s. s.is_minimal ≡ true → IsMinimal (goal_of self.now.image.now self.now.plan.now) s.kept.items.items s.kept.switches) }
+        ensures over { IfOk result (λ s. s.is_minimal ≡ false → (n : ℕ) × (pace.now.seconds ≡ Some n)) }
+    {
+        let shrunken = self.shrunken_by_rounds(pace, kept);
+        pace.end(self.clock);
+        shrunken
     }
 }
