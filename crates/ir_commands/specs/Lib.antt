@@ -3,3 +3,4 @@ pub mod Exploring
 pub mod Files
 pub mod Listing
 pub mod Printing
+pub mod Writing

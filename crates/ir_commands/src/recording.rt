@@ -1,9 +1,10 @@
 //! What a recording reads and writes.
 
-ghost use Rattle.std.specs.Prelude.{◌≡◌, OnSome, OnOk, IfSome, None, false, option_map};
+ghost use Rattle.std.specs.Prelude.{◌≡◌, OnSome, OnOk, OnErr, IfErr, IfOk, IfSome, None, false, true, option_map};
 ghost use Rattle.ir_files.specs.Writers.{writer_of};
 ghost use Rattle.ir_commands.specs.Exploring.{IsInput};
 ghost use Rattle.ir_commands.specs.Files.{TellsFault};
+ghost use Rattle.ir_commands.specs.Writing.{IsStatusOfNoRecording};
 
 use crate::files::{bytes_of, is_lost, say};
 use ir_files::{ExitStatus, Folder, MOST_GUEST_INPUT, OutputFiles, WholeFile, output_paths};
@@ -94,6 +95,7 @@ fn loses_given<D: Folder, E: Sink>(
     written: &str,
 ) -> bool
     ensures kept { result ≡ false → faults.new ≡ faults.old }
+    ensures told { result ≡ true → E.broken faults.old ≡ false → TellsFault (writer_of (E.written faults.old) (E.written faults.new) (E.broken faults.new)) }
 {
     match file {
         Some(file) => is_lost(folder, faults, would, file.as_str(), written),
@@ -108,6 +110,7 @@ pub fn loses_input<D: Folder, E: Sink>(
     paths: &RecordingPaths<'_>,
 ) -> bool
     ensures kept { result ≡ false → faults.new ≡ faults.old }
+    ensures told { result ≡ true → E.broken faults.old ≡ false → TellsFault (writer_of (E.written faults.old) (E.written faults.new) (E.broken faults.new)) }
 {
     const OVER_IMAGE: &str = "TRACE would be written over IMAGE";
     const OVER_FILE: &str = "TRACE would be written over FILE";
@@ -139,6 +142,7 @@ fn loses_other<D: Folder, E: Sink>(
     path: &str,
 ) -> bool
     ensures kept { result ≡ false → faults.new ≡ faults.old }
+    ensures told { result ≡ true → E.broken faults.old ≡ false → TellsFault (writer_of (E.written faults.old) (E.written faults.new) (E.broken faults.new)) }
 {
     const OVER_IMAGE: &str = "PREFIX.T would be written over IMAGE";
     const OVER_TRACE: &str = "PREFIX.T would be written over TRACE";
@@ -158,6 +162,7 @@ fn any_loses<D: Folder, E: Sink>(
     outputs: &[String],
 ) -> bool
     ensures kept { result ≡ false → faults.new ≡ faults.old }
+    ensures told { result ≡ true → E.broken faults.old ≡ false → TellsFault (writer_of (E.written faults.old) (E.written faults.new) (E.broken faults.new)) }
 {
     for path in outputs {
         if loses_other(folder, faults, paths, path.as_str()) {
@@ -177,6 +182,8 @@ pub fn output_places<D: Folder, E: Sink>(
     image: &ParsedImage<'_>,
 ) -> Result<Option<Vec<String>>, ExitStatus>
     ensures kept { OnOk result (faults.new ≡ faults.old) }
+    ensures status { IfErr result IsStatusOfNoRecording }
+    ensures told { OnErr result (E.broken faults.old ≡ false → TellsFault (writer_of (E.written faults.old) (E.written faults.new) (E.broken faults.new))) }
 {
     let Ok(outputs) = paths_of(alloc, paths, image) else {
         say(faults, "memory ran out", "", "");
@@ -200,6 +207,9 @@ pub fn beside_of<D: Folder, E: Sink>(
     image: &ParsedImage<'_>,
 ) -> Result<(Option<Vec<String>>, Vec<u8>), ExitStatus>
     ensures kept { OnOk result (faults.new ≡ faults.old) }
+    ensures input { IfOk result (λ beside. IsInput (D.bytes_at folder.now) paths.now.input.now beside.1.items) }
+    ensures status { IfErr result IsStatusOfNoRecording }
+    ensures told { OnErr result (E.broken faults.old ≡ false → TellsFault (writer_of (E.written faults.old) (E.written faults.new) (E.broken faults.new))) }
 {
     let outputs = output_places(alloc, folder, faults, paths, image)?;
     match input_of(alloc, folder, faults, paths.input) {

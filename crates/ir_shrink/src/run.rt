@@ -234,6 +234,7 @@ pub fn shrink_run<R: Clock + Eprint + AllocGlobal, W: WholeSink, P: OutputSink, 
     ensures stopped { IfErr result (λ status. StopsShrink (tellings (telling W.written W.broken W.called W.cause) (telling P.taken P.broken P.called P.cause) O.written O.broken)
         status given.now.image.now plan.now given.now.trace.now (devices files.old.trace files.old.outputs out.old) (devices files.new.trace files.new.outputs out.new)
         (writer_of (E.written faults.old) (E.written faults.new) (E.broken faults.new))) }
+    ensures homes { (W.home files.new.trace ≡ W.home files.old.trace) × (P.home files.new.outputs ≡ P.home files.old.outputs) }
 {
     let GivenRun { image, trace } = *given;
     let alloc = rt.alloc();
