@@ -8,6 +8,8 @@ use Rattle.ir_arguments.specs.declared.asked.Asked.{Asked}
 use Rattle.ir_arguments.specs.declared.asked.Asked.TheVariants as asked
 use Rattle.ir_arguments.specs.declared.asked.Explored.{Explored}
 use Rattle.ir_arguments.specs.declared.asked.Explored.TheVariants as explored
+use Rattle.ir_arguments.specs.declared.asked.Make.{Make}
+use Rattle.ir_arguments.specs.declared.asked.Make.TheVariants as made
 use Rattle.ir_arguments.specs.declared.asked.Print.{Print}
 use Rattle.ir_arguments.specs.declared.asked.Print.TheVariants as printed
 use Rattle.ir_arguments.specs.declared.debug.DebugArguments.{DebugArguments}
@@ -16,6 +18,7 @@ use Rattle.ir_commands.specs.Exploring.{Compares, Explores, ExploresClasses, IsS
 use Rattle.ir_commands.specs.Files.{IsStatusOfNone, IsUnread, OfImageAndTrace, TellsFault}
 use Rattle.ir_commands.specs.Printing.{Paths, LeavesUnread, IsStatusOfNoImage}
 use Rattle.ir_commands.specs.Printing.{PrintsCode, PrintsTrace, PrintsEvents, PrintsStale, PrintsWho, PrintsWhy, PrintsDiff, PrintsView}
+use Rattle.ir_commands.specs.Writing.{Assembles, Converts, Makes, RecordsFile, RefusesElf, RefusesSource, Storing}
 use Rattle.ir_program.specs.Bundle.{status_of}
 use Rattle.ir_program.specs.Connecting.{HeldConnection}
 use Rattle.ir_program.specs.Leaving.{ComesToEnd, LeavesAfterFault, HeldSession}
@@ -90,19 +93,25 @@ PrintsOutcomes at (explored.Within a) answered out faults unprinted =
 abbrev pub TellsWhyNot : ExitStatus → ExitStatus → Writer → Type 0 → Type 0
 TellsWhyNot of_it answered faults unprinted = (answered ≡ of_it) × unprinted × TellsFault faults
 
--- What the program did for a request: it ended with this status, had this input left before, and these took what it wrote. What a request does that
--- writes files is left open here.
-abbrev pub Does : Paths → Asked → ExitStatus → Option (List ℕ) → Writer → Writer → Type 0 → Type 0
-Does at asked.Session answered input out faults unprinted = (reader : TakenReader) × (reader.before ≡ input) × HeldBundle answered reader out unprinted
-Does at (asked.Debug a) answered input out faults unprinted = HoldsSession at a answered input out faults unprinted
-Does at (asked.Gdb a) answered input out faults unprinted = HoldsConnection at a answered input out faults unprinted
-Does at (asked.Print what) answered input out faults unprinted = Prints at what answered out faults unprinted
-Does at (asked.Explore what) answered input out faults unprinted = PrintsOutcomes at what answered out faults unprinted
-Does at (asked.Help text) answered input out faults unprinted = Shows (string_bytes text) answered out faults
-Does at (asked.Nothing why) answered input out faults unprinted = TellsWhyNot status.BadArguments answered faults unprinted
-Does at asked.NoMem answered input out faults unprinted = TellsWhyNot status.Failed answered faults unprinted
-Does at (asked.Make what) answered input out faults unprinted = Unit {0}
-Does at (asked.Record a) answered input out faults unprinted = Unit {0}
-Does at (asked.Hunt a) answered input out faults unprinted = Unit {0}
-Does at (asked.Shrink a) answered input out faults unprinted = Unit {0}
-Does at (asked.Until a) answered input out faults unprinted = Unit {0}
+-- an image was made of another file
+abbrev pub MakesImage : Paths → Storing → Make → ExitStatus → Type 0
+MakesImage at stored (made.Source a) answered = Makes (Assembles at stored a) (RefusesSource at a) answered
+MakesImage at stored (made.Elf a) answered = Makes (Converts at stored a) (RefusesElf at a) answered
+
+-- What the program did for a request: it ended with this status, had this input left before, and these took what it wrote. What a hunt, a search that
+-- records and a shrinking leave in their files isn't said here.
+abbrev pub Does : Paths → Storing → Asked → ExitStatus → Option (List ℕ) → Writer → Writer → Type 0 → Type 0
+Does at stored asked.Session answered input out faults unprinted =
+    (reader : TakenReader) × (reader.before ≡ input) × HeldBundle answered reader out unprinted
+Does at stored (asked.Make what) answered input out faults unprinted = MakesImage at stored what answered
+Does at stored (asked.Record a) answered input out faults unprinted = RecordsFile at stored a answered out faults unprinted
+Does at stored (asked.Debug a) answered input out faults unprinted = HoldsSession at a answered input out faults unprinted
+Does at stored (asked.Gdb a) answered input out faults unprinted = HoldsConnection at a answered input out faults unprinted
+Does at stored (asked.Print what) answered input out faults unprinted = Prints at what answered out faults unprinted
+Does at stored (asked.Explore what) answered input out faults unprinted = PrintsOutcomes at what answered out faults unprinted
+Does at stored (asked.Help text) answered input out faults unprinted = Shows (string_bytes text) answered out faults
+Does at stored (asked.Nothing why) answered input out faults unprinted = TellsWhyNot status.BadArguments answered faults unprinted
+Does at stored asked.NoMem answered input out faults unprinted = TellsWhyNot status.Failed answered faults unprinted
+Does at stored (asked.Hunt a) answered input out faults unprinted = Unit {0}
+Does at stored (asked.Shrink a) answered input out faults unprinted = Unit {0}
+Does at stored (asked.Until a) answered input out faults unprinted = Unit {0}

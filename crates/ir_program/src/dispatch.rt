@@ -4,7 +4,8 @@ ghost use Rattle.std.specs.Prelude.{◌≡◌, ◌≢◌, false};
 ghost use Rattle.ir_files.specs.Writers.{writer_of};
 ghost use Rattle.ir_files.specs.declared.exit_status.ExitStatus.TheVariants as exit;
 ghost use Rattle.ir_commands.specs.Files.{TellsFault};
-ghost use Rattle.ir_program.specs.Doing.{Does, HeldBundle, HoldsSession, HoldsConnection, Prints, PrintsOutcomes, Shows};
+ghost use Rattle.ir_files.specs.Given.{IsStored};
+ghost use Rattle.ir_program.specs.Doing.{Does, HeldBundle, HoldsSession, HoldsConnection, MakesImage, Prints, PrintsOutcomes, Shows};
 ghost use Rattle.ir_program.specs.Taking.{TakenReader};
 
 use crate::bundles::bundle;
@@ -98,6 +99,8 @@ fn make<R: AllocGlobal, D: Folder, G, E: Sink>(
     faults: &mut E,
 ) -> ExitStatus
     requires { E.broken faults.old ≡ false }
+    ensures { MakesImage (D.bytes_at around.now.folder.now) (λ place bytes. IsStored (D.knows around.now.folder.now) (D.was_put around.now.folder.now) place bytes)
+        what.now result }
 {
     let (alloc, folder) = (around.rt.alloc(), around.folder);
     match what {
@@ -271,7 +274,8 @@ where
     requires reads { I.broken input ≡ false }
     requires writes { O.broken out.old ≡ false }
     requires reports { E.broken faults.old ≡ false }
-    ensures { Does (D.bytes_at around.now.folder.now) asked.old result (I.left input) (writer_of (O.written out.old) (O.written out.new) (O.broken out.new))
+    ensures { Does (D.bytes_at around.now.folder.now) (λ place bytes. IsStored (D.knows around.now.folder.now) (D.was_put around.now.folder.now) place bytes)
+        asked.old result (I.left input) (writer_of (O.written out.old) (O.written out.new) (O.broken out.new))
         (writer_of (E.written faults.old) (E.written faults.new) (E.broken faults.new)) (out.new ≡ out.old) }
 {
     let explains = terminals.faults;
