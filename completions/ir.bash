@@ -11,7 +11,7 @@ _ir() {
             record) words="--order --order-file --chaos --by --budget --random --profile --input --output --status --help" ;;
             hunt) words="--seeds --until --by --jobs --seconds --shrink --budget --random --profile --input --output --help" ;;
             shrink) words="--until --seconds --random --input --output --help" ;;
-            explore) words="--until --states --switches --private --random --profile --input --output --within --only --help" ;;
+            explore) words="--until --states --switches --private --seconds --max --random --profile --input --output --within --only --help" ;;
             debug) words="--help" ;;
             gdb) words="--help" ;;
             trace) words="--help" ;;

@@ -698,6 +698,11 @@ NO_UNTIL = (
     ("no.img x.trc --until fault", 1, "no.img"),
     ("lost.img --random x", 2, "--random: 'x' is no number up to 18446744073709551615"),
     ("lost.img --random 18446744073709551616", 2, "--random: '18446744073709551616' is no number up to 18446744073709551615"),
+    ("lost.img --seconds 0", 2, "--seconds: '0' is no number from 1 to 1000000"),
+    ("lost.img --seconds 1000001", 2, "--seconds: '1000001' is no number from 1 to 1000000"),
+    ("lost.img --max 0", 2, "--max: '0' is no number from 1 to 100000000"),
+    ("lost.img --max -1", 2, "--max: '-1' is no number from 1 to 100000000"),
+    ("lost.img --max 100000001", 2, "--max: '100000001' is no number from 1 to 100000000"),
     ("lost.img --input no.bin", 1, "no.bin"),
     ("lost.img --input long.bin", 1, "long.bin"),
     ("lost.img x.trc --until fault --input no.bin", 1, "no.bin"),
@@ -831,6 +836,40 @@ def check_as_found(folder):
     wants("the first line of a long search", (first[:10], running), (b"outcome 1 ", True))
 
 
+# The options of a search whose outcomes are bounded, how many it prints, how its last line begins, and the status.
+BOUNDED = (
+    ("lost.img --max 1", 1, "stopped outcomes covered 1 outcomes 1 states ", 6),
+    ("lost.img --max 2", 2, "finished outcomes 2 states 12 ", 0),
+    ("lost.img --max 100000000 --seconds 1000000", 2, "finished outcomes 2 states 12 ", 0),
+    ("lost.img --max 1 --switches 1", 1, "covered 1 outcomes 1 states ", 0),
+    ("lost.img --max 1 --within lost.img", 0, "unknown", 6),
+    ("lost.img --max 2 --within lost.img", 0, "within", 0),
+    ("lost.img --max 1 --only out", 1, "classes 1", 6),
+    ("lost.img bound.trc --max 1 --until fault", 1, "stopped outcomes covered 1 outcomes 1 states ", 6),
+)
+
+
+def check_bounded(folder, row):
+    """A search that ends by its number of outcomes."""
+    words, outcomes, last, status = row
+    ended = run(f"explore {words}", folder)
+    lines = ended.stdout.decode().splitlines()
+    wants(f"status of {words}", ended.returncode, status)
+    wants(f"outcomes of {words}", sum(line.startswith("outcome ") for line in lines), outcomes)
+    wants(f"last line of {words}", lines[-1][:len(last)], last)
+
+
+def check_seconds(folder):
+    """A search that ends by its time: what it has printed is what a search of so many switches prints."""
+    assembled(folder, "long", source_of([ROUND * 3] * 4, 1))
+    ended = run("explore long.img --states 100000000 --seconds 1", folder)
+    lines = ended.stdout.decode().splitlines()
+    found = re.fullmatch(r"stopped seconds covered (\d+) outcomes (\d+) states \d+", lines[-1])
+    wants("a search of a second", (bool(found), ended.returncode), (True, 6))
+    least = run(f"explore long.img --states 100000000 --switches {found[1]}", folder).stdout.decode().splitlines()
+    wants("the outcomes of a search of a second", lines[:len(least) - 1], least[:-1])
+
+
 def main():
     parser = parser_of(__doc__)
     parser.add_argument("--guests", type=int, default=500, help="how many random guests")
@@ -856,6 +895,7 @@ def main():
                   *(lambda row=row: check_until(folder, row) for row in UNTIL),
                   *(lambda row=row: check_hang(folder, row) for row in HANGS),
                   *(lambda row=row: check_no_until(folder, row) for row in NO_UNTIL), lambda: check_until_failures(folder), lambda: check_as_found(folder),
+                  *(lambda row=row: check_bounded(folder, row) for row in BOUNDED), lambda: check_seconds(folder),
                   *(lambda row=row: check_on_paper(folder, row) for row in ON_PAPER),
                   *(lambda row=row: check_live(folder, row) for row in LIVE),
                   *(lambda: check_guest(folder, *random_guest(chance)) for _ in range(asked.guests)),

@@ -36,7 +36,9 @@ done. States that differ only in registers that the code doesn't read any more c
   stopped WHY covered C outcomes K states N      it stopped before: what is printed is right, and complete up to C switches; `-`
                                                  is for not at all. WHY is `states`, the limit is reached; `private T`, thread T
                                                  reached the limit of steps without an entry or a try; `world T`, thread T has
-                                                 called CLOCK too often to be counted; `log T`, a log is full; or `memory`
+                                                 called CLOCK too often to be counted; `log T`, a log is full; `seconds`, those
+                                                 of --seconds are over; `outcomes`, as many as --max wants are found, and some
+                                                 complete run has another; or `memory`
 The line goes on with `clock counted` only if some run calls CLOCK, and after `finished` exactly then.
 Without a last line, after a fault, what is printed is right, but nothing says how complete it is.
 All this is about the runs in which no budget is spent and no log is full, and in which CLOCK, RANDOM and INPUT answer as
@@ -54,6 +56,8 @@ with ` | ` between them.
 With `--until hang` alone all lines are printed, and if there is the line `hang`, TRACE is of the run by its LIST, and the lines of
 `ir record` follow. The run goes on behind the hang until its budget ends it: each thread may take one step more than all threads
 take together by LIST.
+The seconds of --seconds are counted from where the program begins, over all of its searches. What a search has found by then is
+still printed. With --within each search finds as many outcomes as --max wants at most.
 With --within OTHER the outcomes are printed that the guest of OTHER doesn't have, each with its number and order, then
   image finished outcomes K states N hangs H     how the search for the outcomes of IMAGE ended, as above
   other finished outcomes K states N hangs H     the same of OTHER; if it isn't `finished`, IMAGE isn't searched
@@ -89,12 +93,20 @@ const SWITCHES: &str = "switches";
 
 const PRIVATE: &str = "private";
 
+const SECONDS: &str = "seconds";
+
+const MAX: &str = "max";
+
 // The most of each option.
 const MOST_STATES: u64 = 100_000_000;
 
 const MOST_SWITCHES: u64 = 1_000_000;
 
 const MOST_PRIVATE: u64 = MOST_BUDGET;
+
+const MOST_SECONDS: u64 = 1_000_000;
+
+const MOST_OUTCOMES: u64 = 100_000_000;
 
 /// How far a guest is explored.
 #[derive(Clone, Copy)]
@@ -105,6 +117,10 @@ pub struct Reach {
     pub private: u64,
     /// The most switches.
     pub switches: usize,
+    /// How many seconds the search may take; `None` if as many as it takes.
+    pub seconds: Option<u32>,
+    /// How many different outcomes are printed at most; `None` if all are.
+    pub outcomes: Option<usize>,
     ghost some: { 1 ≤ states },
 }
 
@@ -172,6 +188,26 @@ fn private_arg<'a>(alloc: Global) -> Arg<'a> {
         .help("The most steps of a thread up to its next entry or try, from 1 to 1000000000000")
 }
 
+fn seconds_arg<'a>(alloc: Global) -> Arg<'a> {
+    Arg::new(alloc, SECONDS)
+        .long(SECONDS)
+        .value_name("N")
+        .allow_negative_numbers(true)
+        .help(
+            "The seconds after which the search stops, from 1 to 1000000; without it the search goes on to its end",
+        )
+}
+
+fn max_arg<'a>(alloc: Global) -> Arg<'a> {
+    Arg::new(alloc, MAX)
+        .long(MAX)
+        .value_name("K")
+        .allow_negative_numbers(true)
+        .help(
+            "The most outcomes, from 1 to 100000000: the search stops once it knows one more; without it all are looked for",
+        )
+}
+
 /// The command with its arguments.
 pub fn with_arguments<'a>(alloc: Global, command: Command<'a>) -> Result<Command<'a>, AllocError> {
     command
@@ -181,6 +217,8 @@ pub fn with_arguments<'a>(alloc: Global, command: Command<'a>) -> Result<Command
         .arg(states_arg(alloc))?
         .arg(switches_arg(alloc))?
         .arg(private_arg(alloc))?
+        .arg(seconds_arg(alloc))?
+        .arg(max_arg(alloc))?
         .arg(random_arg(alloc))?
         .arg(profile_arg(alloc))?
         .arg(input_arg(alloc))?
@@ -228,6 +266,34 @@ fn switches_of(
     }
 }
 
+// The most seconds that are asked for, if they are, or what is wrong with their number.
+fn seconds_of(
+    alloc: Global,
+    matches: &ArgMatches<'_>,
+) -> Result<Result<Option<u32>, String>, AllocError> {
+    if matches.get_str(SECONDS).is_none() {
+        return Ok(Ok(None));
+    }
+    match number_in_option(alloc, matches, SECONDS, 1, MOST_SECONDS)? {
+        Ok(seconds) => Ok(Ok(Some(seconds as u32))),
+        Err(why) => Ok(Err(why)),
+    }
+}
+
+// The most outcomes that are asked for, if they are, or what is wrong with their number.
+fn outcomes_of(
+    alloc: Global,
+    matches: &ArgMatches<'_>,
+) -> Result<Result<Option<usize>, String>, AllocError> {
+    if matches.get_str(MAX).is_none() {
+        return Ok(Ok(None));
+    }
+    match number_in_option(alloc, matches, MAX, 1, MOST_OUTCOMES)? {
+        Ok(most) => Ok(Ok(Some(most as usize))),
+        Err(why) => Ok(Err(why)),
+    }
+}
+
 // How far a guest is explored, or what is wrong with an option.
 fn reach_of(alloc: Global, matches: &ArgMatches<'_>) -> Result<Result<Reach, String>, AllocError> {
     let states = match number_in_option(alloc, matches, STATES, 1, MOST_STATES)? {
@@ -242,10 +308,20 @@ fn reach_of(alloc: Global, matches: &ArgMatches<'_>) -> Result<Result<Reach, Str
         Ok(switches) => switches,
         Err(why) => return Ok(Err(why)),
     };
+    let seconds = match seconds_of(alloc, matches)? {
+        Ok(seconds) => seconds,
+        Err(why) => return Ok(Err(why)),
+    };
+    let outcomes = match outcomes_of(alloc, matches)? {
+        Ok(outcomes) => outcomes,
+        Err(why) => return Ok(Err(why)),
+    };
     Ok(Ok(Reach {
         states: states as usize,
         private,
         switches,
+        seconds,
+        outcomes,
     }))
 }
 

@@ -23,11 +23,16 @@ const NEVER: u32 = u32::MAX;
 // How many states are found between two looks at the clock.
 const STATES_FOR_A_LOOK: usize = 1 << 12;
 
+// A search whose seconds are bounded looks at the clock once in this number of times that it asks.
+const ASKS_FOR_A_LOOK: u64 = 1 << 4;
+
 /// Shows on standard error, once a second, how many steps all threads have taken since the program wrote something last: of a
 /// recording the private ones; of a search for all outcomes how many states and outcomes it has found, after how many switches.
 #[derive(Drop)]
 pub struct Progress<'a, R> {
     rt: &'a R,
+    // When it was made; None where the clock couldn't be read.
+    made: Option<Instant>,
     // None where nothing is shown.
     start: Option<Instant>,
     // Of each thread, which alone writes it.
@@ -38,23 +43,23 @@ pub struct Progress<'a, R> {
     stands: AtomicBool,
     // How many outcomes a search has found.
     outcomes: AtomicUsize,
+    // How often a search has asked whether its seconds are over.
+    asked: AtomicU64,
 }
 
 impl<'a, R: Clock> Progress<'a, R> {
     /// Shows steps from now on, if it is to show any and the clock can be read.
     pub fn new(rt: &'a R, is_shown: bool) -> Progress<'a, R> {
-        let start = if is_shown {
-            Instant::now(rt).ok()
-        } else {
-            None
-        };
+        let made = Instant::now(rt).ok();
         Progress {
             rt,
-            start,
+            made,
+            start: if is_shown { made } else { None },
             steps: array::from_fn(|_| CachePadded::new(AtomicU64::new(0))),
             shown: AtomicU32::new(NEVER),
             stands: AtomicBool::new(false),
             outcomes: AtomicUsize::new(0),
+            asked: AtomicU64::new(0),
         }
     }
 }
@@ -150,6 +155,21 @@ impl<R: Clock + Eprint> Observer for Progress<'_, R> {
 
     fn listed(&self, outcomes: usize) {
         self.outcomes.store(outcomes, Ordering::Relaxed);
+    }
+
+    // Counted from where it was made. Without a clock they are over.
+    fn is_over(&self, seconds: u32) -> bool {
+        let asked = self.asked.fetch_add(1, Ordering::Relaxed);
+        if asked % ASKS_FOR_A_LOOK != 0 {
+            return false;
+        }
+        let Some(made) = self.made else {
+            return true;
+        };
+        match millis_since(self.rt, made) {
+            Some(millis) => millis / 1000 >= seconds,
+            None => true,
+        }
     }
 }
 

@@ -29,6 +29,8 @@ pub record IsPlanOf (arguments : ExploreArguments) (bytes : List ℕ) (plan : Ex
   pub states : plan.bounds.nodes ≡ arguments.reach.states
   pub private : plan.bounds.private ≡ arguments.reach.private
   pub switches : plan.switches ≡ arguments.reach.switches
+  pub seconds : plan.bounds.seconds ≡ arguments.reach.seconds
+  pub outcomes : plan.bounds.outcomes ≡ arguments.reach.outcomes
   pub profile : plan.profile ≡ arguments.profile
   pub random : plan.random ≡ arguments.random
   pub input : plan.input ≡ bytes

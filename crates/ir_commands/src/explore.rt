@@ -24,16 +24,19 @@ pub fn plan_of<'a>(arguments: &ExploreArguments, input: &'a [u8]) -> ExplorePlan
         states,
         private,
         switches,
+        seconds,
+        outcomes,
         ..
     } = arguments.reach;
-    ExplorePlan::new(
+    let plan = ExplorePlan::new(
         states,
         private,
         switches,
         arguments.profile,
         arguments.random,
         input,
-    )
+    );
+    plan.bounded(seconds, outcomes)
 }
 
 // Prints the outcomes of the guest in a file.

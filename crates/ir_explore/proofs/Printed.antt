@@ -95,6 +95,7 @@ explored_is_known guest plan e is = record {
   untimed = is.untimed;
   covered = is.covered;
   left = is.left;
+  few = is.few;
   stopped = is.stopped;
 }
 

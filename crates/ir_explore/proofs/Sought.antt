@@ -31,6 +31,7 @@ known_at_switches guest plan n k a last = record {
   untimed = a.untimed;
   covered = λ e. a.covered e ∙ ap suc (last e);
   left = λ e. let l = a.left e in (l.0, l.1, l.2, subst (NeedsSwitches (setup_of guest plan) l.1) (last e) l.3);
+  few = a.few;
   stopped = a.stopped;
 }
 

@@ -59,6 +59,8 @@ stop_words (stop.Private t) = codes "private " ++ decimal t
 stop_words (stop.Log t) = codes "log " ++ decimal t
 stop_words (stop.World t) = codes "world " ++ decimal t
 stop_words stop.Memory = codes "memory"
+stop_words stop.Time = codes "seconds"
+stop_words stop.Outcomes = codes "outcomes"
 
 -- up to how many switches the outcomes are complete, if so many levels are gone over
 abbrev pub covered_text : ℕ → List ℕ

@@ -13,13 +13,13 @@ use Rattle.ir_graph.specs.Nodes.{AreNodes}
 use Rattle.ir_graph.specs.Reached.{AllReached}
 use Rattle.ir_graph.specs.Setup.{Setup}
 use Rattle.ir_graph.specs.Standing.{AllFound, NeedsSwitches}
-use Rattle.ir_graph.specs.Stops.{IsStop, MayStop}
+use Rattle.ir_graph.specs.Stops.{IsStop}
 use Rattle.ir_graph.specs.Times.{HasTimedRun}
 use Rattle.ir_image.specs.Guest.{Guest, object_count, object_words}
 use Rattle.ir_object.specs.Cell.{Cell}
 use Rattle.ir_object.specs.Empty.{empty}
 use Rattle.ir_order.specs.Spelling.{IsListOf}
-use Rattle.ir_outcomes.specs.Explored.{ShowsState, AreExplored, AreAll, AreHangs}
+use Rattle.ir_outcomes.specs.Explored.{ShowsState, AreExplored, AreAll, AreHangs, IsFew, MayEnd}
 use Rattle.ir_outcomes.specs.declared.explored.Explored.{Explored}
 use Rattle.ir_outcomes.specs.declared.shown.Shown.{Shown}
 use Rattle.ir_record.specs.Recording.{turns_of_items}
@@ -130,8 +130,8 @@ known_of e = record {
 
 -- It is so. The states are different ones of the guest at rest, to each of which a run leads. Once the search is finished, they and the outcomes are
 -- all, and so many states can't be brought to an end: where there are any, a run that hangs is known too, and only there. Where the switches that
--- were wanted are covered, some state needs as many. The search stopped early only for what the plan says. Some run of the guest that counts
--- answers a call for the time where that is said, and, once the search is finished, only there.
+-- were wanted are covered, some state needs as many. There are no more outcomes than the plan says, and the search stopped early only for what it
+-- says. Some run of the guest that counts answers a call for the time where that is said, and, once the search is finished, only there.
 pub record AreKnown (guest : Guest) (plan : ExplorePlan) (k : Known) : Type 0 where
   pub explored : AreExplored (setup_of guest plan) k.flats k.levels k.outcomes
   pub all : k.ended ≡ Finished → AreAll (setup_of guest plan) k.flats k.outcomes
@@ -144,7 +144,8 @@ pub record AreKnown (guest : Guest) (plan : ExplorePlan) (k : Known) : Type 0 wh
   pub untimed : k.ended ≡ Finished → HasTimedRun (setup_of guest plan) → k.timed ≡ true
   pub covered : k.ended ≡ Covered → k.levels ≡ suc plan.switches
   pub left : k.ended ≡ Covered → (v : ℕ) × (s : SourcedFlat) × (slice_get k.flats v ≡ Some s) × NeedsSwitches (setup_of guest plan) s plan.switches
-  pub stopped : (why : Stop) → k.ended ≡ Stopped why → MayStop (setup_of guest plan) k.flats plan.bounds.nodes plan.bounds.private why
+  pub few : IsFew plan.bounds (length k.outcomes)
+  pub stopped : (why : Stop) → k.ended ≡ Stopped why → MayEnd (setup_of guest plan) k.flats plan.bounds k.outcomes why
 
 -- a hang is printed if one is known, and then how the search ended
 pub record IsEnding (k : Known) (answered : ExitStatus) (text : List ℕ) : Type 0 where

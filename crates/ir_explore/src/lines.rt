@@ -115,6 +115,8 @@ fn why_text(alloc: Global, stop: Stop) -> Result<String, AllocError>
         Stop::Log(thread) => format!(in alloc; "log {thread}"),
         Stop::World(thread) => format!(in alloc; "world {thread}"),
         Stop::Memory => String::from_str(alloc, "memory"),
+        Stop::Time => String::from_str(alloc, "seconds"),
+        Stop::Outcomes => String::from_str(alloc, "outcomes"),
     }
 }
 

@@ -1,6 +1,6 @@
 //! How a guest is explored.
 
-ghost use Rattle.std.specs.Prelude.{◌≡◌, ◌≤◌};
+ghost use Rattle.std.specs.Prelude.{◌≡◌, ◌≤◌, None};
 ghost use Rattle.ir_explore.specs.Plan.{ExplorePlan, setup_of};
 
 use ir_graph::{Bounds, Setup};
@@ -13,7 +13,7 @@ use std::marker::Model;
 /// How far a guest is explored, and what answers its threads.
 #[derive(Drop)]
 pub struct ExplorePlan<'a> {
-    /// How many states there may be, and how many steps of a thread up to its next entry or try.
+    /// How many states there may be, how many steps of a thread up to its next entry or try, how many seconds and how many outcomes.
     pub bounds: Bounds,
     /// The most switches of the thread that enters or tries.
     pub switches: usize,
@@ -33,8 +33,8 @@ impl<'a> Model for ExplorePlan<'a> {
 }
 
 impl<'a> ExplorePlan<'a> {
-    /// At most so many states, steps of a thread up to its next entry or try, and switches; which system calls there are; where random words
-    /// start, and the bytes that each thread reads.
+    /// At most so many states, steps of a thread up to its next entry or try, and switches, in any time, and with any number of outcomes; which
+    /// system calls there are; where random words start, and the bytes that each thread reads.
     pub fn new(
         states: usize,
         private: u64,
@@ -46,6 +46,8 @@ impl<'a> ExplorePlan<'a> {
         requires { 1 ≤ states }
         ensures states { result.bounds.nodes ≡ states }
         ensures private { result.bounds.private ≡ private }
+        ensures seconds { result.bounds.seconds ≡ None }
+        ensures outcomes { result.bounds.outcomes ≡ None }
         ensures switches { result.switches ≡ switches }
         ensures profile { result.profile ≡ profile }
         ensures random { result.random ≡ random }
@@ -55,11 +57,30 @@ impl<'a> ExplorePlan<'a> {
             bounds: Bounds {
                 nodes: states,
                 private,
+                seconds: None,
+                outcomes: None,
             },
             switches,
             profile,
             random,
             input,
+        }
+    }
+
+    /// The same, in so many seconds and with so many different outcomes at most, where these are given.
+    pub fn bounded(&self, seconds: Option<u32>, outcomes: Option<usize>) -> ExplorePlan<'a>
+        ensures { result ≡ record self.now { bounds = record self.now.bounds { seconds = seconds; outcomes = outcomes } } }
+    {
+        ExplorePlan {
+            bounds: Bounds {
+                seconds,
+                outcomes,
+                ..self.bounds
+            },
+            switches: self.switches,
+            profile: self.profile,
+            random: self.random,
+            input: self.input,
         }
     }
 

@@ -1,7 +1,7 @@
 -- Why a search over the states of a guest stops.
-use Rattle.std.specs.Prelude.{◌≡◌, ℕ, ◌≤◌, ◌+◌, ◌^◌, false, List, length}
+use Rattle.std.specs.Prelude.{◌≡◌, ℕ, ◌≤◌, ◌+◌, ◌^◌, false, List, Some, length}
 use Rattle.ir_search.specs.declared.stop.Stop.{Stop}
-use Rattle.ir_search.specs.declared.stop.Stop.TheVariants.{Nodes, Private, Log, World, Memory}
+use Rattle.ir_search.specs.declared.stop.Stop.TheVariants.{Nodes, Private, Log, World, Memory, Time}
 use Rattle.ir_thread.specs.State.{ask_of}
 use Rattle.ir_runs.specs.declared.env_kind.EnvKind.TheVariants.{Clock}
 use Rattle.ir_thread.specs.declared.ask.Ask.{Ask}
@@ -13,6 +13,7 @@ use Rattle.ir_state_store.specs.Nodes.{SourcedFlat, source_of}
 use Rattle.ir_graph.specs.Setup.{Setup}
 use Rattle.ir_graph.specs.Plain.{IsFair}
 use Rattle.ir_graph.specs.Reached.{IsReached}
+use Rattle.ir_graph.specs.declared.bounds.Bounds.{Bounds}
 use Rattle.ir_graph.specs.Turn.{GoesAlone}
 
 -- a thread that asks so has spent its budget, or its log is full
@@ -48,10 +49,10 @@ pub record IsStop (x : Setup) (limit : ℕ) (stop : Stop) : Type 0 where
   pub reached : IsReached x at
   pub stops : StopsFollowing from at thread limit stop
 
--- Why a search over these states stops: there are as many as there may be, out of memory, or some thread is not followed.
-abbrev pub MayStop : Setup → List SourcedFlat → ℕ → ℕ → Stop → Type 0
-MayStop x states nodes limit Nodes = length states ≡ nodes
-MayStop x states nodes limit Memory = Unit {0}
-MayStop x states nodes limit (Private t) = IsStop x limit (Private t)
-MayStop x states nodes limit (Log t) = IsStop x limit (Log t)
-MayStop x states nodes limit (World t) = IsStop x limit (World t)
+-- Why a search over these states stops within its bounds: there are as many as there may be, out of memory, its seconds are bounded, or some
+-- thread is not followed.
+abbrev pub MayStop : Setup → List SourcedFlat → Bounds → Stop → Type 0
+MayStop x states bounds Nodes = length states ≡ bounds.nodes
+MayStop x states bounds Memory = Unit {0}
+MayStop x states bounds Time = (seconds : ℕ) × (bounds.seconds ≡ Some seconds)
+MayStop x states bounds why = IsStop x bounds.private why

@@ -10,7 +10,8 @@ ghost use Rattle.ir_graph.specs.Times.{KnowsTimes};
 ghost use Rattle.ir_state_store.specs.Nodes.{SourcedFlat};
 
 use crate::ahead::Ahead;
-use crate::nodes::{Bounds, successor};
+use crate::bounds::Bounds;
+use crate::nodes::successor;
 use crate::notes::{Row, known, note_way};
 use crate::setup::Setup;
 use crate::way::Way;
@@ -46,11 +47,15 @@ impl<'a> Successors for Graph<'a> {
       origin = (g.setup, g.bounds.private);
     } };
 
-    ghost may_stop = { λ g. MayStop g.setup g.flats.items g.bounds.nodes g.bounds.private };
+    ghost may_stop = { λ g. MayStop g.setup g.flats.items g.bounds };
 
     ghost is_sound = { λ g. IsGraph g.setup g.flats.items (noted_by g.rows.items g.refused_rows.items) (length g.rows.items)
         × AreTurns g.setup.guest.code g.flats.shared g.ahead × (g.flats.code ≡ g.setup.guest.code)
         × KnowsTimes g.setup g.flats.items (noted_by g.rows.items g.refused_rows.items) g.timed };
+
+    fn seconds(&self) -> Option<u32> {
+        self.bounds.seconds
+    }
 
     fn known(&self, thread: usize, refused: bool, node: usize) -> Option<Option<usize>> {
         if refused {

@@ -2,6 +2,7 @@
 #![tactic(auto)]
 
 mod ahead;
+mod bounds;
 mod graph;
 mod hands;
 mod known;
@@ -19,9 +20,9 @@ mod turns;
 mod way;
 
 pub use ahead::Ahead;
+pub use bounds::Bounds;
 pub use graph::Graph;
 pub use likeness::same_state;
-pub use nodes::Bounds;
 pub use outcomes::has_new_outcome;
 pub use rest::run_to_rest;
 pub use setup::Setup;

@@ -12,6 +12,7 @@ ghost use Rattle.ir_state_store.specs.Nodes.{Grows, SourcedFlat, sourced_in};
 ghost use Rattle.ir_state_store.specs.Table.{HaveTicks, HaveNoTicks};
 
 use crate::ahead::Ahead;
+use crate::bounds::Bounds;
 use crate::hands::put_spots;
 use crate::known::Turn;
 use crate::rest::run_to_rest;
@@ -20,15 +21,6 @@ use crate::way::{Way, way_result};
 use ir_image::Code;
 use ir_search::Stop;
 use ir_state_store::{Node, Store};
-
-/// How far a search may go.
-#[derive(Clone, Copy, Debug, PartialEq, Eq)]
-pub struct Bounds {
-    /// How many nodes there may be.
-    pub nodes: usize,
-    /// How many steps a thread may take from one entry or try to the next.
-    pub private: u64,
-}
 
 // The node that looks the same as this state, a new one where none was found. It is noted if some call for the time was answered before it.
 fn node_of<'a>(
@@ -110,7 +102,7 @@ fn node_by_steps<'a>(
     ensures code { flats.new.code ≡ flats.old.code }
     ensures next { IfOk result (λ next. IsSuccessor flats.old.items flats.new.items timed.new way next) }
     ensures full { IsErrOf result Nodes → length flats.new.items ≡ bounds.nodes }
-    ensures stopped { IfErr result (λ stop. (x : Setup) → AllReached x flats.old.items → MayStop x flats.new.items bounds.nodes bounds.private stop) }
+    ensures stopped { IfErr result (λ stop. (x : Setup) → AllReached x flats.old.items → MayStop x flats.new.items bounds stop) }
 {
     let mut state = flats.get(way.node)?;
     let asked = state.flat.ask(way.thread);
@@ -153,7 +145,7 @@ pub fn successor<'a>(
     ensures store { flats.new.code ≡ flats.old.code }
     ensures next { IfOk result (λ next. IsSuccessor flats.old.items flats.new.items timed.new way next) }
     ensures full { IsErrOf result Nodes → length flats.new.items ≡ bounds.nodes }
-    ensures stopped { IfErr result (λ stop. (x : Setup) → AllReached x flats.old.items → MayStop x flats.new.items bounds.nodes bounds.private stop) }
+    ensures stopped { IfErr result (λ stop. (x : Setup) → AllReached x flats.old.items → MayStop x flats.new.items bounds stop) }
 {
     let number = flats.thread_number(way.node, way.thread);
     if flats.thread_over(number) {

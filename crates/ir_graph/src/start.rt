@@ -15,8 +15,8 @@ ghost use Rattle.ir_thread.specs.State.{IsAllowed};
 ghost use Rattle.ir_thread.specs.declared.profile.Profile.TheVariants.{One, Two};
 
 use crate::ahead::Ahead;
+use crate::bounds::Bounds;
 use crate::graph::Graph;
-use crate::nodes::Bounds;
 use crate::notes::Row;
 use crate::rest::run_to_rest;
 use crate::setup::Setup;

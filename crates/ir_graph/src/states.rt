@@ -7,9 +7,9 @@ ghost use Rattle.ir_graph.specs.Searched.{AreSearched, IsSearch, SearchGoesOn, S
 ghost use Rattle.ir_graph.specs.Stops.{IsStop, MayStop};
 ghost use Rattle.ir_thread.specs.State.{IsAllowed};
 
+use crate::bounds::Bounds;
 use crate::graph::Graph;
 use crate::marks::mark_states;
-use crate::nodes::Bounds;
 use crate::setup::Setup;
 use crate::start::start_graph;
 use ir_search::{Observer, Search, Stop};
@@ -70,7 +70,7 @@ impl<'a> States<'a> {
         // Else it has found some states of it
         ensures level { OnErr result (self.new.search.level ≡ self.old.search.level) }
         ensures part { AreSearched self.new.graph.setup self.new.graph.flats.items self.new.search.found.nodes.items self.old.search.level.number }
-        ensures stopped { IfErr result (λ stop. MayStop self.new.graph.setup self.new.graph.flats.items self.new.graph.bounds.nodes self.new.graph.bounds.private stop) }
+        ensures stopped { IfErr result (λ stop. MayStop self.new.graph.setup self.new.graph.flats.items self.new.graph.bounds stop) }
     {
         self.search.go_over(&mut self.graph, observer)
     }

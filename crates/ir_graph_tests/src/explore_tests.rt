@@ -7,11 +7,11 @@ use crate::page::{ENDLESS, Page, empty_page};
 use ir_asm::assemble;
 use ir_explore::{ExplorePlan, explore_run};
 use ir_image::write_image;
-use ir_search::Unobserved;
+use ir_search::{Observer, Unobserved};
 use ir_thread::Profile;
 use std::test::Fail;
 
-const BOTH: &[u8] = b"outcome 1 switches 1 order 1x25,0x25
+pub const BOTH: &[u8] = b"outcome 1 switches 1 order 1x25,0x25
 thread 0 end 1 code 0 out 0
 thread 1 end 1 code 0 out 0
 object 0 words 00000002 00000000 00000000 00000000 00000000 00000000 00000000 00000000
@@ -54,6 +54,16 @@ pub fn printed(
     text: &str,
     plan: &ExplorePlan<'_>,
 ) -> Result<(u8, Page, Page), Fail> {
+    printed_before(rt, text, plan, &Unobserved)
+}
+
+// The same before this observer.
+pub fn printed_before<W: Observer>(
+    rt: &HostRuntime,
+    text: &str,
+    plan: &ExplorePlan<'_>,
+    observer: &W,
+) -> Result<(u8, Page, Page), Fail> {
     let alloc = rt.alloc();
     let image = assemble(alloc, text)?;
     let bytes = write_image(alloc, &image)?;
@@ -63,7 +73,7 @@ pub fn printed(
         alloc,
         bytes.as_slice(),
         plan,
-        &Unobserved,
+        observer,
         &mut out,
         &mut faults,
     );

@@ -229,6 +229,8 @@ pub fn explored<'a>(alloc: Global, image: &'a Image, switches: usize) -> Result<
     let bounds = Bounds {
         nodes: 200,
         private: 1000,
+        seconds: None,
+        outcomes: None,
     };
     let setup = setup_of(image, Profile::One);
     match explore(alloc, &setup, bounds, switches, &Unobserved) {

@@ -10,6 +10,8 @@ use std::test::Fail;
 const BOUNDS: Bounds = Bounds {
     nodes: 200,
     private: 1000,
+    seconds: None,
+    outcomes: None,
 };
 
 #[test]

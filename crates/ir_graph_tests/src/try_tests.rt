@@ -66,6 +66,8 @@ fn explored<'a>(alloc: Global, image: &'a Image) -> Result<Explored<'a>, Fail>
     let bounds = Bounds {
         nodes: 2000,
         private: 1000,
+        seconds: None,
+        outcomes: None,
     };
     let setup = setup_of(image, Profile::Two);
     match explore(alloc, &setup, bounds, 100, &Unobserved) {

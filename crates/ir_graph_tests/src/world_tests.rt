@@ -119,6 +119,8 @@ fn states_differ_in_the_input_that_is_left(rt: HostRuntime) -> Result<(), Fail> 
     let bounds = Bounds {
         nodes: 200,
         private: 1000,
+        seconds: None,
+        outcomes: None,
     };
     let Ok(found) = explore(alloc, &setup, bounds, 100, &Unobserved) else {
         return Err(Fail::from("no search"));

@@ -3,6 +3,7 @@ mod Again
 mod Showing
 mod Listed
 mod Steps
+mod Ends
 mod Lost
 mod Onwards
 mod Arriving

@@ -3,6 +3,7 @@ use Rattle.std.specs.Prelude.{◌≡◌, ◌↔◌, ℕ, suc, ◌<◌, ◌≤◌
 use Rattle.ir_search.specs.declared.origin.Origin.{Origin}
 use Rattle.ir_search.specs.declared.search.Ended.TheVariants.{Finished, Covered, Stopped}
 use Rattle.ir_search.specs.declared.stop.Stop.{Stop}
+use Rattle.ir_search.specs.declared.stop.Stop.TheVariants.{Outcomes}
 use Rattle.ir_search.specs.Ways.{shut}
 use Rattle.ir_record.specs.Recording.{turns_of_items}
 use Rattle.ir_runs.specs.Run.{Step}
@@ -15,7 +16,7 @@ use Rattle.ir_graph.specs.Standing.{AllFound, NeedsSwitches}
 use Rattle.ir_graph.specs.Setup.{Setup, IsCountedOf}
 use Rattle.ir_graph.specs.Stops.{MayStop}
 use Rattle.ir_graph.specs.Times.{HasTimedRun}
-use Rattle.ir_graph.specs.declared.nodes.Bounds.{Bounds}
+use Rattle.ir_graph.specs.declared.bounds.Bounds.{Bounds}
 use Rattle.ir_graph.specs.Outcomes.{RunOutcome, run_outcome}
 use Rattle.ir_outcomes.specs.declared.explored.Explored.{Explored}
 use Rattle.ir_outcomes.specs.Shown.{outcome_by, switches_by, IsShown, IsHangShown}
@@ -64,6 +65,20 @@ pub record AreOutcomesShown (setup : Setup) (flats : List SourcedFlat) (origins 
   pub level : (i : ℕ) (x : Shown) (n : Origin) → slice_get outcomes i ≡ Some x → slice_get origins x.node ≡ Some n → x.level ≡ n.level
   pub shown : (i : ℕ) (x : Shown) (s : SourcedFlat) → ShowsState flats outcomes i x s → IsShown setup s x.level (turns_of_items x.turns.items)
 
+-- no more than there may be
+abbrev pub IsFew : Bounds → ℕ → Type 0
+IsFew bounds count = (most : ℕ) → bounds.outcomes ≡ Some most → count ≤ most
+
+-- some complete run of the guest comes to another outcome than those that are listed
+abbrev pub HasFurther : Setup → List SourcedFlat → List Shown → Type 0
+HasFurther setup flats outcomes = (x : RunOutcome) × IsOutcomeOf setup x × (IsIn flats outcomes x → ⊥)
+
+-- Why a search within these bounds ends with these states and outcomes before it is over: there are as many outcomes as there may be, and some run
+-- comes to another; or it stops for what a search over the states stops for.
+abbrev pub MayEnd : Setup → List SourcedFlat → Bounds → List Shown → Stop → Type 0
+MayEnd setup flats bounds outcomes Outcomes = (bounds.outcomes ≡ Some (length outcomes)) × HasFurther setup flats outcomes
+MayEnd setup flats bounds outcomes why = MayStop setup flats bounds why
+
 -- So many states can't be brought to an end, each of which some run leads to. Where there is one, a run is shown that hangs, with fewest
 -- switches of those that do.
 pub record AreHangs (setup : Setup) (flats : List SourcedFlat) (hangs : ℕ) (hang : Option Shown) : Type 0 where
@@ -96,5 +111,8 @@ pub record IsExplored (setup : Setup) (bounds : Bounds) (most : ℕ) (e : Explor
   -- it ended so only where all levels that are wanted are gone over, and some state needs as many switches as there may be
   pub covered : e.ended ≡ Covered → e.levels ≡ suc most
   pub left : e.ended ≡ Covered → (v : ℕ) × (s : SourcedFlat) × (slice_get e.states.graph.flats.items v ≡ Some s) × NeedsSwitches setup s most
-  -- it stopped only where the states are as many as may be, memory ends, or a run leads to a thread that is not followed
-  pub stopped : (why : Stop) → e.ended ≡ Stopped why → MayStop setup e.states.graph.flats.items bounds.nodes bounds.private why
+  -- there are no more outcomes than there may be
+  pub few : IsFew bounds (length e.outcomes.items)
+  -- it stopped only where the states are as many as may be, memory ends, its seconds are bounded, a run leads to a thread that is not followed, or
+  -- the outcomes are as many as may be, and there is another
+  pub stopped : (why : Stop) → e.ended ≡ Stopped why → MayEnd setup e.states.graph.flats.items bounds e.outcomes.items why

@@ -6,8 +6,7 @@ use Rattle.ir_state_store.specs.Nodes.{SourcedFlat}
 use Rattle.ir_graph.specs.Listing.{AreOutcomes}
 use Rattle.ir_graph.specs.Searched.{AreSearched, IsSearch, StandsBetween}
 use Rattle.ir_graph.specs.Setup.{Setup}
-use Rattle.ir_graph.specs.Stops.{MayStop}
-use Rattle.ir_outcomes.specs.Explored.{AreExplored, AreOutcomesShown}
+use Rattle.ir_outcomes.specs.Explored.{AreExplored, AreOutcomesShown, IsFew, MayEnd}
 use Rattle.ir_outcomes.specs.declared.exploring.Exploring.{Exploring}
 use Rattle.ir_outcomes.specs.declared.shown.Shown.{Shown}
 
@@ -28,14 +27,15 @@ pub record CanGoOn (e : Exploring) : Type 0 where
   pub seen : 0 < e.states.search.level.first → e.list.seen ≡ length e.states.search.found.nodes.items
   pub levels : e.list.levels ≡ e.states.search.level.number
 
--- what is listed is right, and complete up to a number of switches; and if the search can't go on, why
+-- what is listed is right, complete up to a number of switches, and no more than may be; and if the search can't go on, why
 pub record IsExploring (e : Exploring) : Type 0 where
   pub search : IsSearch e.states
   pub explored : AreExplored e.states.graph.setup e.states.graph.flats.items e.list.levels e.list.outcomes.items
   pub wanted : e.states.search.level.number ≤ suc e.most
   pub going : e.stop ≡ None → CanGoOn e
+  pub few : IsFew e.states.graph.bounds (length e.list.outcomes.items)
   pub stopped : (why : Stop) → e.stop ≡ Some why
-      → MayStop e.states.graph.setup e.states.graph.flats.items e.states.graph.bounds.nodes e.states.graph.bounds.private why
+      → MayEnd e.states.graph.setup e.states.graph.flats.items e.states.graph.bounds e.list.outcomes.items why
 
 -- the search has gone on: over the graph of the same guest, as far as before
 pub record ExploringGoesOn (old new : Exploring) : Type 0 where

@@ -7,7 +7,7 @@ ghost use Rattle.ir_search.specs.declared.stop.Stop.TheVariants.{Memory};
 ghost use Rattle.ir_search.specs.Following.{Stay};
 ghost use Rattle.ir_graph.specs.Searched.{IsWholeGraph};
 ghost use Rattle.ir_graph.specs.Stops.{IsStop, MayStop};
-ghost use Rattle.ir_outcomes.specs.Explored.{AreHangs, IsExplored};
+ghost use Rattle.ir_outcomes.specs.Explored.{AreHangs, IsExplored, MayEnd};
 ghost use Rattle.ir_outcomes.specs.Exploring.{ExploringGoesOn, IsExploring};
 ghost use Rattle.ir_thread.specs.State.{IsAllowed};
 
@@ -132,7 +132,7 @@ impl<'a> Exploring<'a> {
         requires over { self.now.states.search.level.until ≤ self.now.states.search.level.first }
         requires whole { IsWholeGraph self.now.states }
         ensures hangs { IfOk result (λ found. AreHangs self.now.states.graph.setup self.now.states.graph.flats.items found.0 found.1) }
-        ensures refused { IfErr result (λ why. MayStop self.now.states.graph.setup self.now.states.graph.flats.items self.now.states.graph.bounds.nodes self.now.states.graph.bounds.private why) }
+        ensures refused { IfErr result (λ why. MayStop self.now.states.graph.setup self.now.states.graph.flats.items self.now.states.graph.bounds why) }
     {
         let marks = self.states.marks(self.alloc)?;
         let lost = count_lost(marks.as_slice());
@@ -143,12 +143,12 @@ impl<'a> Exploring<'a> {
     }
 
     // How the search ended.
+    #[tactic(auto, using(crate::proofs::Ends::may_end_by_stop))]
     fn ending(&self) -> Ending
         requires allowed { IsAllowed self.now.states.graph.setup.profile self.now.states.graph.setup.guest }
         requires is { IsExploring self.now }
         ensures stopped { (why : Stop) → result.ended ≡ Stopped why
-            → MayStop self.now.states.graph.setup self.now.states.graph.flats.items self.now.states.graph.bounds.nodes
-            self.now.states.graph.bounds.private why }
+            → MayEnd self.now.states.graph.setup self.now.states.graph.flats.items self.now.states.graph.bounds self.now.list.outcomes.items why }
         ensures finished { result.ended ≡ Finished → (self.now.stop ≡ None) × (self.now.states.search.level.until ≤ self.now.states.search.level.first) × IsWholeGraph self.now.states }
         ensures covered { result.ended ≡ Covered → (self.now.stop ≡ None) × (self.now.states.search.level.first < self.now.states.search.level.until) }
         ensures hangs { result.ended ≡ Finished → AreHangs self.now.states.graph.setup self.now.states.graph.flats.items result.hangs result.hang }

@@ -51,7 +51,7 @@ fn lead(alloc: Global, states: &States<'_>, node: usize) -> Result<Shown, Stop>
     requires allowed { IsAllowed states.now.graph.setup.profile states.now.graph.setup.guest }
     requires search { IsSearch states.now }
     requires origin { node < length states.now.search.found.nodes.items }
-    ensures refused { IfErr result (λ stop. MayStop states.now.graph.setup states.now.graph.flats.items states.now.graph.bounds.nodes states.now.graph.bounds.private stop) }
+    ensures refused { IfErr result (λ stop. MayStop states.now.graph.setup states.now.graph.flats.items states.now.graph.bounds stop) }
     ensures node { IfOk result (λ shown. shown.node ≡ node) }
     ensures level { IfOk result (λ shown. (n : Origin) → slice_get states.now.search.found.nodes.items node ≡ Some n → shown.level ≡ n.level) }
     ensures shown { IfOk result
@@ -79,7 +79,7 @@ pub fn find_hang(alloc: Global, states: &States<'_>, marks: &[bool]) -> Result<O
     requires allowed { IsAllowed states.now.graph.setup.profile states.now.graph.setup.guest }
     requires search { IsSearch states.now }
     requires marks { length marks.now ≤ length states.now.search.found.nodes.items }
-    ensures refused { IfErr result (λ stop. MayStop states.now.graph.setup states.now.graph.flats.items states.now.graph.bounds.nodes states.now.graph.bounds.private stop) }
+    ensures refused { IfErr result (λ stop. MayStop states.now.graph.setup states.now.graph.flats.items states.now.graph.bounds stop) }
     ensures none { IfOk result (λ hang. hang ≡ None → (v : ℕ) → v < length marks.now → IsNodeOpen marks.now v) }
     ensures first { IfOk result (λ hang. (x : Shown) → hang ≡ Some x → IsFirstHang marks.now x.node) }
     ensures level { IfOk result (λ hang. (x : Shown) → hang ≡ Some x → (n : Origin) → slice_get states.now.search.found.nodes.items x.node ≡ Some n → x.level ≡ n.level) }

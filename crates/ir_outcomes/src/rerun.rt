@@ -353,7 +353,7 @@ pub fn run_to_node<'a>(
     requires path { IsPathTo states.now.search.found.nodes.items node path.now }
     ensures again { IfOk result (λ run. IsAgainBy states.now.graph.setup (turns_of_items run.1.items) states.now.search.found.refusals.items path.now run.0) }
     ensures alike { IfOk result (λ run. (s : SourcedFlat) → slice_get states.now.graph.flats.items node ≡ Some s → LookAlike run.0 s) }
-    ensures refused { IfErr result (λ stop. MayStop states.now.graph.setup states.now.graph.flats.items states.now.graph.bounds.nodes states.now.graph.bounds.private stop) }
+    ensures refused { IfErr result (λ stop. MayStop states.now.graph.setup states.now.graph.flats.items states.now.graph.bounds stop) }
 {
     let kept = states.graph.flats.get(node)?;
     match run_again(alloc, states, path) {

@@ -38,7 +38,7 @@ pub fn show(alloc: Global, states: &States<'_>, node: usize) -> Result<Shown, St
     requires search { IsSearch states.now }
     requires origin { node < length states.now.search.found.nodes.items }
     requires done { (s : SourcedFlat) → slice_get states.now.graph.flats.items node ≡ Some s → IsDone (machine s.flat) (tables s.flat) }
-    ensures refused { IfErr result (λ stop. MayStop states.now.graph.setup states.now.graph.flats.items states.now.graph.bounds.nodes states.now.graph.bounds.private stop) }
+    ensures refused { IfErr result (λ stop. MayStop states.now.graph.setup states.now.graph.flats.items states.now.graph.bounds stop) }
     ensures node { IfOk result (λ shown. shown.node ≡ node) }
     ensures level { IfOk result (λ shown. (n : Origin) → slice_get states.now.search.found.nodes.items node ≡ Some n → shown.level ≡ n.level) }
     ensures shown { IfOk result (λ shown. (s : SourcedFlat) → slice_get states.now.graph.flats.items node ≡ Some s → IsShown states.now.graph.setup s shown.level (turns_of_items shown.turns.items)) }

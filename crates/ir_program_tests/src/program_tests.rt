@@ -34,6 +34,10 @@ impl Observer for Quiet {
     fn searched(&self, _states: usize, _switches: usize) {}
 
     fn listed(&self, _outcomes: usize) {}
+
+    fn is_over(&self, _seconds: u32) -> bool {
+        false
+    }
 }
 
 // The words of a line.

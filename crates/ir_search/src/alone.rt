@@ -1,7 +1,7 @@
 //! A thread that goes on alone.
 
 ghost use Rattle.std.specs.Prelude.{◌≡◌, ◌⊎◌, ◌++◌, ℕ, Bool, false, true, suc, [], ◌∷◌, ◌+◌, ◌-◌, ◌<◌, ◌≤◌, length, slice_set, IfOk, OnErr, IfErr, IsErrOf, OnOk};
-ghost use Rattle.ir_search.specs.declared.stop.Stop.TheVariants.{Nodes, Memory};
+ghost use Rattle.ir_search.specs.declared.stop.Stop.TheVariants.{Nodes, Memory, Time};
 ghost use Rattle.ir_search.specs.Following.{IsNodeOpen, StaysOpen, GoesTo};
 ghost use Rattle.ir_search.specs.Kept.{IsAllFound, IsRowFollowed, SearchKeeps};
 ghost use Rattle.ir_search.specs.TurnSoFar.{IsTurnSoFar, IsAfter, left_to_open};
@@ -104,11 +104,21 @@ fn follow<S: Successors, O: Observer>(
     Ok(())
 }
 
+// Whether the seconds that a search over the graph may take are over.
+fn is_late<S: Successors, O: Observer>(graph: &S, observer: &O) -> bool
+    ensures { result ≡ true → S.may_stop graph.now Time }
+{
+    match graph.seconds() {
+        Some(seconds) => observer.is_over(seconds),
+        None => false,
+    }
+}
+
 /// Opens a node for a thread, and each node to which the thread goes on from there, by either way, up to where it can't or to opened ones.
 /// `start` is the turn: its node, its thread, its level, and no entry or try yet. What it finds joins the nodes.
 ///
 /// # Errors
-/// The graph stops, or out of memory. What was opened stays so, but isn't followed.
+/// The graph stops, its seconds are over, or out of memory. What was opened stays so, but isn't followed.
 pub fn go_alone<S: Successors, O: Observer>(
     graph: &mut S,
     opened: &mut Vec<bool>,
@@ -144,6 +154,9 @@ pub fn go_alone<S: Successors, O: Observer>(
     };
     open(opened, found, first, observer)?;
     'pending: while let Some(here) = found.pending.pop() {
+        if is_late(graph, observer) {
+            return Err(Stop::Time);
+        }
         follow(graph, opened, found, here, false, observer)?;
         let thread = here.origin.thread as usize;
         if let Some(None) = graph.known(thread, true, here.node) {

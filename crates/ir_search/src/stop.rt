@@ -18,6 +18,10 @@ pub enum Stop {
     World(usize),
     /// Out of memory.
     Memory,
+    /// The seconds that it may take are over.
+    Time,
+    /// There are as many different outcomes as were asked for, and one more.
+    Outcomes,
 }
 
 impl From<AllocError> for Stop {

@@ -3,7 +3,7 @@
 ghost use Rattle.std.specs.Prelude.{◌≡◌, ◌⊎◌, ℕ, suc, ◌<◌, ◌≤◌, Some, IfOk, IfErr, IsErrOf};
 ghost use Rattle.ir_search.specs.Shape.{Shape, HasGrown};
 ghost use Rattle.ir_search.specs.declared.stop.Stop.{Stop};
-ghost use Rattle.ir_search.specs.declared.stop.Stop.TheVariants.{Nodes};
+ghost use Rattle.ir_search.specs.declared.stop.Stop.TheVariants.{Nodes, Time};
 
 use crate::stop::Stop;
 
@@ -24,6 +24,10 @@ pub trait Successors {
 
     /// Why the graph may stop, as far as it has grown.
     ghost may_stop: { Self → Stop → Type 0 };
+
+    /// How many seconds a search over it may take; `None` if as many as it takes.
+    fn seconds(&self) -> Option<u32>
+        ensures { (seconds : ℕ) → result ≡ Some seconds → may_stop self.now Time };
 
     /// What was noted of a thread and a node, with the thread's try refused or not: nothing, that the thread can't go on so, or the node to
     /// which it leads.

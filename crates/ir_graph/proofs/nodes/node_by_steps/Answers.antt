@@ -275,7 +275,7 @@ returns-in-Err-run_to_rest-clause-stopped c = λ x all.
     rest_takes_step f g sources t c.in-Some.answer rests one.admitted one.taken one.code one.threads one.objects in
     let w = c.run_to_rest.new.state in
     let goes = c.run_to_rest.ensures.goes in
-    may_stop_by_thread_stop x c.args.flats.now.items c.args.bounds.nodes c.args.bounds.private c.in-Err-run_to_rest.stop
+    may_stop_by_thread_stop x c.args.flats.now.items c.args.bounds c.in-Err-run_to_rest.stop
     (stop_after_entry x c.args.bounds.private c.in-Err-run_to_rest.stop s u w t c.in-Some.answer (all c.args.way.node s at) rests step goes
     c.in-Err-run_to_rest.ensures.stopped)
 

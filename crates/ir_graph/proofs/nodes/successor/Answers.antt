@@ -92,7 +92,7 @@ pub returns-clause-stopped : goal.returns-clause-stopped
 returns-clause-stopped c =
     let new = c.node_by_steps.new.flats.items in
     if_err_weaker (λ (stop : Stop). (x : Setup) → AllReached x c.turn_of.new.flats.items
-    → MayStop x new c.args.bounds.nodes c.args.bounds.private stop)
-    (λ (stop : Stop). (x : Setup) → AllReached x c.args.flats.now.items → MayStop x new c.args.bounds.nodes c.args.bounds.private stop)
+    → MayStop x new c.args.bounds stop)
+    (λ (stop : Stop). (x : Setup) → AllReached x c.args.flats.now.items → MayStop x new c.args.bounds stop)
     c.node_by_steps.result (λ stop may x all. may x (subst (AllReached x) (sym c.turn_of.ensures.items) all))
     c.node_by_steps.ensures.stopped

@@ -29,6 +29,7 @@ loop-node-preserved c =
     let next : suc c.loop-node.node ≡ c.loop-node.node + 1 = omega arith in
     record {
       has = subst (λ n. HasShown setup flats origins n c.add_node.new.list.listed.items c.add_node.new.list.outcomes.items) next c.in_default.ensures.has;
+      few = c.add_node.ensures.few;
       stay = λ v x is. c.add_node.ensures.stay v x (c.loop-node.invariant.stay v x is);
       within = let a = c.loop-node-test.true in omega (arith, a, all);
     }

@@ -58,6 +58,6 @@ pub returns-clause-stopped : goal.returns-clause-stopped
 returns-clause-stopped g c =
     let graph = c.go_over.new.graph in
     if_err_of_implied c.go_over.result (λ stop why. elim why [
-      | inl e ↦ may_stop_by_memory graph.setup graph.flats.items graph.bounds.nodes graph.bounds.private stop e
+      | inl e ↦ may_stop_by_memory graph.setup graph.flats.items graph.bounds stop e
       | inr may ↦ may
     ]) c.go_over.ensures.stopped

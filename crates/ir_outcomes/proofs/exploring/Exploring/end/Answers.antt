@@ -67,5 +67,6 @@ returns-clause-explored c =
                       (needs_level_switches s.graph.setup flats s.search.found.nodes.items level.number (going.searched later) v u n.0 at n.1 low),
                 )
           ];
+      few = is.few;
       stopped = c.ending-ended.ensures.stopped;
     }

@@ -1,4 +1,4 @@
-use Rattle.std.proofs.Common.{[], sym, subst, arith}
+use Rattle.std.proofs.Common.{[], length, sym, ap, subst, arith}
 use Rattle.ir_outcomes.specs.Explored.{AreExplored}
 use Rattle.ir_outcomes.specs.Exploring.{HasShown}
 use Rattle.ir_outcomes.proofs.Listed.{explored_before_first, shown_before_first_node}
@@ -24,5 +24,6 @@ returns-clause-is c =
         seen = λ some. absurd (omega (arith, first, some));
         levels = sym c.in_ok-states.ensures.number;
       };
+      few = λ most is. let none = ap length c.new.ensures.items in omega (arith, none);
       stopped = λ why is. absurd (cc is);
     }
