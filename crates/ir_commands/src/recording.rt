@@ -1,6 +1,7 @@
 //! What a recording reads and writes.
 
 ghost use Rattle.std.specs.Prelude.{◌≡◌, OnSome, OnOk, OnErr, IfErr, IfOk, IfSome, None, false, true, option_map};
+ghost use Rattle.ir_files.specs.Given.{fresh, given_bytes};
 ghost use Rattle.ir_files.specs.Writers.{writer_of};
 ghost use Rattle.ir_commands.specs.Exploring.{IsInput};
 ghost use Rattle.ir_commands.specs.Files.{TellsFault};
@@ -58,6 +59,7 @@ pub fn record_files<'a, D: Folder>(
 ) -> RecordFiles<WholeFile<'a, D>, OutputFiles<'a, D>>
     ensures folder { result.trace.folder.now ≡ folder.now }
     ensures place { result.trace.place.now ≡ trace.now }
+    ensures empty { given_bytes (D.knows result.trace.folder.now) (λ m. D.known m.file) result.trace.made ≡ fresh (D.knows folder.now) }
     ensures folders { result.outputs.folder.now ≡ folder.now }
     ensures paths { result.outputs.paths ≡ outputs.entry }
     ensures writes { result.trace.failed ≡ false }
