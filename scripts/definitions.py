@@ -175,7 +175,7 @@ FIRST = [
     ("A session", """`session` of [sessions.rt](../../crates/ir_debug/src/sessions.rt) reads `input` and writes.
 If no device fails and memory lasts up to the opening lines, its contract says `Session`.
 `Session` says that there is a transcript for the lines up to and including the first that quits, and that the writer took its text.
-However the replaying threads are scheduled, the contract is the same.""",
+It holds however the replaying threads are scheduled.""",
      [("ir_debug", "Session", "Session"), ("ir_debug", "Session", "Transcript"), ("ir_debug", "Session", "SessionText"),
       ("ir_stream", "Answers", "LinesAnswered")]),
     ("What opens", """A session first judges the bytes of image and trace.
