@@ -67,7 +67,7 @@ CLAIMS = [
         ("ir_graph", "Hangs", "`IsCounting`, `CanEnd`, `IsHangOf`"),
         ("ir_graph", "Times", "`HasTimedRun`: where `clock counted` is said"),
         ("ir_explore", "Texts", "`AreKnown`, `IsAnswerAbout`: what is printed of it"),
-    ], (2512, 720)),
+    ], (2540, 730)),
     Claim("Recordings of an explored guest", "What the lists of `ir explore` say about recordings, by real threads too.", {
         "ir_explore/src/laws.rt": ["recordings_have_outcomes", "recordings_are_listed", "recordings_are_untimed", "untimed_recordings_are_listed",
                                        "recordings_never_fulfil", "hangs_never_complete"],
