@@ -1,6 +1,6 @@
 #!/usr/bin/env python3
 """Makes docs/internals/headline.md and claims.md of the definitions in specs/: the relations by which the main theorem is read, as they are, and the files
-on which exploring, hunting, shrinking, gdb and insight rest.
+on which exploring, hunting, shrinking, gdb and the commands that ask about a recording rest.
 
 python3 scripts/definitions.py [--check | --index]
 
@@ -67,8 +67,8 @@ CLAIMS = [
         ("ir_graph", "Hangs", "`IsCounting`, `CanEnd`, `IsHangOf`"),
         ("ir_graph", "Times", "`HasTimedRun`: where `clock counted` is said"),
         ("ir_explore", "Texts", "`AreKnown`, `IsAnswerAbout`: what is printed of it"),
-    ], (2512, 720)),
-    Claim("Recordings of an explored guest", "What the lists of `ir explore` say of recordings, by real threads too.", {
+    ], (2540, 730)),
+    Claim("Recordings of an explored guest", "What the lists of `ir explore` say about recordings, by real threads too.", {
         "ir_explore/src/laws.rt": ["recordings_have_outcomes", "recordings_are_listed", "recordings_are_untimed", "untimed_recordings_are_listed",
                                        "recordings_never_fulfil", "hangs_never_complete"],
     }, [
@@ -84,7 +84,7 @@ CLAIMS = [
         ("ir_explore", "Until", "`IsSought`, `IsVain`"),
         ("ir_explore", "Hang", "`FindsHang`, `IsHangTold`"),
     ], (521, 320)),
-    Claim("Comparing", "`ir explore --within` says whether each outcome of a guest is one of another's; `--only` lists outcomes by classes.", {
+    Claim("Comparing", "`ir explore --within` says whether each outcome of a guest is also an outcome of another guest; `--only` lists outcomes by classes.", {
         "ir_within/src/run.rt": ["within_run"],
         "ir_within/src/classes.rt": ["classes_run"],
         "ir_within/src/laws.rt": ["within_is_each", "outside_is_some", "each_class_is_listed", "class_has_fewest"],
@@ -112,7 +112,7 @@ CLAIMS = [
         ("ir_shrink", "Stopping", "`RecordsShrunk`, `StopsShrink`: what is written and reported"),
         ("ir_shrink", "Laws", "the law"),
     ], (360, 180)),
-    Claim("gdb", "`ir gdb` answers gdb, and its moves are a session's.", {
+    Claim("gdb", "`ir gdb` replies to gdb; laws compare its moves with a session's moves and with the points' hits.", {
         "ir_gdb/src/session.rt": ["connect"],
         "ir_gdb/src/laws.rt": ["alone_is_session", "no_hit_is_passed", "none_is_blocked", "each_hit_is_shown_once", "shown_condition_is_met", "no_bad_end_is_hidden"],
     }, [
@@ -125,7 +125,7 @@ CLAIMS = [
         ("ir_gdb", "Connection", "`RepliesToItems`: the bytes of packets and acknowledgements"),
         ("ir_gdb", "Laws", "the laws"),
     ], (3024, 1603)),
-    Claim("Insight", "The lines of `ir stale`, `who`, `why`, `diff`, `view`, `events` and `list`.", {
+    Claim("Questions about a recording", "The lines of `ir stale`, `who`, `why`, `diff`, `view`, `events` and `list`.", {
         "ir_past/src/run.rt": ["stale_run"],
         "ir_stale_run/src/run.rt": ["rests_run"],
         "ir_who/src/run.rt": ["who_run"],
@@ -161,34 +161,34 @@ CLAIMS_PAGE = PAGES / "claims.md"
 CLAIMS_HEAD = """# What the other claims rest on
 
 [The theorem](theorem.md) names the definitions on which a session, a recording, `fit` and `advance` rest.
-Here are those of exploring, hunting, shrinking, gdb and insight.
-Each part has only the files that neither the theorem nor the parts before it have.
-What its contracts promise in words is in [contracts](contracts.md), and how to read definitions in [the theorem](theorem.md#how-to-read-it).
-`python3 scripts/definitions.py` makes this page, and refuses a part with more lines than it may have, and a name that two files of these parts or of the headline define.
+This page names the definitions behind exploring, hunting, shrinking, gdb and the commands that ask about a recording.
+Each part lists what neither the theorem nor the parts before it have.
+[Contracts](contracts.md) say in words what each part promises, and [the theorem](theorem.md#how-to-read-it) says how to read definitions.
+`python3 scripts/definitions.py` makes this page, and refuses a part that is longer than its limit, and a name that two files of these parts or of the headline define.
 
 In a table the last two columns count the definitions to which the contracts lead, and their lines without comments, imports and blank lines.
-The other definitions of a file needn't be read.
+You needn't read the other definitions of a file.
 """
 
 # The page: its parts, each with what comes before the definitions and their places.
 FIRST = [
     ("A session", """`session` of [sessions.rt](../../crates/ir_debug/src/sessions.rt) reads `input` and writes.
 If no device fails and memory lasts up to the opening lines, its contract says `Session`.
-There is a transcript for the lines up to and with the first that quits, and the writer took its text.
-It doesn't matter how the replaying threads were scheduled.""",
+`Session` says that there is a transcript for the lines up to and including the first that quits, and that the writer took its text.
+It holds however the replaying threads are scheduled.""",
      [("ir_debug", "Session", "Session"), ("ir_debug", "Session", "Transcript"), ("ir_debug", "Session", "SessionText"),
       ("ir_stream", "Answers", "LinesAnswered")]),
-    ("What opens", """The bytes of image and trace are judged.
+    ("What opens", """A session first judges the bytes of image and trace.
 A trace opens a ready machine exactly if some complete run of the guest has it.
 `IsWhole` says that a run is complete and has the trace.
-What a run is (`IsRun`) stands in Run.""",
+Run defines what a run is (`IsRun`).""",
      [("ir_debug", "Machine", "Opens"), ("ir_debug", "Machine", "OpensImage"), ("ir_debug", "Machine", "OpensTrace"),
       ("ir_debug", "Machine", "OpensFit"), ("ir_fit", "Fit", "IsRunOf"), ("ir_runs", "Run", "IsWhole"),
       ("ir_fit", "Fit", "IsRefused"), ("ir_fit", "Fit", "IsVerdictOnTrace")]),
-    ("What a line is answered", """`Desk` is the small machine: the guest with its trace, a position for each thread, points and kept cuts.
+    ("How a line is answered", """`Desk` is the small machine: the guest with its trace, a position for each thread, points and kept cuts.
 Its answers are defined for each run with the trace.
-It is `fresh` before its first answer and after a move, as `may_lack` asks.
-The answer to each command (`CarriesOut`) and what a show reads off the run at the cut (`show_text`) stand in Machine.""",
+It is `fresh` before its first answer and after a move: then fewer commands may lack memory (`may_lack`).
+Machine defines the answer to each command (`CarriesOut`), and what a show reads off the run at the cut (`show_text`).""",
      [("ir_debug", "Machine", "Desk"), ("ir_debug", "Machine", "Kept"), ("ir_debug", "Machine", "Replies"),
       ("ir_debug", "Machine", "RepliesBy"), ("ir_debug", "Machine", "AnswersCommand"), ("ir_debug", "Machine", "AnswersBy"),
       ("ir_debug", "Machine", "AnswersWith"), ("ir_debug", "Machine", "Refuses")]),
@@ -200,14 +200,14 @@ The answer to each command (`CarriesOut`) and what a show reads off the run at t
 
 FIRST_HEAD = """# The headline
 
-The relations by which the [main theorem](theorem.md) is read, word for word as they are in `specs/`.
+The relations that state the [main theorem](theorem.md), word for word as they are in `specs/`.
 Only the marks that make a definition public, or let proofs see through it, are left out.
 `python3 scripts/definitions.py` makes this page.
 
 `A × B` is *and*, `A ⊎ B` is *or*, `A → ⊥` is *not*.
 `(x : T) × P` says that there is an x, and `(x : T) → P` says it of each x.
 A record states each of its fields.
-The rest of the [notation](theorem.md#how-to-read-it) is explained there.
+[The theorem](theorem.md#how-to-read-it) explains the rest of the notation.
 """
 
 FIRST_TAIL = """

@@ -1,23 +1,35 @@
 #!/usr/bin/env python3
-"""`ir shrink` on faults of the examples, and its refusals.
+"""`ir shrink` on faults of the guide, the examples, tests/c_guests and guests of more or fewer entries, and its refusals.
 
-python3 tests/shrinking.py IR [--seeds N]
+python3 tests/shrinking.py IR [--seeds N] [--jobs N] [--table] [FAULT ..]
 
-Of each fault seeds of `ir hunt` are shrunk. What is written has to be what `ir record --order LIST` records, the switches that the line names are those of LIST,
-and what is shrunk once more has no more switches; `ir hunt --shrink` comes to the same. The fewest switches of `ir explore`, which counts other switches, are printed beside them where an outcome
-decides the conditions. The last line is `N passed, M failed`.
+Seeds of `ir hunt` that show a fault are shrunk. What is written has to be what `ir record --order LIST` records, the switches that the line names are those of
+LIST, what is shrunk once more has no more switches, and `ir hunt --shrink` comes to the same. Where `ir explore --until` finds the fault, the fewest switches that it
+names have to be those of the shrunk run in at least nine of ten. It counts changes between entries and tries, of which a run never has more than changes between
+steps. --table prints for each fault the switches of the hunted orders, the shrunk runs and the fewest. Guests in C need riscv64-unknown-elf-gcc, and are
+left out if it isn't there. The last line is `N passed, M failed`.
 """
+import shutil
 import subprocess
 import sys
 import tempfile
+from concurrent.futures import ThreadPoolExecutor
+from dataclasses import dataclass, field
 from pathlib import Path
 
-from lib import Wrong, assembled, examples, finish, parser_of, run, use, wants
+from lib import TOP, Wrong, assembled, examples, finish, parser_of, run, use, wants
 
-# An example, what its fault comes to, and how seeds choose.
-FAULTS = [("lost_update", ["!word 0 0 2"]), ("lost_update", ["stale"])]
+sys.path.append(str(TOP / "bench"))
+
+import faults  # noqa: E402
+
 WAYS = ("walk", "pct:3")
 LOST = "lost_update"
+COMPILER = TOP / "guest" / "ir-cc"
+# How many seeds a hunt may try, how many states `ir explore` may keep, and the seconds of each.
+MOST_SEEDS, MOST_STATES, MOST_SECONDS = 50_000, 400_000, 120
+# In how many of a hundred the shrunk run has the fewest switches.
+AT_LEAST = 90
 # The arguments of a refused command, its status, and what standard error says.
 REFUSED = [
     ("guest.img good.trc none.trc --until '!word 0 0 2'", 5, "the run of TRACE doesn't fulfil '!word 0 0 2'"),
@@ -35,6 +47,85 @@ REFUSED = [
 ]
 
 
+@dataclass(frozen=True)
+class Fault:
+    """A guest, in assembly or as a file in C; the conditions of a run that shows its fault; what `ir explore` looks for, if it can; options of the recording and
+    of ir-cc; and whether the test takes it, or the table alone."""
+
+    name: str
+    source: object
+    conditions: tuple
+    sought: tuple = ()
+    budget: tuple = ()
+    profile: tuple = ()
+    options: tuple = ()
+    long: bool = False
+
+    def until(self, conditions):
+        """Conditions as options."""
+        return [word for condition in conditions for word in ("--until", condition)]
+
+
+def adding(rounds):
+    """Two threads that add 1 to a word, each addition in two entries."""
+    body = faults.reads(faults.get(0, "s1")) + "        addi s1, s1, 1\n" + faults.writes(faults.put(0, "s1"))
+    return faults.of_threads(["main", "main"], f"main:\n{faults.repeated('again', rounds, body)}{faults.call(1, 'zero, 0')}")
+
+
+def sized():
+    """Guests of some 5, 20 and 100 entries a thread."""
+    for rounds in (2, 10, 50):
+        yield Fault(f"a lost update, {2 * rounds} entries a thread", adding(rounds), (f"!word 0 0 {2 * rounds}",), (f"!word 0 0 {2 * rounds}",))
+        fault = (f"word 0 0 {rounds + 1}",)
+        yield Fault(f"check, then act, {2 * rounds + 1} entries", faults.check_then_act(rounds, rounds), fault, fault)
+    for rounds in (1, 5, 25):
+        yield Fault(f"a torn read, {4 * rounds + 1} and {2 * rounds + 1} entries", faults.sequence_lock(1, rounds), ("!word 0 3 0",), ("!word 0 3 0",))
+    for entries in (5, 20, 100):
+        fault = (f"code 1 {entries // 2}",)
+        yield Fault(f"an entry in the middle of {entries}", faults.needle(entries), fault, fault)
+
+
+def in_c():
+    """The guests in C of examples/c and of tests/c_guests, and the ordinary programs of the guide."""
+    small, large = ("--budget", "20000"), ("--budget", "100000")
+    rows = [
+        ("examples/c/bank.c", "!word 0 0 20", {}), ("examples/c/over.c", "end 1 7", {}), ("examples/c/sync.c", "fault", {}),
+        ("examples/c/gas.S", "!word 0 0 11", {}), ("examples/c/buffer.c", "budget", {"sought": ("hang",), "budget": large}),
+        ("examples/c/wide.c", "!code 0 64", {"profile": ("--profile", "2"), "sought": (), "long": True}),
+        ("tests/c_guests/faults/peterson.c", "!word 3 0 2", {}), ("tests/c_guests/faults/bakery.c", "fault", {}),
+        ("tests/c_guests/faults/deque.c", "bad", {}), ("tests/c_guests/faults/queue.c", "fault", {}), ("tests/c_guests/faults/cache.c", "fault", {}),
+        ("tests/c_guests/faults/trap.c", "fault", {}), ("tests/c_guests/faults/stack.c", "end 0 7", {}),
+        ("tests/c_guests/faults/ticket.c", "budget", {"sought": ("hang",), "budget": small}),
+        ("tests/c_guests/faults/condvar.c", "budget", {"sought": ("hang",), "budget": small}),
+        ("tests/threads/programs/account.c", "fault", {}), ("tests/threads/programs/deadlock.c", "budget", {"sought": ("hang",), "budget": small}),
+    ]
+    for path, condition, more in rows:
+        yield Fault(Path(path).name, TOP / path, (condition,), **{"sought": (condition,), **more})
+
+
+def all_faults():
+    """Each fault."""
+    yield Fault(LOST, examples()[LOST], ("!word 0 0 2",), ("!word 0 0 2",))
+    yield Fault(f"{LOST}, a stale write", examples()[LOST], ("stale",))
+    account, checked = ((TOP / "docs" / "guide" / f"{name}.s").read_text() for name in ("account", "checked"))
+    yield Fault("account.s", account, ("word 0 0 0xffffff9c",), ("word 0 0 0xffffff9c",))
+    yield Fault("checked.s", checked, ("bad",), ("bad",), long=True)
+    yield from sized()
+    if shutil.which("riscv64-unknown-elf-gcc"):
+        yield from in_c()
+
+
+@dataclass
+class Row:
+    """What came of a fault: by each way the switches of the hunted orders, of the orders of their traces and of the shrunk runs; and the fewest of `ir explore`, with
+    those of its order."""
+
+    fault: Fault
+    shrunk: dict = field(default_factory=dict)
+    fewest: object = None
+    states: str = ""
+
+
 def shrunk(lines):
     """The switches before and after, the list, and how the search ended, as the first lines say it."""
     words = lines[0].split() if lines else []
@@ -49,34 +140,82 @@ def switches_of(text):
     return sum(one != other for one, other in zip(threads, threads[1:]))
 
 
-def done(words, folder):
+def done(words, folder, **more):
     """The lines of a command that succeeds."""
-    ended = run(words, folder)
+    ended = run(words, folder, **more)
     if ended.returncode:
         raise Wrong(f"{words}: status {ended.returncode}: {ended.stderr.decode()}")
     return ended.stdout.decode().splitlines()
 
 
-def check_fault(folder, name, conditions, seed, way):
-    """One seed of a fault: hunted, shrunk, recorded again, and shrunk once more."""
-    until = [word for condition in conditions for word in ("--until", condition)]
-    if run(["hunt", f"{name}.img", "found.trc", "--seeds", f"{seed}+300", "--by", way, *until], folder).returncode:
-        return
-    before, after, order, end = shrunk(done(["shrink", f"{name}.img", "found.trc", "least.trc", *until], folder))
-    wants(f"end of {name} {seed} {way}", end, "minimal")
+def image_of(folder, fault):
+    """The image of a fault's guest, or its ELF file."""
+    if isinstance(fault.source, str):
+        assembled(folder, "guest", fault.source)
+        return "guest.img"
+    ended = subprocess.run([sys.executable, COMPILER, fault.source, *fault.options, "-o", "guest.elf"], cwd=folder, check=False, capture_output=True, text=True, timeout=300)
+    wants(f"{fault.name}: ir-cc", (ended.returncode, ended.stderr), (0, ""))
+    return "guest.elf"
+
+
+def check_seed(folder, image, fault, seed, way):
+    """A seed from this one on that shows the fault: hunted, shrunk, recorded again, and shrunk once more. Gives the seed, and the switches of the hunted order, of the
+    order of its trace and of the shrunk run; nothing if no seed shows it."""
+    until, options, name = fault.until(fault.conditions), [*fault.profile, *fault.budget], f"{fault.name} {way} {seed}"
+    hunt = ["hunt", image, "found.trc", "--by", way, *options, *until]
+    ended = run([*hunt, "--seeds", f"{seed}+{MOST_SEEDS}", "--seconds", str(MOST_SECONDS)], folder, timeout=3 * MOST_SECONDS)
+    if ended.returncode:
+        return None
+    _, _, seed, _, hunted = ended.stdout.decode().splitlines()[0].split()
+    before, after, order, end = shrunk(done(["shrink", image, "found.trc", "least.trc", *until], folder, timeout=600))
+    wants(f"end of {name}", end, "minimal")
     wants(f"switches of {order}", switches_of(order), after)
     if after > before:
-        raise Wrong(f"{name} {seed} {way}: {before} to {after}")
-    done(["record", f"{name}.img", "again.trc", "--order", order], folder)
+        raise Wrong(f"{name}: {before} to {after}")
+    done(["record", image, "again.trc", "--order", order, *options], folder)
     wants(f"trace of {order}", (folder / "again.trc").read_bytes(), (folder / "least.trc").read_bytes())
-    lines = done(["hunt", f"{name}.img", "both.trc", "--seeds", f"{seed}+300", "--by", way, "--shrink", *until], folder)
+    lines = done(["hunt", image, "both.trc", "--by", way, *options, *until, "--seeds", f"{seed}+1", "--shrink"], folder, timeout=600)
     begin = next(i for i, line in enumerate(lines) if line.startswith("shrunk "))
-    wants(f"hunt --shrink of {name} {seed} {way}", shrunk(lines[begin:]), (before, after, order, end))
-    wants(f"its trace of {name} {seed} {way}", (folder / "both.trc").read_bytes(), (folder / "least.trc").read_bytes())
-    more = shrunk(done(["shrink", f"{name}.img", "least.trc", "again.trc", *until], folder))[1]
+    wants(f"hunt --shrink of {name}", shrunk(lines[begin:]), (before, after, order, end))
+    wants(f"its trace of {name}", (folder / "both.trc").read_bytes(), (folder / "least.trc").read_bytes())
+    more = shrunk(done(["shrink", image, "least.trc", "again.trc", *until], folder, timeout=600))[1]
     if more > after:
-        raise Wrong(f"{name} {seed} {way}: {after}, and once more {more}")
-    print(f"{name} {' and '.join(conditions)} {way} {seed}: {before} to {after}", flush=True)
+        raise Wrong(f"{name}: {after}, and once more {more}")
+    return int(seed), switches_of(hunted), before, after, order
+
+
+def fewest_of(folder, image, fault):
+    """The fewest switches of a run that shows the fault, if `ir explore` finds it, with those of its order, and how its search ended."""
+    if not fault.sought:
+        return None, ""
+    try:
+        ended = run(["explore", image, "fewest.trc", *fault.profile, *fault.until(fault.sought), "--states", str(MOST_STATES)], folder, timeout=2 * MOST_SECONDS)
+    except subprocess.TimeoutExpired:
+        return None, "time"
+    lines = ended.stdout.decode().splitlines()
+    told = next((line.split() for line in lines if line.startswith(("found ", "hang "))), None)
+    last = next((line for line in reversed(lines) if line.startswith(("finished", "stopped", "found"))), "")
+    if ended.returncode or told is None:
+        return None, last
+    return (int(told[told.index("switches") + 1]), switches_of(told[-1])), last
+
+
+def row_of(fault, seeds):
+    """What comes of a fault, over so many seeds of each way."""
+    row = Row(fault)
+    with tempfile.TemporaryDirectory() as place:
+        folder = Path(place)
+        image = image_of(folder, fault)
+        row.fewest, row.states = fewest_of(folder, image, fault)
+        for way in WAYS:
+            seed = 0
+            for _ in range(seeds):
+                found = check_seed(folder, image, fault, seed, way)
+                if found is None:
+                    break
+                row.shrunk.setdefault(way, []).append(found)
+                seed = found[0] + 1
+    return row
 
 
 def check_refused(folder, row):
@@ -90,29 +229,73 @@ def check_refused(folder, row):
     wants(f"files after {words}", {path: path.read_bytes() for path in folder.glob("*.trc")}, kept)
 
 
-def main():
+def span(numbers):
+    """Numbers, from the least to the most."""
+    numbers = sorted(numbers)
+    return "" if not numbers else str(numbers[0]) if numbers[0] == numbers[-1] else f"{numbers[0]} to {numbers[-1]}"
+
+
+def print_table(rows):
+    """The table of the faults."""
+    print("| Fault | Hunted by walk | Shrunk | Hunted by pct:3 | Shrunk | Fewest |\n|---|---|---|---|---|---|")
+    for row in rows:
+        cells = [span(found[place] for found in row.shrunk.get(way, [])) for way in WAYS for place in (1, 3)]
+        print(f"| {row.fault.name} | {' | '.join(cells)} | {row.fewest[0] if row.fewest else ''} |", flush=True)
+
+
+def told_seeds(row):
+    """The seeds of a fault, a line each."""
+    for way, found in row.shrunk.items():
+        for seed, hunted, before, after, _ in found:
+            fewest = f", fewest {row.fewest[0]} (its order {row.fewest[1]})" if row.fewest else f" {row.states}"
+            print(f"{row.fault.name} {way} {seed}: {hunted}, {before} to {after}{fewest}", flush=True)
+
+
+def compared(rows):
+    """How many shrunk runs have the fewest switches, and of how many these are known. A hang has no run that could be compared."""
+    pairs = [(after, row.fewest[0]) for row in rows if row.fewest and row.fault.sought != ("hang",) for found in row.shrunk.values() for *_, after, _ in found]
+    return sum(after <= fewest for after, fewest in pairs), len(pairs)
+
+
+def arguments():
+    """What is asked for."""
     parser = parser_of(__doc__)
-    parser.add_argument("--seeds", type=int, default=4, help="how many seeds of each fault and way")
-    asked = parser.parse_args()
+    parser.add_argument("--seeds", type=int, default=3, help="how many seeds of each fault and way")
+    parser.add_argument("--table", action="store_true", help="prints the table of the faults, the long ones too")
+    parser.add_argument("faults", nargs="*", metavar="FAULT", help="faults that are shrunk; all if none is named")
+    return parser.parse_args()
+
+
+def tried(check):
+    """What a check gives, or what it found wrong."""
+    try:
+        return check()
+    except (Wrong, subprocess.TimeoutExpired, OSError, ValueError) as wrong:
+        print(wrong, flush=True)
+        return None
+
+
+def main():
+    asked = arguments()
     use(asked.program)
-    passed, failed = 0, 0
+    chosen = [fault for fault in all_faults() if fault.name in asked.faults or (not asked.faults and (asked.table or not fault.long))]
     with tempfile.TemporaryDirectory() as place:
-        folder, sources = Path(place), examples()
-        for name in {name for name, _ in FAULTS}:
-            assembled(folder, name, sources[name])
-        assembled(folder, "guest", sources[LOST])
-        assembled(folder, "other", sources["counter"])
+        folder = Path(place)
+        assembled(folder, "guest", examples()[LOST])
+        assembled(folder, "other", examples()["counter"])
         done("record guest.img good.trc --order 0x200,1x200", folder)
-        checks = [lambda row=row: check_refused(folder, row) for row in REFUSED]
-        checks += [lambda f=f, s=s, w=w: check_fault(folder, *f, 1000 * s, w) for f in FAULTS for w in WAYS for s in range(asked.seeds)]
-        for check in checks:
-            try:
-                check()
-                passed += 1
-            except (Wrong, subprocess.TimeoutExpired, OSError) as wrong:
-                failed += 1
-                print(wrong, flush=True)
-    sys.exit(finish(passed, failed))
+        results = [tried(lambda row=row: check_refused(folder, row) or True) for row in REFUSED]
+    with ThreadPoolExecutor(asked.jobs) as pool:
+        rows = list(pool.map(lambda fault: tried(lambda: row_of(fault, asked.seeds)), chosen))
+    known = [row for row in rows if row is not None]
+    for row in known:
+        told_seeds(row)
+    if asked.table:
+        print_table(known)
+    equal, count = compared(known)
+    print(f"{equal} of {count} have the fewest switches")
+    results += [*rows, count == 0 or 100 * equal >= AT_LEAST * count or None]
+    sys.exit(finish(sum(it is not None for it in results), sum(it is None for it in results)))
 
 
 if __name__ == "__main__":

@@ -19,23 +19,24 @@ const MOST_SECONDS: u64 = 1_000_000;
 
 /// What follows the help of `ir shrink`.
 pub const SHRINK_AFTER: &str =
-    "TRACE is a recording of IMAGE that fulfils each COND, as `ir hunt` or `ir record --order` wrote it. A run is looked for that fulfils
-each COND too, with fewer context switches. A context switch is a step of another thread than the one that took the step before.
-First an order of the threads is made that TRACE allows, with few switches; it is recorded, and has to give TRACE. Then turns are
-left out, and turns of one thread are drawn together, as long as the run still fulfils each COND with fewer switches: by halves
-first, then by quarters, and at last turn by turn. What is left out runs behind the others, each thread as far as it can.
-`shrunk S0 to S1 order LIST` is printed, of S0 switches and of S1 that are left. LIST is for `ir record --order`. Then comes one of
-  minimal              a last pass has tried each item of LIST: where it is left out, or made endless, with the next item or without
-                       it, the run doesn't fulfil each COND, or has no fewer switches. There may be other runs with fewer
+    "TRACE is a recording of IMAGE that fulfils each COND, as `ir hunt` or `ir record --order` wrote it. `ir` looks for a run that
+fulfils each COND too and has fewer context switches. A step is a context switch if another thread took the step before it.
+First `ir` makes an order of the threads that follows TRACE with few switches. Recorded by it, the guest has to give TRACE again.
+Then `ir` leaves turns out and joins turns of one thread, as long as the run fulfils each COND with fewer switches: half of the
+turns at once, then a quarter, and so on down to single turns. What is left out runs at the end, each thread as far as it can.
+At a terminal standard error shows how many switches are left. The first line is `shrunk S0 to S1 order LIST`: the run had S0
+switches and has S1 now, and `ir record --order LIST` records it. The next line is one of
+  minimal              a last pass tried each item of LIST: left out, or made endless, with the next item or without it, the
+                       run doesn't fulfil each COND, or has no fewer switches. Another order may have fewer
   stopped seconds      the time of `--seconds` was over before that was known
-OUT is written, and the lines of `ir record` follow. COND is a single argument: one of these, `!` before one to negate it, or
-several with ` | ` between them, of which one has to hold. `ir hunt --help` says more of them:
+Then OUT is written, and the lines of `ir record` follow. COND is a single argument: one of these, `!` before it to negate it, or
+several with ` | ` between them if any of them will do. `ir hunt --help` says more of them:
    end T E, code T V, word O I V, out T TEXT, fault, bad, budget, stale
-S and FILE have to be those with which TRACE was recorded, and its calls of CLOCK have to be counted: threads that ran on real ones
-have another CLOCK, if they call it. B and P are those of TRACE. OUT is TRACE only for those who want to lose TRACE: it is refused.
+S and FILE have to be those of the recording, which has to count its calls of CLOCK: a recording by real threads that call CLOCK
+can't be shrunk. B and P are those of TRACE. OUT may not be TRACE.
 Exit status: 0 shrunk, 1 a file that can't be read or written or is too long, 2 bad arguments, 3 a refused image or trace, or a
 COND about what the guest hasn't, 4 no run of IMAGE has TRACE, or none with this S and FILE, 5 the run of TRACE doesn't fulfil a COND,
-which is said, 6 the time was over: OUT is the best so far.
+and a line says which, 6 the time was over: OUT is the best run so far.
 ";
 
 /// What the help says of it, beside its arguments.

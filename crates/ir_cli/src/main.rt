@@ -38,6 +38,21 @@ fn complain(rt: &impl Eprint, why: &str) {
     let _ = rt.eprintln(format_args!("ir: {why}"));
 }
 
+// The arguments, of which the first is the program's name. If there are none, it is reported why, and the exit status is answered.
+fn words_of(rt: &HostRuntime) -> Result<Vec<String>, ExitStatus> {
+    match collected(rt) {
+        Ok(words) => Ok(words),
+        Err(error) if error.kind() == ErrorKind::InvalidData => {
+            complain(rt, "an argument is no text");
+            Err(ExitStatus::BadArguments)
+        }
+        Err(_) => {
+            complain(rt, "memory ran out");
+            Err(ExitStatus::Failed)
+        }
+    }
+}
+
 // Does what the arguments ask for, over standard streams and the files of the system; the exit status. Threads that record
 // or replay are those of the second handle. What is known of the reader of standard output is noted.
 fn run<R: Threads + Wait + Sync + Clock + Eprint + AllocGlobal>(
@@ -46,16 +61,9 @@ fn run<R: Threads + Wait + Sync + Clock + Eprint + AllocGlobal>(
     reader: &Reader,
 ) -> ExitStatus {
     keep_heap(rt.alloc());
-    let words = match collected(rt) {
+    let words = match words_of(rt) {
         Ok(words) => words,
-        Err(error) if error.kind() == ErrorKind::InvalidData => {
-            complain(rt, "an argument is no text");
-            return ExitStatus::BadArguments;
-        }
-        Err(_) => {
-            complain(rt, "memory ran out");
-            return ExitStatus::Failed;
-        }
+        Err(status) => return status,
     };
     let Ok(input) = BufReader::new(rt.alloc(), rt.reader()) else {
         complain(rt, "memory ran out");

@@ -1,4 +1,5 @@
 mod Explored
 mod Listed
+mod Stored
 mod Versions
 mod Written

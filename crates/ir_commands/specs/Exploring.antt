@@ -8,10 +8,16 @@ use Rattle.ir_files.specs.declared.exit_status.ExitStatus.{ExitStatus}
 use Rattle.ir_explore.specs.Plan.{ExplorePlan}
 use Rattle.ir_explore.specs.Faults.{TellsSearch, ToldNothing, explore_fault_status, explore_fault_words}
 use Rattle.ir_explore.specs.declared.fault.ExploreFault.{ExploreFault}
+use Rattle.ir_files.specs.declared.exit_status.ExitStatus.TheVariants as status
 use Rattle.ir_within.specs.Aspects.{Aspects}
+use Rattle.ir_within.specs.Classes.{TellsClasses, HasNoClasses}
+use Rattle.ir_within.specs.Faults.{Comparison, TellsWithin, ToldNone, AreFaultWords, within_fault_status}
+use Rattle.ir_within.specs.declared.fault.WithinFault.{WithinFault}
 use Rattle.ir_arguments.specs.declared.explore.ExploreArguments.{ExploreArguments}
+use Rattle.ir_arguments.specs.declared.within.ClassesArguments.{ClassesArguments}
 use Rattle.ir_arguments.specs.declared.within.Counted.{Counted}
-use Rattle.ir_commands.specs.Files.{IsFileIn, IsImageIn}
+use Rattle.ir_arguments.specs.declared.within.WithinArguments.{WithinArguments}
+use Rattle.ir_commands.specs.Files.{IsFileIn, IsImageIn, IsStatusOfNone}
 use Rattle.ir_commands.specs.Printing.{Paths}
 
 -- these are the bytes that each thread reads: those of the file that is named, and none without a file
@@ -52,3 +58,53 @@ counted_asked counted = record { outputs = counted.outputs; ends = counted.ends;
 abbrev pub LacksCounted : List ℕ → Counted → Type 0
 LacksCounted image counted = (guest : Guest) × (guest_at image ≡ Ok guest) × IsSomeAnd counted.objects (λ objects.
     (o : ℕ) × Contains objects.items o × (object_count guest ≤ o))
+
+-- the guest of the image in the file lacks an object whose words count
+abbrev pub LacksIn : Option (List ℕ) → Counted → Type 0
+LacksIn known counted = (image : List ℕ) × IsImageIn known image × LacksCounted image counted
+
+-- the outcomes of the guest of these bytes were printed by classes; or why they weren't, or not all of them, which is reported
+abbrev pub TellsByClass : List ℕ → ExplorePlan → Aspects → ExitStatus → Writer → Writer → Type 0
+TellsByClass image plan aspects answered out faults = TellsClasses image plan aspects answered out
+    ⊎ ((e : ExploreFault) × (answered ≡ explore_fault_status e) × HasNoClasses e image plan aspects out
+    × Reports faults (fault_text (explore_fault_words e)))
+
+-- the image and the input were read of their files, and the outcomes of the image's guest printed by classes
+pub record ExploresClasses (at : Paths) (arguments : ClassesArguments) (answered : ExitStatus) (out faults : Writer) : Type 0 where
+  pub image : List ℕ
+  pub input : List ℕ
+  pub plan : ExplorePlan
+  pub is_image : IsImageIn (at (string_bytes arguments.explore.image)) image
+  pub is_input : IsInput at arguments.explore.input input
+  pub is_plan : IsPlanOf arguments.explore input plan
+  pub tells : TellsByClass image plan (counted_asked arguments.counted) answered out faults
+
+-- the exit status where no classes are printed: the image isn't taken, or its guest lacks an object whose words count
+abbrev pub IsStatusOfNoClasses : Paths → ClassesArguments → ExitStatus → Type 0
+IsStatusOfNoClasses at arguments answered = IsStatusOfNone (at (string_bytes arguments.explore.image)) answered
+    ⊎ ((answered ≡ status.BadArguments) × LacksIn (at (string_bytes arguments.explore.image)) arguments.counted)
+
+-- the outcomes of two guests were compared; or why they weren't, which is reported
+abbrev pub TellsComparison : Comparison → ExitStatus → Writer → Writer → Type 0
+TellsComparison c answered out faults = TellsWithin c answered out
+    ⊎ ((e : WithinFault) × (answered ≡ within_fault_status e) × ToldNone e c out
+    × ((words : List ℕ) × AreFaultWords e words × Reports faults (fault_text words)))
+
+-- both images and the input were read of their files, and the outcomes of the images' guests compared
+pub record Compares (at : Paths) (arguments : WithinArguments) (answered : ExitStatus) (out faults : Writer) : Type 0 where
+  pub image : List ℕ
+  pub other : List ℕ
+  pub input : List ℕ
+  pub plan : ExplorePlan
+  pub is_image : IsImageIn (at (string_bytes arguments.explore.image)) image
+  pub is_other : IsImageIn (at (string_bytes arguments.other)) other
+  pub is_input : IsInput at arguments.explore.input input
+  pub is_plan : IsPlanOf arguments.explore input plan
+  pub tells : TellsComparison (record { image = image; other = other; plan = plan; aspects = counted_asked arguments.counted }) answered out faults
+
+-- the exit status where nothing is compared: an image isn't taken, or its guest lacks an object whose words count
+abbrev pub IsStatusOfNoComparison : Paths → WithinArguments → ExitStatus → Type 0
+IsStatusOfNoComparison at arguments answered = IsStatusOfNone (at (string_bytes arguments.explore.image)) answered
+    ⊎ (IsStatusOfNone (at (string_bytes arguments.other)) answered
+    ⊎ ((answered ≡ status.BadArguments)
+    × (LacksIn (at (string_bytes arguments.explore.image)) arguments.counted ⊎ LacksIn (at (string_bytes arguments.other)) arguments.counted)))

@@ -1,10 +1,17 @@
 //! `ir asm`: a source in a file is assembled into another.
 
-ghost use Rattle.std.specs.Prelude.{◌≡◌, false};
+ghost use Rattle.std.specs.Prelude.{◌≡◌, ◌⊎◌, List, true, false};
+ghost use Rattle.ir_files.specs.declared.exit_status.ExitStatus.TheVariants as exit;
+ghost use Rattle.ir_make.specs.Mapping.{label_symbols};
+ghost use Rattle.ir_symbols.specs.Maps.{map_text};
+ghost use Rattle.ir_symbols.specs.Symbols.{Symbol};
+ghost use Rattle.ir_symbols.specs.Tables.{IsSortOf};
 ghost use Rattle.std.specs.List.{All};
+ghost use Rattle.ir_files.specs.Given.{IsStored};
 ghost use Rattle.ir_make.specs.Mapping.{IsNamed};
+ghost use Rattle.ir_commands.specs.Writing.{Assembles, Makes, RefusesSource};
 
-use crate::files::{bytes_of, is_lost, put_in_place, shown_path};
+use crate::files::{bytes_of, is_lost, shown_path, told_of_file};
 use crate::maps::labels_into;
 use ir_arguments::AssembleArguments;
 use ir_asm::Labels;
@@ -45,6 +52,8 @@ fn put_labels<D: Folder, E: Sink>(
     faults: &mut E,
 ) -> ExitStatus
     requires { All IsNamed labels.now }
+    ensures status { (result ≡ exit.Done) ⊎ ((result ≡ exit.Failed) ⊎ (result ≡ exit.BadArguments)) }
+    ensures done { result ≡ exit.Done → (table : List Symbol) × IsSortOf (label_symbols labels.now) table × IsStored (D.knows folder.now) (D.was_put folder.now) map.now (map_text table) }
 {
     let would = "MAP would be written over IMAGE";
     if is_lost(folder, faults, would, image, map) {
@@ -62,6 +71,8 @@ pub fn assemble_file<D: Folder, E: Sink>(
     faults: &mut E,
 ) -> ExitStatus
     requires reports { E.broken faults.old ≡ false }
+    ensures { Makes (Assembles (D.bytes_at folder.now) (λ place bytes. IsStored (D.knows folder.now) (D.was_put folder.now) place bytes) arguments.now)
+        (RefusesSource (D.bytes_at folder.now) arguments.now) result }
 {
     if loses_file(folder, faults, arguments) {
         return ExitStatus::BadArguments;
@@ -74,9 +85,9 @@ pub fn assemble_file<D: Folder, E: Sink>(
     let explained = (explains || arguments.explain).then_some(shown_path(source, "SOURCE"));
     let labels = match asm_run(alloc, bytes.as_slice(), explained, &mut file, faults) {
         Ok(labels) => labels,
-        Err(status) => return put_in_place(&mut file, status, source, faults),
+        Err(status) => return told_of_file(&file, status, source, faults),
     };
-    let status = put_in_place(&mut file, ExitStatus::Done, source, faults);
+    let status = told_of_file(&file, ExitStatus::Done, source, faults);
     match &arguments.map {
         Some(map) if status == ExitStatus::Done => {
             let image = arguments.image.as_str();

@@ -1,8 +1,10 @@
 //! `ir elf`: a program in an ELF file is made the image of a guest in another.
 
 ghost use Rattle.std.specs.Prelude.{◌≡◌, false};
+ghost use Rattle.ir_files.specs.Given.{IsStored};
+ghost use Rattle.ir_commands.specs.Writing.{Converts, Makes, RefusesElf};
 
-use crate::files::{bytes_of, is_lost, put_in_place, say, shown_path};
+use crate::files::{bytes_of, is_lost, say, shown_path, told_of_file};
 use ir_arguments::ElfArguments;
 use ir_elf::own_bytes;
 use ir_files::{ExitStatus, Folder, MOST_FILE_BYTES, WholeFile};
@@ -31,6 +33,8 @@ pub fn convert_file<D: Folder, E: Sink>(
     faults: &mut E,
 ) -> ExitStatus
     requires reports { E.broken faults.old ≡ false }
+    ensures { Makes (Converts (D.bytes_at folder.now) (λ place bytes. IsStored (D.knows folder.now) (D.was_put folder.now) place bytes) arguments.now)
+        (RefusesElf (D.bytes_at folder.now) arguments.now) result }
 {
     let elf = arguments.elf.as_str();
     let image = arguments.image.as_str();
@@ -49,7 +53,7 @@ pub fn convert_file<D: Folder, E: Sink>(
     };
     let explained = (explains || arguments.explain).then_some(shown_path(elf, "ELF"));
     let status = elf_run(alloc, bytes.as_slice(), explained, &mut file, faults);
-    let status = put_in_place(&mut file, status, elf, faults);
+    let status = told_of_file(&file, status, elf, faults);
     if status == ExitStatus::Done && explained.is_some() {
         tell_own_bytes(alloc, elf, bytes.as_slice(), faults);
     }

@@ -57,13 +57,8 @@ pub fn events_file<D: Folder, O: Sink, E: Sink>(
     let Some(file) = bytes_of(alloc, folder, faults, path, MOST_FILE_BYTES) else {
         return ExitStatus::Failed;
     };
-    let Some(trace) = bytes_of(
-        alloc,
-        folder,
-        faults,
-        arguments.trace.as_str(),
-        MOST_FILE_BYTES,
-    ) else {
+    let of_trace = arguments.trace.as_str();
+    let Some(trace) = bytes_of(alloc, folder, faults, of_trace, MOST_FILE_BYTES) else {
         return ExitStatus::Failed;
     };
     let symbols = match names_in(alloc, folder, faults, &file, &arguments.map) {
@@ -74,12 +69,6 @@ pub fn events_file<D: Folder, O: Sink, E: Sink>(
         Ok(image) => image,
         Err(status) => return status,
     };
-    of_run(
-        alloc,
-        image.as_slice(),
-        trace.as_slice(),
-        &symbols,
-        out,
-        faults,
-    )
+    let (image, trace) = (image.as_slice(), trace.as_slice());
+    of_run(alloc, image, trace, &symbols, out, faults)
 }

@@ -125,6 +125,7 @@ pub fn is_lost<D: Folder, E: Sink>(
     written: &str,
 ) -> bool
     ensures kept { result ≡ false → faults.new ≡ faults.old }
+    ensures told { result ≡ true → E.broken faults.old ≡ false → TellsFault (writer_of (E.written faults.old) (E.written faults.new) (E.broken faults.new)) }
 {
     let is_lost = loses(
         written,
@@ -147,16 +148,16 @@ pub fn shown_path<'a>(path: &'a str, called: &'a str) -> &'a str {
     }
 }
 
-// Puts a file in its place if all of it was written, and says what failed; the exit status.
-pub fn put_in_place<W: WholeSink, E: Sink>(
-    file: &mut W,
+// Says what failed of writing a file; the exit status.
+pub fn told_of_file<W: WholeSink, E: Sink>(
+    file: &W,
     status: ExitStatus,
     read: &str,
     faults: &mut E,
-) -> ExitStatus {
-    if status == ExitStatus::Done {
-        let _ = file.finish();
-    }
+) -> ExitStatus
+    ensures same { W.broken file.now ≡ false → result ≡ status }
+    ensures failed { W.broken file.now ≡ true → result ≡ exit.Failed }
+{
     if file.failed() {
         say(faults, file.name(), " can't be written: ", file.why());
         return ExitStatus::Failed;

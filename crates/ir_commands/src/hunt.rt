@@ -1,17 +1,26 @@
 //! `ir hunt`: the first of many seeds whose run fulfils conditions is recorded.
 
-ghost use Rattle.std.specs.Prelude.{◌≡◌, false};
+ghost use Rattle.std.specs.Prelude.{◌≡◌, ◌≢◌, ◌++◌, ℕ, List, IfErr, IfOk, false};
+ghost use Rattle.std.specs.Io.KnownBytes.{Appends};
+ghost use Rattle.ir_files.specs.Given.{IsStored};
+ghost use Rattle.ir_files.specs.Writers.{writer_of};
+ghost use Rattle.ir_files.specs.declared.exit_status.ExitStatus.TheVariants as exit;
+ghost use Rattle.ir_hunt.specs.Hunted.{IsFinding};
+ghost use Rattle.ir_hunt.specs.Lines.{found_line};
+ghost use Rattle.ir_record_command.specs.Recording.{recording_lines};
+ghost use Rattle.ir_trace.specs.Encoding.{encoding};
+ghost use Rattle.ir_commands.specs.Searching.{HuntsFile};
 
 use crate::conditions::{conditions_of, copied_texts};
 use crate::ends::recorded_status;
 use crate::files::{image_in, say};
 use crate::recording::{Places, RecordingPaths, beside_of, loses_input, record_files};
-use crate::shrink::{shrunk_into, shrunk_status};
+use crate::shrink::{plan_like, shrunk_into, shrunk_status};
 use crate::surroundings::Surroundings;
 use ir_arguments::HuntArguments;
 use ir_files::{ExitStatus, Folder};
 use ir_hunt::{HuntPlan, hunt_run};
-use ir_record_command::{ParsedImage, RecordPlan};
+use ir_record_command::ParsedImage;
 use ir_shrink::{GivenRun, ShrinkPlan, Shrunk};
 use ir_stream::Sink;
 use ir_trace::Trace;
@@ -45,6 +54,11 @@ where
     E: Sink,
     requires writes { O.broken out.old ≡ false }
     requires reports { E.broken faults.old ≡ false }
+    ensures found { IfOk result (λ recorded. (left_out seed : ℕ) × (list : List ℕ) × (printed : List (List ℕ))
+        × IsFinding image.now plan.now left_out seed list recorded printed
+        × IsStored (D.knows around.now.folder.now) (D.was_put around.now.folder.now) places.trace.now (encoding recorded)
+        × Appends (O.written out.old) (O.written out.new) (found_line seed list ++ recording_lines recorded)) }
+    ensures undone { IfErr result (λ status. status ≢ exit.Done) }
 {
     let Surroundings { rt, folder, .. } = *around;
     let mut files = record_files(rt.alloc(), folder, places.trace, places.outputs);
@@ -60,7 +74,7 @@ struct Hunted<'a, 'i> {
 }
 
 // Shrinks a run that was found, whose trace and outputs go into files at these paths, over what was found.
-fn shrunk<R, D, G, O, E>(
+fn shrunk<R: Clock + Eprint + AllocGlobal, D: Folder, G, O: Sink, E: Sink>(
     around: &Surroundings<'_, R, D, G>,
     places: Places<'_, '_>,
     hunted: Hunted<'_, '_>,
@@ -68,11 +82,6 @@ fn shrunk<R, D, G, O, E>(
     out: &mut O,
     faults: &mut E,
 ) -> Result<Shrunk, ExitStatus>
-where
-    R: Clock + AllocGlobal,
-    D: Folder,
-    O: Sink,
-    E: Sink,
     requires writes { O.broken out.old ≡ false }
     requires reports { E.broken faults.old ≡ false }
 {
@@ -87,17 +96,12 @@ where
         return Err(ExitStatus::Failed);
     };
     let shrinking = ShrinkPlan {
-        record: RecordPlan {
-            order: None,
-            budget: plan.record.budget,
-            random: plan.record.random,
-            input: plan.record.input,
-            profile: plan.record.profile,
-        },
+        record: plan_like(found, plan.record.random, plan.record.input),
         conditions: plan.conditions,
         texts: texts.as_slice(),
         stale: plan.stale,
         seconds: plan.seconds,
+        is_shown: plan.is_shown,
     };
     let run = GivenRun {
         image,
@@ -116,10 +120,12 @@ fn ended<R, D, G, O, E>(
     faults: &mut E,
 ) -> ExitStatus
 where
-    R: Clock + AllocGlobal,
+    R: Clock + Eprint + AllocGlobal,
     D: Folder,
     O: Sink,
     E: Sink,
+    ensures kept { hunted.arguments.now.shrinks ≡ false → out.new ≡ out.old }
+    ensures stopped { hunted.arguments.now.shrinks ≡ false → IfErr found (λ status. result ≡ status) }
 {
     let alloc = around.rt.alloc();
     let explains = hunted.plan.is_shown;
@@ -135,20 +141,18 @@ where
 }
 
 // Hunts for a run of a guest; the exit status.
-fn hunted_by<R, D, G, O, E>(
+fn hunted_by<R: Threads + Sync + Clock + Eprint + AllocGlobal, D: Folder, G, O: Sink, E: Sink>(
     around: &Surroundings<'_, R, D, G>,
     arguments: &HuntArguments,
     explains: bool,
     out: &mut O,
     faults: &mut E,
 ) -> Result<ExitStatus, ExitStatus>
-where
-    R: Threads + Sync + Clock + Eprint + AllocGlobal,
-    D: Folder,
-    O: Sink,
-    E: Sink,
     requires writes { O.broken out.old ≡ false }
     requires reports { E.broken faults.old ≡ false }
+    ensures done { IfOk result (λ answered. HuntsFile (D.bytes_at around.now.folder.now) (λ place bytes. IsStored (D.knows around.now.folder.now) (D.was_put around.now.folder.now) place bytes)
+        arguments.now answered (writer_of (O.written out.old) (O.written out.new) (O.broken out.new))) }
+    ensures undone { IfErr result (λ status. status ≢ exit.Done) }
 {
     let (alloc, folder) = (around.rt.alloc(), around.folder);
     let paths = paths(arguments);
@@ -159,10 +163,7 @@ where
     let image = ParsedImage::new(alloc, image.as_slice());
     let conditions = conditions_of(alloc, faults, &image, arguments.until.as_slice())?;
     let (outputs, input) = beside_of(alloc, folder, faults, &paths, &image)?;
-    let places = Places {
-        trace: paths.trace,
-        outputs: outputs.as_ref().map(|each| each.as_slice()),
-    };
+    let places = Places::new(paths.trace, &outputs);
     let plan = HuntPlan {
         record: arguments.options.plan(None, input.as_slice()),
         way: arguments.way,
@@ -198,6 +199,8 @@ where
     E: Sink,
     requires writes { O.broken out.old ≡ false }
     requires reports { E.broken faults.old ≡ false }
+    ensures { HuntsFile (D.bytes_at around.now.folder.now) (λ place bytes. IsStored (D.knows around.now.folder.now) (D.was_put around.now.folder.now) place bytes)
+        arguments.now result (writer_of (O.written out.old) (O.written out.new) (O.broken out.new)) }
 {
     match hunted_by(around, arguments, explains, out, faults) {
         Ok(status) | Err(status) => status,

@@ -1,16 +1,19 @@
 //! Maps of names: those that are read, and the one of a source's labels.
 
-ghost use Rattle.std.specs.Prelude.{◌≡◌, ◌⊎◌, [], OnOk, OnErr, IfOk, IfErr, false, if◌then◌else◌};
+ghost use Rattle.std.specs.Prelude.{◌≡◌, ◌⊎◌, List, [], OnOk, OnErr, IfOk, IfErr, false, if◌then◌else◌};
 ghost use Rattle.std.specs.List.{All};
 ghost use Rattle.ir_symbols.specs.Tables.{IsSortOf};
 ghost use Rattle.ir_elf_symbols.specs.Symbols.{elf_symbols};
-ghost use Rattle.ir_make.specs.Mapping.{IsNamed};
+ghost use Rattle.ir_files.specs.Given.{IsStored};
+ghost use Rattle.ir_make.specs.Mapping.{IsNamed, label_symbols};
+ghost use Rattle.ir_symbols.specs.Maps.{map_text};
+ghost use Rattle.ir_symbols.specs.Symbols.{Symbol};
 ghost use Rattle.ir_make.specs.Opening.{is_elf};
 ghost use Rattle.ir_files.specs.Writers.{writer_of};
 ghost use Rattle.ir_files.specs.declared.exit_status.ExitStatus.TheVariants as exit;
 ghost use Rattle.ir_commands.specs.Files.{AreNames, IsStatusOfNoNames, map_status, TellsFault};
 
-use crate::files::{bytes_of, put_in_place, say};
+use crate::files::{bytes_of, say, told_of_file};
 use ir_asm::Labels;
 use ir_elf_symbols::elf_symbols;
 use ir_files::{ExitStatus, Folder, MOST_FILE_BYTES, WholeFile};
@@ -92,8 +95,10 @@ pub fn labels_into<D: Folder, E: Sink>(
     faults: &mut E,
 ) -> ExitStatus
     requires { All IsNamed labels.now }
+    ensures status { (result ≡ exit.Done) ⊎ (result ≡ exit.Failed) }
+    ensures done { result ≡ exit.Done → (table : List Symbol) × IsSortOf (label_symbols labels.now) table × IsStored (D.knows folder.now) (D.was_put folder.now) path.now (map_text table) }
 {
     let mut file = WholeFile::new(alloc, folder, path);
     let status = map_run(alloc, labels, &mut file);
-    put_in_place(&mut file, status, path, faults)
+    told_of_file(&file, status, path, faults)
 }

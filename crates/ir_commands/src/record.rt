@@ -1,6 +1,15 @@
 //! `ir record`: a guest in a file is recorded, its trace and what its threads print go into others.
 
-ghost use Rattle.std.specs.Prelude.{◌≡◌, OnOk, false};
+ghost use Rattle.std.specs.Prelude.{◌≡◌, ◌⊎◌, ◌++◌, ◌∷◌, ℕ, List, [], Some, IfErr, IfOk, OnErr, OnOk, MatchOption, true, false, option_map};
+ghost use Rattle.std.specs.String.{string_bytes};
+ghost use Rattle.ir_files.specs.Given.{IsStored};
+ghost use Rattle.ir_files.specs.Writers.{writer_of};
+ghost use Rattle.ir_files.specs.declared.exit_status.ExitStatus.TheVariants as exit;
+ghost use Rattle.ir_hunt.specs.Finding.{IsOrderOfSeed};
+ghost use Rattle.ir_commands.specs.Exploring.{IsInput};
+ghost use Rattle.ir_commands.specs.Files.{TellsFault};
+ghost use Rattle.ir_commands.specs.Printing.{LeavesUnread};
+ghost use Rattle.ir_commands.specs.Writing.{IsListIn, IsOrderAsked, IsStatusOfNoRecording, Records, RecordsFile, StopsRecords};
 
 use crate::ends::{all_ended, tell_ends};
 use crate::files::{bytes_of, image_in, say};
@@ -19,7 +28,9 @@ use std::thread::Threads;
 use std::time::Clock;
 
 // Without the line feed, and the carriage return before it, at its end.
-fn without_end(list: &str) -> &str {
+fn without_end(list: &str) -> &str
+    ensures { (list.now ≡ result.now) ⊎ ((list.now ≡ result.now ++ 10 ∷ []) ⊎ ((list.now ≡ result.now ++ 13 ∷ []) ⊎ (list.now ≡ result.now ++ 13 ∷ 10 ∷ []))) }
+{
     let line = list.strip_suffix('\n').unwrap_or(list);
     line.strip_suffix('\r').unwrap_or(line)
 }
@@ -27,6 +38,9 @@ fn without_end(list: &str) -> &str {
 // A copy of a list. If memory runs out, that is reported.
 fn copied<E: Sink>(alloc: Global, faults: &mut E, list: &str) -> Result<Option<String>, ExitStatus>
     ensures kept { OnOk result (faults.new ≡ faults.old) }
+    ensures list { IfOk result (λ copy. option_map string_bytes copy ≡ Some list.now) }
+    ensures status { IfErr result IsStatusOfNoRecording }
+    ensures told { OnErr result (E.broken faults.old ≡ false → TellsFault (writer_of (E.written faults.old) (E.written faults.new) (E.broken faults.new))) }
 {
     match String::from_str(alloc, list) {
         Ok(list) => Ok(Some(list)),
@@ -45,6 +59,9 @@ fn list_in<D: Folder, E: Sink>(
     path: &str,
 ) -> Result<Option<String>, ExitStatus>
     ensures kept { OnOk result (faults.new ≡ faults.old) }
+    ensures list { IfOk result (λ found. (list : List ℕ) × (option_map string_bytes found ≡ Some list) × IsListIn (D.bytes_at folder.now path.now) list) }
+    ensures status { IfErr result IsStatusOfNoRecording }
+    ensures told { OnErr result (E.broken faults.old ≡ false → TellsFault (writer_of (E.written faults.old) (E.written faults.new) (E.broken faults.new))) }
 {
     let Some(bytes) = bytes_of(alloc, folder, faults, path, MOST_FILE_BYTES) else {
         return Err(ExitStatus::Failed);
@@ -66,6 +83,10 @@ fn list_of<D: Folder, E: Sink>(
     arguments: &RecordArguments,
 ) -> Result<Option<String>, ExitStatus>
     ensures kept { OnOk result (faults.new ≡ faults.old) }
+    ensures list { IfOk result (λ found. MatchOption arguments.now.order_file (option_map string_bytes found ≡ option_map string_bytes arguments.now.order)
+        (λ path. (list : List ℕ) × (option_map string_bytes found ≡ Some list) × IsListIn (D.bytes_at folder.now (string_bytes path)) list)) }
+    ensures status { IfErr result IsStatusOfNoRecording }
+    ensures told { OnErr result (E.broken faults.old ≡ false → TellsFault (writer_of (E.written faults.old) (E.written faults.new) (E.broken faults.new))) }
 {
     match (&arguments.order_file, &arguments.order) {
         (Some(path), _) => list_in(alloc, folder, faults, path.as_str()),
@@ -84,6 +105,10 @@ fn list_of_seed<C: Clock, E: Sink>(
     chaos: Chaos,
 ) -> Result<Option<String>, ExitStatus>
     ensures kept { OnOk result (faults.new ≡ faults.old) }
+    ensures list { IfOk result (λ found. (list : List ℕ) × (option_map string_bytes found ≡ Some list)
+        × IsOrderOfSeed image.now plan.entry chaos.way chaos.seed list) }
+    ensures status { IfErr result IsStatusOfNoRecording }
+    ensures told { OnErr result (E.broken faults.old ≡ false → TellsFault (writer_of (E.written faults.old) (E.written faults.new) (E.broken faults.new))) }
 {
     let Chaos { seed, way } = chaos;
     match order_of_seed(alloc, clock, image, plan, way, seed) {
@@ -134,6 +159,12 @@ impl Beside {
         image: &ParsedImage<'_>,
     ) -> Result<Beside, ExitStatus>
         ensures kept { OnOk result (faults.new ≡ faults.old) }
+        ensures input { IfOk result (λ beside. IsInput (D.bytes_at folder.now) arguments.now.options.input beside.input.items) }
+        ensures order { IfOk result (λ beside. IsOrderAsked (D.bytes_at folder.now) arguments.now image.now beside.input.items (option_map string_bytes beside.list)) }
+        ensures status { IfErr result IsStatusOfNoRecording }
+        ensures told { OnErr result (E.broken faults.old ≡ false → TellsFault (writer_of (E.written faults.old) (E.written faults.new) (E.broken faults.new))) }
+        ensures status { IfErr result IsStatusOfNoRecording }
+        ensures told { OnErr result (E.broken faults.old ≡ false → TellsFault (writer_of (E.written faults.old) (E.written faults.new) (E.broken faults.new))) }
     {
         let paths = paths(arguments);
         let outputs = output_places(alloc, folder, faults, &paths, image)?;
@@ -162,7 +193,9 @@ fn status_of<E: Sink>(
     asks: bool,
     explains: bool,
     faults: &mut E,
-) -> ExitStatus {
+) -> ExitStatus
+    ensures { (result ≡ exit.Done) ⊎ ((result ≡ exit.NotSo) × (asks ≡ true)) }
+{
     if explains {
         tell_ends(alloc, trace, faults);
     }
@@ -171,6 +204,47 @@ fn status_of<E: Sink>(
     } else {
         ExitStatus::Done
     }
+}
+
+// What was recorded of a guest; its files are written. If nothing was, the exit status.
+fn recorded_by<R, D, G, O, E>(
+    around: &Surroundings<'_, R, D, G>,
+    arguments: &RecordArguments,
+    out: &mut O,
+    faults: &mut E,
+) -> Result<Trace, ExitStatus>
+where
+    R: Threads + Wait + Sync + Clock + AllocGlobal,
+    D: Folder,
+    G: Gate + Sync,
+    O: Sink,
+    E: Sink,
+    requires writes { O.broken out.old ≡ false }
+    requires reports { E.broken faults.old ≡ false }
+    ensures done { IfOk result (λ recorded. Records (D.bytes_at around.now.folder.now) (λ place bytes. IsStored (D.knows around.now.folder.now) (D.was_put around.now.folder.now) place bytes)
+        arguments.now recorded (writer_of (O.written out.old) (O.written out.new) (O.broken out.new))) }
+    ensures stopped { IfErr result (λ answered. StopsRecords (D.bytes_at around.now.folder.now) arguments.now answered (writer_of (O.written out.old) (O.written out.new) (O.broken out.new))
+        (writer_of (E.written faults.old) (E.written faults.new) (E.broken faults.new)) (out.new ≡ out.old)
+        ⊎ LeavesUnread (IsStatusOfNoRecording answered) (out.new ≡ out.old) (writer_of (E.written faults.old) (E.written faults.new) (E.broken faults.new))) }
+{
+    let (rt, folder) = (around.rt, around.folder);
+    let alloc = rt.alloc();
+    if loses_input(folder, faults, &paths(arguments)) {
+        return Err(ExitStatus::BadArguments);
+    }
+    let image = image_in(alloc, folder, faults, arguments.image.as_str())?;
+    let image = ParsedImage::new(alloc, image.as_slice());
+    let beside = Beside::of(alloc, rt, folder, faults, arguments, &image)?;
+    let input = beside.input.as_slice();
+    let order = beside.list.as_ref().map(|list| list.as_str());
+    let paths = beside.outputs.as_ref().map(|paths| paths.as_slice());
+    let plan = arguments.plan(order, input);
+    let mut files = record_files(alloc, folder, arguments.trace.as_str(), paths);
+    let recording = Recording {
+        image: &image,
+        plan: &plan,
+    };
+    record_run(rt, around.gate, &recording, &mut files, out, faults)
 }
 
 // Records a guest into a file, and what its threads print into others where they are asked for.
@@ -189,31 +263,12 @@ where
     E: Sink,
     requires writes { O.broken out.old ≡ false }
     requires reports { E.broken faults.old ≡ false }
+    ensures { RecordsFile (D.bytes_at around.now.folder.now) (λ place bytes. IsStored (D.knows around.now.folder.now) (D.was_put around.now.folder.now) place bytes)
+        arguments.now result (writer_of (O.written out.old) (O.written out.new) (O.broken out.new))
+        (writer_of (E.written faults.old) (E.written faults.new) (E.broken faults.new)) (out.new ≡ out.old) }
 {
-    let (rt, folder) = (around.rt, around.folder);
-    let alloc = rt.alloc();
-    if loses_input(folder, faults, &paths(arguments)) {
-        return ExitStatus::BadArguments;
-    }
-    let image = match image_in(alloc, folder, faults, arguments.image.as_str()) {
-        Ok(image) => image,
-        Err(status) => return status,
-    };
-    let image = ParsedImage::new(alloc, image.as_slice());
-    let beside = match Beside::of(alloc, rt, folder, faults, arguments, &image) {
-        Ok(beside) => beside,
-        Err(status) => return status,
-    };
-    let input = beside.input.as_slice();
-    let order = beside.list.as_ref().map(|list| list.as_str());
-    let paths = beside.outputs.as_ref().map(|paths| paths.as_slice());
-    let plan = arguments.plan(order, input);
-    let mut files = record_files(alloc, folder, arguments.trace.as_str(), paths);
-    let recording = Recording {
-        image: &image,
-        plan: &plan,
-    };
-    match record_run(rt, around.gate, &recording, &mut files, out, faults) {
+    let alloc = around.rt.alloc();
+    match recorded_by(around, arguments, out, faults) {
         Ok(recorded) => status_of(alloc, &recorded, arguments.status, explains, faults),
         Err(status) => status,
     }

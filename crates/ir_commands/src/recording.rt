@@ -1,9 +1,11 @@
 //! What a recording reads and writes.
 
-ghost use Rattle.std.specs.Prelude.{◌≡◌, OnSome, OnOk, IfSome, None, false};
+ghost use Rattle.std.specs.Prelude.{◌≡◌, OnSome, OnOk, OnErr, IfErr, IfOk, IfSome, None, false, true, option_map};
+ghost use Rattle.ir_files.specs.Given.{fresh, given_bytes};
 ghost use Rattle.ir_files.specs.Writers.{writer_of};
 ghost use Rattle.ir_commands.specs.Exploring.{IsInput};
 ghost use Rattle.ir_commands.specs.Files.{TellsFault};
+ghost use Rattle.ir_commands.specs.Writing.{IsStatusOfNoRecording};
 
 use crate::files::{bytes_of, is_lost, say};
 use ir_files::{ExitStatus, Folder, MOST_GUEST_INPUT, OutputFiles, WholeFile, output_paths};
@@ -35,6 +37,19 @@ pub struct Places<'a, 'b> {
     pub outputs: Option<&'b [String]>,
 }
 
+impl<'a, 'b> Places<'a, 'b> {
+    /// The trace goes to this path, and what each thread prints to these, if it is asked for.
+    pub fn new(trace: &'a str, outputs: &'b Option<Vec<String>>) -> Places<'a, 'b>
+        ensures trace { result.trace.now ≡ trace.now }
+        ensures outputs { option_map (λ paths. paths.now) result.outputs ≡ option_map (λ paths. paths.items) outputs.now }
+    {
+        Places {
+            trace,
+            outputs: outputs.as_ref().map(|each| each.as_slice()),
+        }
+    }
+}
+
 /// Where a recording goes: its trace to one path, and what each thread prints to these, if it is asked for.
 pub fn record_files<'a, D: Folder>(
     alloc: Global,
@@ -44,6 +59,7 @@ pub fn record_files<'a, D: Folder>(
 ) -> RecordFiles<WholeFile<'a, D>, OutputFiles<'a, D>>
     ensures folder { result.trace.folder.now ≡ folder.now }
     ensures place { result.trace.place.now ≡ trace.now }
+    ensures empty { given_bytes (D.knows result.trace.folder.now) (λ m. D.known m.file) result.trace.made ≡ fresh (D.knows folder.now) }
     ensures folders { result.outputs.folder.now ≡ folder.now }
     ensures paths { result.outputs.paths ≡ outputs.entry }
     ensures writes { result.trace.failed ≡ false }
@@ -81,6 +97,7 @@ fn loses_given<D: Folder, E: Sink>(
     written: &str,
 ) -> bool
     ensures kept { result ≡ false → faults.new ≡ faults.old }
+    ensures told { result ≡ true → E.broken faults.old ≡ false → TellsFault (writer_of (E.written faults.old) (E.written faults.new) (E.broken faults.new)) }
 {
     match file {
         Some(file) => is_lost(folder, faults, would, file.as_str(), written),
@@ -95,6 +112,7 @@ pub fn loses_input<D: Folder, E: Sink>(
     paths: &RecordingPaths<'_>,
 ) -> bool
     ensures kept { result ≡ false → faults.new ≡ faults.old }
+    ensures told { result ≡ true → E.broken faults.old ≡ false → TellsFault (writer_of (E.written faults.old) (E.written faults.new) (E.broken faults.new)) }
 {
     const OVER_IMAGE: &str = "TRACE would be written over IMAGE";
     const OVER_FILE: &str = "TRACE would be written over FILE";
@@ -126,6 +144,7 @@ fn loses_other<D: Folder, E: Sink>(
     path: &str,
 ) -> bool
     ensures kept { result ≡ false → faults.new ≡ faults.old }
+    ensures told { result ≡ true → E.broken faults.old ≡ false → TellsFault (writer_of (E.written faults.old) (E.written faults.new) (E.broken faults.new)) }
 {
     const OVER_IMAGE: &str = "PREFIX.T would be written over IMAGE";
     const OVER_TRACE: &str = "PREFIX.T would be written over TRACE";
@@ -145,6 +164,7 @@ fn any_loses<D: Folder, E: Sink>(
     outputs: &[String],
 ) -> bool
     ensures kept { result ≡ false → faults.new ≡ faults.old }
+    ensures told { result ≡ true → E.broken faults.old ≡ false → TellsFault (writer_of (E.written faults.old) (E.written faults.new) (E.broken faults.new)) }
 {
     for path in outputs {
         if loses_other(folder, faults, paths, path.as_str()) {
@@ -164,6 +184,8 @@ pub fn output_places<D: Folder, E: Sink>(
     image: &ParsedImage<'_>,
 ) -> Result<Option<Vec<String>>, ExitStatus>
     ensures kept { OnOk result (faults.new ≡ faults.old) }
+    ensures status { IfErr result IsStatusOfNoRecording }
+    ensures told { OnErr result (E.broken faults.old ≡ false → TellsFault (writer_of (E.written faults.old) (E.written faults.new) (E.broken faults.new))) }
 {
     let Ok(outputs) = paths_of(alloc, paths, image) else {
         say(faults, "memory ran out", "", "");
@@ -187,6 +209,9 @@ pub fn beside_of<D: Folder, E: Sink>(
     image: &ParsedImage<'_>,
 ) -> Result<(Option<Vec<String>>, Vec<u8>), ExitStatus>
     ensures kept { OnOk result (faults.new ≡ faults.old) }
+    ensures input { IfOk result (λ beside. IsInput (D.bytes_at folder.now) paths.now.input.now beside.1.items) }
+    ensures status { IfErr result IsStatusOfNoRecording }
+    ensures told { OnErr result (E.broken faults.old ≡ false → TellsFault (writer_of (E.written faults.old) (E.written faults.new) (E.broken faults.new))) }
 {
     let outputs = output_places(alloc, folder, faults, paths, image)?;
     match input_of(alloc, folder, faults, paths.input) {

@@ -1,6 +1,18 @@
 //! `ir shrink`: a recorded run is shrunk to one with fewer context switches.
 
-ghost use Rattle.std.specs.Prelude.{◌≡◌, OnOk, false};
+ghost use Rattle.std.specs.Prelude.{◌≡◌, ◌≢◌, ◌++◌, ℕ, List, None, Ok, IfErr, IfOk, OnOk, false, true};
+ghost use Rattle.std.specs.String.{string_bytes};
+ghost use Rattle.std.specs.Io.KnownBytes.{Appends};
+ghost use Rattle.ir_files.specs.Given.{IsStored};
+ghost use Rattle.ir_files.specs.Writers.{writer_of};
+ghost use Rattle.ir_files.specs.declared.exit_status.ExitStatus.TheVariants as exit;
+ghost use Rattle.ir_record_command.specs.Recording.{recording_lines};
+ghost use Rattle.ir_shrink.specs.Lines.{shrunk_lines};
+ghost use Rattle.ir_shrink.specs.Stopping.{IsShrinking};
+ghost use Rattle.ir_trace.specs.Encoding.{encoding};
+ghost use Rattle.ir_trace.specs.Recorded.{recorded_at};
+ghost use Rattle.ir_commands.specs.Files.{IsFileIn, IsImageIn};
+ghost use Rattle.ir_commands.specs.Searching.{Shrinks, ShrinksFile};
 
 use crate::conditions::{conditions_of, copied_texts};
 use crate::ends::tell_ends;
@@ -61,6 +73,9 @@ fn given_by<D: Folder, E: Sink>(
     arguments: &ShrinkArguments,
 ) -> Result<Given, ExitStatus>
     ensures kept { OnOk result (faults.new ≡ faults.old) }
+    ensures image { IfOk result (λ given. IsImageIn (D.bytes_at folder.now (string_bytes arguments.now.image)) given.image.items) }
+    ensures trace { IfOk result (λ given. IsFileIn (D.bytes_at folder.now (string_bytes arguments.now.trace)) given.trace.items) }
+    ensures undone { IfErr result (λ status. status ≢ exit.Done) }
 {
     let image = image_in(alloc, folder, faults, arguments.image.as_str())?;
     match bytes_of(
@@ -85,6 +100,8 @@ fn fitting_trace<O: Sink, E: Sink>(
     requires { O.broken out.old ≡ false }
     ensures kept { OnOk result (faults.new ≡ faults.old) }
     ensures quiet { OnOk result (out.new ≡ out.old) }
+    ensures reads { IfOk result (λ trace. recorded_at given.now.trace.items ≡ Ok trace) }
+    ensures undone { IfErr result (λ status. status ≢ exit.Done) }
 {
     let (image, trace) = (given.image.as_slice(), given.trace.as_slice());
     match open_fit(alloc, image, trace) {
@@ -112,6 +129,19 @@ fn fitting_trace<O: Sink, E: Sink>(
     }
 }
 
+/// How a run with a trace is recorded in another order, where random words start so and these bytes are read: with its budget and its profile.
+pub fn plan_like<'a>(trace: &Trace, random: u64, input: &'a [u8]) -> RecordPlan<'a>
+    ensures { result ≡ record { order = None; budget = trace.now.budget; random = random; input = input.now; profile = trace.now.profile } }
+{
+    RecordPlan {
+        order: None,
+        budget: trace.budget(),
+        random,
+        input,
+        profile: trace.profile(),
+    }
+}
+
 /// Shrinks the run of a guest with a trace. Its trace and outputs go into files at these paths.
 pub fn shrunk_into<R, D, G, O, E>(
     around: &Surroundings<'_, R, D, G>,
@@ -122,12 +152,17 @@ pub fn shrunk_into<R, D, G, O, E>(
     faults: &mut E,
 ) -> Result<Shrunk, ExitStatus>
 where
-    R: Clock + AllocGlobal,
+    R: Clock + Eprint + AllocGlobal,
     D: Folder,
     O: Sink,
     E: Sink,
     requires writes { O.broken out.old ≡ false }
     requires reports { E.broken faults.old ≡ false }
+    ensures done { IfOk result (λ shrunk. (before after : ℕ) × (list : List ℕ) × (printed : List (List ℕ))
+        × IsShrinking given.now.image.now plan.now given.now.trace.now before after list shrunk.is_minimal shrunk.trace printed
+        × IsStored (D.knows around.now.folder.now) (D.was_put around.now.folder.now) places.trace.now (encoding shrunk.trace)
+        × Appends (O.written out.old) (O.written out.new) (shrunk_lines before after list shrunk.is_minimal ++ recording_lines shrunk.trace)) }
+    ensures undone { IfErr result (λ status. status ≢ exit.Done) }
 {
     let Surroundings { rt, folder, .. } = *around;
     let mut files = record_files(rt.alloc(), folder, places.trace, places.outputs);
@@ -140,7 +175,9 @@ pub fn shrunk_status<E: Sink>(
     explains: bool,
     shrunk: &Shrunk,
     faults: &mut E,
-) -> ExitStatus {
+) -> ExitStatus
+    ensures { result ≡ exit.Done → shrunk.now.is_minimal ≡ true }
+{
     if explains {
         tell_ends(alloc, &shrunk.trace, faults);
     }
@@ -161,33 +198,34 @@ pub fn shrink_file<R, D, G, O, E>(
     faults: &mut E,
 ) -> ExitStatus
 where
-    R: Clock + AllocGlobal,
+    R: Clock + Eprint + AllocGlobal,
     D: Folder,
     O: Sink,
     E: Sink,
     requires writes { O.broken out.old ≡ false }
     requires reports { E.broken faults.old ≡ false }
+    ensures { ShrinksFile (D.bytes_at around.now.folder.now) (λ place bytes. IsStored (D.knows around.now.folder.now) (D.was_put around.now.folder.now) place bytes)
+        arguments.now result (writer_of (O.written out.old) (O.written out.new) (O.broken out.new)) }
 {
-    match shrunk_by(around, arguments, out, faults) {
+    match shrunk_by(around, arguments, explains, out, faults) {
         Ok(shrunk) => shrunk_status(around.rt.alloc(), explains, &shrunk, faults),
         Err(status) => status,
     }
 }
 
 // The same; what it is shrunk to, or the exit status.
-fn shrunk_by<R, D, G, O, E>(
+fn shrunk_by<R: Clock + Eprint + AllocGlobal, D: Folder, G, O: Sink, E: Sink>(
     around: &Surroundings<'_, R, D, G>,
     arguments: &ShrinkArguments,
+    explains: bool,
     out: &mut O,
     faults: &mut E,
 ) -> Result<Shrunk, ExitStatus>
-where
-    R: Clock + AllocGlobal,
-    D: Folder,
-    O: Sink,
-    E: Sink,
     requires writes { O.broken out.old ≡ false }
     requires reports { E.broken faults.old ≡ false }
+    ensures done { IfOk result (λ shrunk. Shrinks (D.bytes_at around.now.folder.now) (λ place bytes. IsStored (D.knows around.now.folder.now) (D.was_put around.now.folder.now) place bytes)
+        arguments.now shrunk.trace shrunk.is_minimal (writer_of (O.written out.old) (O.written out.new) (O.broken out.new))) }
+    ensures undone { IfErr result (λ status. status ≢ exit.Done) }
 {
     let (alloc, folder) = (around.rt.alloc(), around.folder);
     if loses_given(folder, faults, arguments) {
@@ -206,22 +244,14 @@ where
         return Err(ExitStatus::Failed);
     };
     let plan = ShrinkPlan {
-        record: RecordPlan {
-            order: None,
-            budget: trace.budget(),
-            random: arguments.random,
-            input: input.as_slice(),
-            profile: trace.profile(),
-        },
+        record: plan_like(&trace, arguments.random, input.as_slice()),
         conditions: conditions.as_slice(),
         texts: texts.as_slice(),
         stale: arguments.stale,
         seconds: arguments.seconds,
+        is_shown: explains,
     };
-    let places = Places {
-        trace: arguments.out.as_str(),
-        outputs: outputs.as_ref().map(|each| each.as_slice()),
-    };
+    let places = Places::new(arguments.out.as_str(), &outputs);
     let run = GivenRun {
         image: &image,
         trace: &trace,

@@ -1,10 +1,14 @@
 //! `ir explore --within`: the outcomes of a guest that another guest doesn't have are printed; and `--only`: outcomes by classes.
 
-ghost use Rattle.std.specs.Prelude.{◌≡◌, ◌≤◌, ℕ, IsSomeAnd, true, false};
+ghost use Rattle.std.specs.Prelude.{◌≡◌, ◌⊎◌, ◌≤◌, ℕ, IsSomeAnd, IfErr, IfOk, OnErr, OnOk, true, false};
 ghost use Rattle.std.specs.List.{Contains};
+ghost use Rattle.std.specs.String.{string_bytes};
 ghost use Rattle.ir_image.specs.Guest.{object_count};
 ghost use Rattle.ir_within.specs.Plans.{aspects_of};
-ghost use Rattle.ir_commands.specs.Exploring.{LacksCounted, counted_asked};
+ghost use Rattle.ir_files.specs.Writers.{writer_of};
+ghost use Rattle.ir_commands.specs.Exploring.{Compares, ExploresClasses, IsStatusOfNoClasses, IsStatusOfNoComparison, LacksCounted, counted_asked};
+ghost use Rattle.ir_commands.specs.Files.{IsImageIn, IsStatusOfNone, TellsFault};
+ghost use Rattle.ir_commands.specs.Printing.{LeavesUnread};
 
 use crate::explore::plan_of;
 use crate::files::{image_in, say};
@@ -40,6 +44,7 @@ fn lacks_object<E: Sink>(
     faults: &mut E,
 ) -> bool
     ensures kept { result ≡ false → faults.new ≡ faults.old }
+    ensures told { result ≡ true → E.broken faults.old ≡ false → TellsFault (writer_of (E.written faults.old) (E.written faults.new) (E.broken faults.new)) }
     ensures lacks { result ≡ true → IsSomeAnd counted.now.objects (λ objects. (o : ℕ) × Contains objects.items o × (object_count guest.now ≤ o)) }
 {
     let Some(objects) = &counted.objects else {
@@ -52,8 +57,14 @@ fn lacks_object<E: Sink>(
     else {
         return false;
     };
-    if let Ok(why) = format!(in alloc; "the guest has no object {lacking}, which --only names") {
-        say(faults, path, ": ", why.as_str());
+    match format!(in alloc; "the guest has no object {lacking}, which --only names") {
+        Ok(why) => say(faults, path, ": ", why.as_str()),
+        Err(_) => say(
+            faults,
+            path,
+            ": ",
+            "the guest lacks an object that --only names",
+        ),
     }
     true
 }
@@ -68,6 +79,7 @@ fn lacks_counted<E: Sink>(
     faults: &mut E,
 ) -> bool
     ensures kept { result ≡ false → faults.new ≡ faults.old }
+    ensures told { result ≡ true → E.broken faults.old ≡ false → TellsFault (writer_of (E.written faults.old) (E.written faults.new) (E.broken faults.new)) }
     ensures lacks { result ≡ true → LacksCounted image.now counted.now }
 {
     match guest_of(image, explore) {
@@ -93,36 +105,48 @@ fn both_images(alloc: Global, files: &BothFiles) -> (ParsedImage<'_>, ParsedImag
     )
 }
 
+// The images of the guests in two files; if there are none, the reason is reported.
+fn both_files<D: Folder, E: Sink>(
+    alloc: Global,
+    folder: &D,
+    arguments: &WithinArguments,
+    faults: &mut E,
+) -> Result<BothFiles, ExitStatus>
+    ensures kept { OnOk result (faults.new ≡ faults.old) }
+    ensures image { IfOk result (λ files. IsImageIn (D.bytes_at folder.now (string_bytes arguments.now.explore.image)) files.image.items) }
+    ensures other { IfOk result (λ files. IsImageIn (D.bytes_at folder.now (string_bytes arguments.now.other)) files.other.items) }
+    ensures status { IfErr result (λ answered. IsStatusOfNone (D.bytes_at folder.now (string_bytes arguments.now.explore.image)) answered
+        ⊎ IsStatusOfNone (D.bytes_at folder.now (string_bytes arguments.now.other)) answered) }
+    ensures told { OnErr result (E.broken faults.old ≡ false → TellsFault (writer_of (E.written faults.old) (E.written faults.new) (E.broken faults.new))) }
+{
+    Ok(BothFiles {
+        image: image_in(alloc, folder, faults, arguments.explore.image.as_str())?,
+        other: image_in(alloc, folder, faults, arguments.other.as_str())?,
+    })
+}
+
 // Compares the outcomes of the guests in two files.
-pub fn within_file<R, D, G, O, E>(
+pub fn within_file<R: AllocGlobal, D: Folder, G: Observer, O: Sink, E: Sink>(
     around: &Surroundings<'_, R, D, G>,
     arguments: &WithinArguments,
     out: &mut O,
     faults: &mut E,
 ) -> ExitStatus
-where
-    R: AllocGlobal,
-    D: Folder,
-    G: Observer,
-    O: Sink,
-    E: Sink,
     requires writes { O.broken out.old ≡ false }
     requires reports { E.broken faults.old ≡ false }
+    ensures prints { Compares (D.bytes_at around.now.folder.now) arguments.now result
+        (writer_of (O.written out.old) (O.written out.new) (O.broken out.new)) (writer_of (E.written faults.old) (E.written faults.new) (E.broken faults.new))
+        ⊎ LeavesUnread (IsStatusOfNoComparison (D.bytes_at around.now.folder.now) arguments.now result) (out.new ≡ out.old)
+        (writer_of (E.written faults.old) (E.written faults.new) (E.broken faults.new)) }
 {
     let (alloc, folder) = (around.rt.alloc(), around.folder);
-    let path = arguments.explore.image.as_str();
-    let image = match image_in(alloc, folder, faults, path) {
-        Ok(image) => image,
-        Err(status) => return status,
-    };
-    let other = match image_in(alloc, folder, faults, arguments.other.as_str()) {
-        Ok(other) => other,
+    let files = match both_files(alloc, folder, arguments, faults) {
+        Ok(files) => files,
         Err(status) => return status,
     };
     let Some(input) = input_of(alloc, folder, faults, &arguments.explore.input) else {
         return ExitStatus::Failed;
     };
-    let files = BothFiles { image, other };
     let both = both_images(alloc, &files);
     let explore = plan_of(&arguments.explore, input.as_slice());
     let counted = &arguments.counted;
@@ -133,6 +157,7 @@ where
         aspects: aspects_of(counted),
         observer: around.gate,
     };
+    let path = arguments.explore.image.as_str();
     let other_path = arguments.other.as_str();
     if lacks_counted(alloc, &plan.explore, &both.0, counted, path, faults)
         || lacks_counted(alloc, &plan.explore, &both.1, counted, other_path, faults)
@@ -143,20 +168,18 @@ where
 }
 
 // Prints the outcomes of the guest in a file by classes.
-pub fn classes_file<R, D, G, O, E>(
+pub fn classes_file<R: AllocGlobal, D: Folder, G: Observer, O: Sink, E: Sink>(
     around: &Surroundings<'_, R, D, G>,
     arguments: &ClassesArguments,
     out: &mut O,
     faults: &mut E,
 ) -> ExitStatus
-where
-    R: AllocGlobal,
-    D: Folder,
-    G: Observer,
-    O: Sink,
-    E: Sink,
     requires writes { O.broken out.old ≡ false }
     requires reports { E.broken faults.old ≡ false }
+    ensures prints { ExploresClasses (D.bytes_at around.now.folder.now) arguments.now result
+        (writer_of (O.written out.old) (O.written out.new) (O.broken out.new)) (writer_of (E.written faults.old) (E.written faults.new) (E.broken faults.new))
+        ⊎ LeavesUnread (IsStatusOfNoClasses (D.bytes_at around.now.folder.now) arguments.now result) (out.new ≡ out.old)
+        (writer_of (E.written faults.old) (E.written faults.new) (E.broken faults.new)) }
 {
     let (alloc, folder) = (around.rt.alloc(), around.folder);
     let path = arguments.explore.image.as_str();

@@ -213,6 +213,8 @@ where
     ensures stopped { IfErr result (λ status. StopsHang (tellings (telling W.written W.broken W.called W.cause) (telling P.taken P.broken P.called P.cause) O.written O.broken)
         status plan.now.image.now plan.now.explore (devices files.old.trace files.old.outputs out.old) (devices files.new.trace files.new.outputs out.new)
         (writer_of (E.written faults.old) (E.written faults.new) (E.broken faults.new)) (faults.new ≡ faults.old)) }
+    // The files are those of the same places.
+    ensures homes { (W.home files.new.trace ≡ W.home files.old.trace) × (P.home files.new.outputs ≡ P.home files.old.outputs) }
 {
     let order = match tell_hang(rt.alloc(), plan, out) {
         Ok(Ok(order)) => order,

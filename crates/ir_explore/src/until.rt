@@ -195,6 +195,8 @@ where
         status plan.now.image.now plan.now.explore (map as_condition plan.now.conditions.now)
         (devices files.old.trace files.old.outputs out.old) (devices files.new.trace files.new.outputs out.new)
         (writer_of (E.written faults.old) (E.written faults.new) (E.broken faults.new)) (faults.new ≡ faults.old)) }
+    // The files are those of the same places.
+    ensures homes { (W.home files.new.trace ≡ W.home files.old.trace) × (P.home files.new.outputs ≡ P.home files.old.outputs) }
 {
     let list = match tell_sought(rt.alloc(), plan, out) {
         Ok(Ok(list)) => list,

@@ -1,10 +1,10 @@
 -- Files that are written.
-use Rattle.std.proofs.Common.{◌≡◌, ◌<◌, ℕ, length, get_or, IfSome, Bool, true, false, List, [], ◌∷◌, ◌++◌, Option, None, Some, map, ap, sym, subst, ◌∙◌}
+use Rattle.std.proofs.Common.{true≢false, ◌≡◌, ◌<◌, ℕ, length, get_or, IfSome, Bool, true, false, List, [], ◌∷◌, ◌++◌, Option, None, Some, map, ap, sym, subst, ◌∙◌}
 use Rattle.std.specs.Io.KnownBytes.{Appends}
 use Rattle.std.proofs.lemmas.Option.{slice_get-get_or, slice_get-map}
 use Rattle.std.specs.Option.{option_map}
 use Rattle.std.specs.List.{slice_get}
-use Rattle.ir_files.specs.Given.{KnownFile, Has, IsAt, fresh}
+use Rattle.ir_files.specs.Given.{KnownFile, Has, IsAt, IsStored, fresh, given_bytes, is_put}
 use Rattle.ir_files.specs.Outputs.{HasLast}
 
 new_known_has : (knows : Bool) (path new : Option (List ℕ)) (bytes : List ℕ) → Appends (fresh knows) new bytes
@@ -27,3 +27,11 @@ output_has_last items text known all paths old new file thread path some short s
     let found : slice_get (items paths) thread ≡ Some path = slice_get-get_or (items paths) thread path short ∙ ap Some (sym same) in
     subst (λ z. IfSome z (λ ps. (p : List ℕ) × (slice_get (map text (items ps)) thread ≡ Some p) × HasLast known old new thread p)) (sym some)
     (text path, slice_get-map text (items paths) thread ∙ ap (option_map text) found, (file, e, t, at))
+
+-- a file that was put in its place with all that it was given is stored there
+pub put_file_is_stored : {File : Type 0} (knows : Bool) (was_put : List ℕ → List ℕ → Bool) (known : File → KnownFile) (made : Option File) (place bytes : List ℕ)
+    (old : Option (List ℕ)) → old ≡ fresh knows → is_put was_put known made place ≡ true → Appends old (given_bytes knows known made) bytes
+    → IsStored knows was_put place bytes
+put_file_is_stored knows was_put known None place bytes old e put p = absurd (true≢false (sym put))
+put_file_is_stored knows was_put known (Some m) place bytes old e put p =
+    record { file = known m; stands = put; has = new_file_has_given knows (known m) old bytes e p }

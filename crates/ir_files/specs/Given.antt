@@ -48,3 +48,9 @@ stands_at was_put file place = option_map_or (λ p. bytes_eq p place || was_put 
 abbrev pub is_put : {File : Type 0} → (List ℕ → List ℕ → Bool) → (File → KnownFile) → Option File → List ℕ → Bool
 is_put was_put known None place = false
 is_put was_put known (Some file) place = stands_at was_put (known file) place
+
+-- a file stands at a place and was given these bytes and no others, as far as it is known where files stand and what they are given
+pub record IsStored (knows : Bool) (was_put : List ℕ → List ℕ → Bool) (place bytes : List ℕ) : Type 0 where
+  pub file : KnownFile
+  pub stands : stands_at was_put file place ≡ true
+  pub has : Has knows file bytes

@@ -2,6 +2,7 @@
 
 ghost use Rattle.std.specs.Prelude.{◌≡◌, ◌<◌, ◌≤◌, ℕ, [], length, take, IfOk, OnOk, OnErr, IfSome, Ok, Err};
 ghost use Rattle.std.specs.Io.KnownBytes.{Keeps, Appends};
+ghost use Rattle.ir_stream.specs.Answers.{AppendsPrefix};
 ghost use Rattle.ir_files.specs.declared.files.FileErr.TheVariants.{NoMem, TooLong};
 
 use crate::folder::Folder;
@@ -92,10 +93,11 @@ pub fn put<D: Folder>(folder: &D, file: &mut D::Open, bytes: &[u8]) -> Result<us
     Err(ErrorKind::Interrupted)
 }
 
-// Writes all of the bytes.
+// Writes all of the bytes; where it fails, a prefix of them.
 pub fn put_all<D: Folder>(folder: &D, file: &mut D::Open, bytes: &[u8]) -> Result<(), ErrorKind>
     ensures path { (D.known file.new).path ≡ (D.known file.old).path }
     ensures bytes { OnOk result (Appends (D.known file.old).bytes (D.known file.new).bytes bytes.now) }
+    ensures prefix { OnErr result (AppendsPrefix (D.known file.old).bytes (D.known file.new).bytes bytes.now) }
 {
     let mut rest = bytes;
     while !rest.is_empty() {

@@ -1,6 +1,6 @@
 //! Files of what the threads of a recording print.
 
-ghost use Rattle.std.specs.Prelude.{◌≡◌, ℕ, Bool, List, ◌∷◌, [], map, OnOk, OnErr, IfOk, IfSome, Some, true, false, slice_get, ◌++◌};
+ghost use Rattle.std.specs.Prelude.{◌≡◌, ℕ, Bool, List, ◌∷◌, [], map, OnOk, OnErr, IfOk, IfSome, Some, true, false, slice_get, ◌++◌, option_map};
 ghost use Rattle.std.specs.declared.option.Option.{Option};
 ghost use Rattle.std.specs.List.{range_with_len};
 ghost use Rattle.std.specs.String.{string_bytes};
@@ -16,6 +16,12 @@ use std::alloc::{AllocError, Global};
 
 /// What takes the outputs of a recording, a thread's at a time. An `Err` makes `failed` true for good.
 pub trait OutputSink {
+    /// What the outputs go to.
+    ghost Home: { Type 0 };
+
+    /// The same, whatever it takes.
+    ghost home: { Self → Home };
+
     /// The outputs that it took whole so far, if it says which they are.
     ghost taken: { Self → Option (List Printed) };
 
@@ -36,7 +42,8 @@ pub trait OutputSink {
         ensures taken { OnOk result (Gains (taken self.old) (taken self.new) ((thread, bytes.now) ∷ [])) }
         ensures stays { OnOk result (broken self.new ≡ broken self.old) }
         ensures kept { OnErr result (Gains (taken self.old) (taken self.new) []) }
-        ensures err { OnErr result (broken self.new ≡ true) };
+        ensures err { OnErr result (broken self.new ≡ true) }
+        ensures home { home self.new ≡ home self.old };
 
     /// What messages call the output that failed, if one did.
     fn name(&self) -> &str
@@ -161,6 +168,10 @@ fn written_at<D: Folder>(folder: &D, path: &str, bytes: &[u8]) -> Result<D::Clos
 }
 
 impl<D: Folder> OutputSink for OutputFiles<'_, D> {
+    ghost Home = { D × Option (List (List ℕ)) };
+
+    ghost home = { λ f. (f.folder.now, option_map (λ paths. map string_bytes paths.now) f.paths) };
+
     ghost taken = { λ f. outputs_given (D.knows f.folder.now) (λ o. (o.thread, D.known_closed o.file)) f.paths f.each.items };
 
     ghost broken = { λ f. f.failed };

@@ -3,9 +3,10 @@
 ghost use Rattle.std.specs.Prelude.{◌≡◌, ◌≤◌, ℕ, List, Bool, [], length, take, Ok, IfOk, OnOk, OnErr, IfSome, false, true};
 ghost use Rattle.std.specs.Io.KnownBytes.{Keeps, Appends};
 ghost use Rattle.std.proofs.Props.{props};
+ghost use Rattle.ir_stream.specs.Answers.{AppendsPrefix};
 ghost use Rattle.ir_files.specs.Given.{IsAt, fresh, given_bytes, is_put, path_made, stands_at};
 
-use crate::files::put;
+use crate::files::{put, put_all};
 use crate::folder::Folder;
 use crate::reason::reason;
 use ir_stream::{DeviceErr, Sink};
@@ -14,6 +15,12 @@ use std::io::ErrorKind;
 
 /// A sink whose bytes may be elsewhere until they are whole.
 pub trait WholeSink: Sink {
+    /// What its bytes go to.
+    ghost Home: { Type 0 };
+
+    /// The same, whatever it takes.
+    ghost home: { Self → Home };
+
     /// Whether they are whole and in their place.
     ghost whole: { Self → Bool };
 
@@ -23,15 +30,17 @@ pub trait WholeSink: Sink {
     /// Why it failed, if it did.
     ghost cause: { Self → List ℕ };
 
-    /// All bytes were written: from now on they are in their place.
+    /// Takes bytes, the last ones: all that it took is in its place from then on.
     ///
     /// # Errors
-    /// They can't be put there. The sink has failed.
-    fn finish(&mut self) -> Result<(), DeviceErr>
-        ensures kept { Self.written self.new ≡ Self.written self.old }
+    /// They can't be written, or not be put there. The sink has failed, and took a prefix of them.
+    fn put_whole(&mut self, bytes: &[u8]) -> Result<(), DeviceErr>
+        ensures all { OnOk result (Appends (Self.written self.old) (Self.written self.new) bytes.now) }
         ensures whole { OnOk result (whole self.new ≡ true) }
         ensures stays { OnOk result (Self.broken self.new ≡ Self.broken self.old) }
-        ensures err { OnErr result (Self.broken self.new ≡ true) };
+        ensures prefix { OnErr result (AppendsPrefix (Self.written self.old) (Self.written self.new) bytes.now) }
+        ensures err { OnErr result (Self.broken self.new ≡ true) }
+        ensures home { home self.new ≡ home self.old };
 
     /// What messages call it.
     fn name(&self) -> &str
@@ -205,6 +214,53 @@ impl<'a, D: Folder> WholeFile<'a, D> {
         }
         Ok(())
     }
+
+    // The bytes that were written are whole: the file is put in its place.
+    fn finish(&mut self) -> Result<(), DeviceErr>
+        ensures kept { given_bytes (D.knows self.new.folder.now) (λ m. D.known m.file) self.new.made ≡ given_bytes (D.knows self.old.folder.now) (λ m. D.known m.file) self.old.made }
+        ensures whole { OnOk result (self.new.whole ≡ true) }
+        // The file that was given the bytes is at its place: it was made there, or put there.
+        ensures put { OnOk result (is_put (D.was_put self.old.folder.now) (λ m. D.known m.file) self.new.made self.old.place.now ≡ true) }
+        ensures stays { OnOk result (self.new.failed ≡ self.old.failed) }
+        ensures err { OnErr result (self.new.failed ≡ true) }
+        ensures folder { self.new.folder ≡ self.old.folder }
+        ensures place { self.new.place ≡ self.old.place }
+    {
+        let put = match &self.made {
+            Some(made) => put_there(self.folder, made, self.place),
+            None => Err(ErrorKind::NotFound),
+        };
+        match put {
+            Ok(()) => {
+                self.whole = true;
+                Ok(())
+            }
+            Err(kind) => Err(self.fail(reason(kind))),
+        }
+    }
+
+    // Writes bytes to the file, which is made.
+    fn give(&mut self, bytes: &[u8]) -> Result<(), DeviceErr>
+        ensures all { OnOk result
+            (Appends (given_bytes (D.knows self.old.folder.now) (λ m. D.known m.file) self.old.made)
+            (given_bytes (D.knows self.new.folder.now) (λ m. D.known m.file) self.new.made) bytes.now) }
+        ensures stays { OnOk result (self.new.failed ≡ self.old.failed) }
+        ensures prefix { OnErr result
+            (AppendsPrefix (given_bytes (D.knows self.old.folder.now) (λ m. D.known m.file) self.old.made)
+            (given_bytes (D.knows self.new.folder.now) (λ m. D.known m.file) self.new.made) bytes.now) }
+        ensures err { OnErr result (self.new.failed ≡ true) }
+        ensures folder { self.new.folder ≡ self.old.folder }
+        ensures place { self.new.place ≡ self.old.place }
+    {
+        let given = match &mut self.made {
+            Some(made) => put_all(self.folder, &mut made.file, bytes),
+            None => Err(ErrorKind::NotFound),
+        };
+        match given {
+            Ok(()) => Ok(()),
+            Err(kind) => Err(self.fail(reason(kind))),
+        }
+    }
 }
 
 impl<D: Folder> Sink for WholeFile<'_, D> {
@@ -244,33 +300,34 @@ impl<D: Folder> Sink for WholeFile<'_, D> {
 }
 
 impl<D: Folder> WholeSink for WholeFile<'_, D> {
+    ghost Home = { D × List ℕ };
+
+    ghost home = { λ f. (f.folder.now, f.place.now) };
+
     ghost whole = { λ f. f.whole };
 
     ghost called = { λ f. f.place.now };
 
     ghost cause = { λ f. f.why.now };
 
-    fn finish(&mut self) -> Result<(), DeviceErr>
-        ensures kept { given_bytes (D.knows self.new.folder.now) (λ m. D.known m.file) self.new.made ≡ given_bytes (D.knows self.old.folder.now) (λ m. D.known m.file) self.old.made }
+    fn put_whole(&mut self, bytes: &[u8]) -> Result<(), DeviceErr>
+        ensures all { OnOk result
+            (Appends (given_bytes (D.knows self.old.folder.now) (λ m. D.known m.file) self.old.made)
+            (given_bytes (D.knows self.new.folder.now) (λ m. D.known m.file) self.new.made) bytes.now) }
         ensures whole { OnOk result (self.new.whole ≡ true) }
         // The file that was given the bytes is at its place: it was made there, or put there.
         ensures put { OnOk result (is_put (D.was_put self.old.folder.now) (λ m. D.known m.file) self.new.made self.old.place.now ≡ true) }
         ensures stays { OnOk result (self.new.failed ≡ self.old.failed) }
+        ensures prefix { OnErr result
+            (AppendsPrefix (given_bytes (D.knows self.old.folder.now) (λ m. D.known m.file) self.old.made)
+            (given_bytes (D.knows self.new.folder.now) (λ m. D.known m.file) self.new.made) bytes.now) }
         ensures err { OnErr result (self.new.failed ≡ true) }
+        ensures folder { self.new.folder ≡ self.old.folder }
+        ensures place { self.new.place ≡ self.old.place }
     {
-        // If no byte was written, the file is empty, and isn't made yet.
         self.make()?;
-        let put = match &self.made {
-            Some(made) => put_there(self.folder, made, self.place),
-            None => Err(ErrorKind::NotFound),
-        };
-        match put {
-            Ok(()) => {
-                self.whole = true;
-                Ok(())
-            }
-            Err(kind) => Err(self.fail(reason(kind))),
-        }
+        self.give(bytes)?;
+        self.finish()
     }
 
     fn name(&self) -> &str {

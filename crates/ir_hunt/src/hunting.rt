@@ -218,6 +218,8 @@ where
     ensures stopped { IfErr result (λ status. StopsHunt (tellings (telling W.written W.broken W.called W.cause) (telling P.taken P.broken P.called P.cause) O.written O.broken)
         status image.now plan.now (devices files.old.trace files.old.outputs out.old) (devices files.new.trace files.new.outputs out.new)
         (writer_of (E.written faults.old) (E.written faults.new) (E.broken faults.new)) (faults.new ≡ faults.old)) }
+    // The files are those of the same places.
+    ensures homes { (W.home files.new.trace ≡ W.home files.old.trace) × (P.home files.new.outputs ≡ P.home files.old.outputs) }
 {
     let alloc = rt.alloc();
     let sought = match hunted(rt, alloc, image, plan) {

@@ -1,6 +1,6 @@
 //! A source in, its image and its labels or its first fault out.
 
-ghost use Rattle.std.specs.Prelude.{◌≡◌, ◌⊎◌, ◌<◌, ℕ, List, false, map, IfOk, IfErr, Ok, Err};
+ghost use Rattle.std.specs.Prelude.{◌≡◌, ◌⊎◌, ◌<◌, ℕ, List, false, true, map, IfOk, IfErr, OnOk, Ok, Err};
 ghost use Rattle.std.specs.List.{All};
 ghost use Rattle.std.specs.Option.{option_map};
 ghost use Rattle.std.specs.String.{string_bytes};
@@ -16,7 +16,7 @@ ghost use Rattle.ir_files.specs.declared.exit_status.ExitStatus.TheVariants as s
 use crate::reporting::report;
 use crate::writing::{write_bytes, write_report};
 use ir_asm::{AsmErr, Assembly, Cause, Labels, assemble_with_labels};
-use ir_files::ExitStatus;
+use ir_files::{ExitStatus, WholeSink};
 use ir_image::write_image;
 use ir_stream::Sink;
 use std::alloc::{AllocError, Global};
@@ -73,14 +73,14 @@ fn tell_place<E: Sink>(
     }
 }
 
-/// Assembles a source: writes its image and hands back its labels, or reports its first fault as a line `line L error C`. If
+/// Assembles a source: writes its image, which is in its place then, and hands back its labels, or reports its first fault as a line `line L error C`. If
 /// the source's file is named, to have a fault explained, a second line has that name, the line's number, the cause in words
 /// and the line's text. A byte of the source above 0x7E counts as the byte 1.
 ///
 /// # Errors
 /// The exit status: `Refused` if the source has a fault, which was reported and nothing written; `Failed` if memory ran out,
 /// with nothing written, or a writer failed.
-pub fn asm_run<W: Sink, E: Sink>(
+pub fn asm_run<W: WholeSink, E: Sink>(
     alloc: Global,
     source: &[u8],
     explained: Option<&str>,
@@ -92,6 +92,8 @@ pub fn asm_run<W: Sink, E: Sink>(
     ensures status { IfErr result (λ e. (e ≡ status.Failed) ⊎ (e ≡ status.Refused)) }
     // The image was written, and no fault reported.
     ensures done { IfOk result (λ _. (bytes : List ℕ) × (image_bytes source.now ≡ Ok bytes) × Appends (W.written image.old) (W.written image.new) bytes × (faults.new ≡ faults.old)) }
+    ensures whole { OnOk result (W.whole image.new ≡ true) }
+    ensures home { W.home image.new ≡ W.home image.old }
     ensures labels { IfOk result (λ labels. labels_of (map masked source.now) ≡ Ok labels) }
     ensures named { IfOk result (λ labels. All IsNamed labels) }
     // The first fault was reported.

@@ -1,6 +1,6 @@
 //! An ELF file in, the image of its guest or why there is none out.
 
-ghost use Rattle.std.specs.Prelude.{◌≡◌, ◌⊎◌, ℕ, List, false, IfOk, Ok, Err};
+ghost use Rattle.std.specs.Prelude.{◌≡◌, ◌⊎◌, ℕ, List, false, IfOk, Ok, Err, true};
 ghost use Rattle.std.specs.Option.{option_map};
 ghost use Rattle.std.specs.String.{string_bytes};
 ghost use Rattle.std.specs.Io.KnownBytes.{Appends};
@@ -13,7 +13,7 @@ ghost use Rattle.ir_make.specs.Converting.{elf_image_bytes, refusal_line, refusa
 
 use crate::writing::{write_bytes, write_report};
 use ir_elf::{ElfErr, Refusal, read_elf};
-use ir_files::ExitStatus;
+use ir_files::{ExitStatus, WholeSink};
 use ir_image::{encoding_is_read, write_image};
 use ir_stream::Sink;
 use std::alloc::{AllocError, Global};
@@ -76,11 +76,11 @@ fn tell_refusal<E: Sink>(
     }
 }
 
-/// Makes a guest of an ELF file: writes its image, or reports why there is none as a line `elf refused N`, with the number of
+/// Makes a guest of an ELF file: writes its image, which is in its place then, or reports why there is none as a line `elf refused N`, with the number of
 /// the refusal. If the file is named, to have a refusal explained, a second line has that name and the refusal in words. The
 /// exit status is `Done` if all of the image was written; `Refused` if the file is no guest, which was reported and nothing
 /// written; `Failed` if memory ran out, with nothing written, or a writer failed.
-pub fn elf_run<W: Sink, E: Sink>(
+pub fn elf_run<W: WholeSink, E: Sink>(
     alloc: Global,
     file: &[u8],
     explained: Option<&str>,
@@ -92,6 +92,8 @@ pub fn elf_run<W: Sink, E: Sink>(
     ensures status { (result ≡ status.Done) ⊎ (result ≡ status.Failed) ⊎ (result ≡ status.Refused) }
     // The image was written, and nothing reported.
     ensures done { result ≡ status.Done → (bytes : List ℕ) × (elf_image_bytes file.now ≡ Ok bytes) × Appends (W.written image.old) (W.written image.new) bytes × (faults.new ≡ faults.old) }
+    ensures whole { result ≡ status.Done → W.whole image.new ≡ true }
+    ensures home { W.home image.new ≡ W.home image.old }
     // The first test that fails was reported.
     ensures refused { result ≡ status.Refused → (refusal : Refusal) × (elf_image_bytes file.now ≡ Err refusal)
         × Appends (E.written faults.old) (E.written faults.new) (refusal_report (option_map (λ s. s.now) explained.entry) refusal) }

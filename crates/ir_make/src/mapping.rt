@@ -1,6 +1,6 @@
 //! The labels of a source in, their map out.
 
-ghost use Rattle.std.specs.Prelude.{◌≡◌, ◌⊎◌, ◌<◌, ◌+◌, ℕ, List, false, IfOk, OnOk, length, take};
+ghost use Rattle.std.specs.Prelude.{◌≡◌, ◌⊎◌, ◌<◌, ◌+◌, ℕ, List, false, IfOk, OnOk, length, take, true};
 ghost use Rattle.std.specs.List.{All};
 ghost use Rattle.std.specs.Io.KnownBytes.{Appends};
 ghost use Rattle.ir_symbols.specs.Maps.{map_text};
@@ -12,8 +12,7 @@ ghost use Rattle.ir_make.specs.Mapping.{letter_of, IsNamed, label_symbol, label_
 
 use crate::writing::write_bytes;
 use ir_asm::{Labels, Place, Section};
-use ir_files::ExitStatus;
-use ir_stream::Sink;
+use ir_files::{ExitStatus, WholeSink};
 use ir_symbols::{Symbol, SymbolTable, write_map};
 use std::alloc::{AllocError, Global};
 
@@ -82,7 +81,7 @@ fn map_of(alloc: Global, labels: &Labels) -> Result<Vec<u8>, AllocError>
 /// Writes the map of labels: a line `A K NAME` for each, by rising address, and labels of one address in their order. A is
 /// the address in eight hexadecimal digits, and K is `t` in text and `d` in data. The exit status is `Done` if all of it was
 /// written, and `Failed` if memory ran out, with nothing written, or the writer failed.
-pub fn map_run<W: Sink>(alloc: Global, labels: &Labels, map: &mut W) -> ExitStatus
+pub fn map_run<W: WholeSink>(alloc: Global, labels: &Labels, map: &mut W) -> ExitStatus
     requires writes { W.broken map.old ≡ false }
     requires named { All IsNamed labels.now }
     ensures status { (result ≡ status.Done) ⊎ (result ≡ status.Failed) }
@@ -91,6 +90,8 @@ pub fn map_run<W: Sink>(alloc: Global, labels: &Labels, map: &mut W) -> ExitStat
     ensures stopped { result ≡ status.Failed → (map.new ≡ map.old)
         ⊎ ((table : List Symbol) × IsSortOf (label_symbols labels.now) table
         × Failed (writer_of (W.written map.old) (W.written map.new) (W.broken map.new)) (map_text table)) }
+    ensures whole { result ≡ status.Done → W.whole map.new ≡ true }
+    ensures home { W.home map.new ≡ W.home map.old }
 {
     match map_of(alloc, labels) {
         Ok(bytes) => write_bytes(map, bytes.as_slice()),

@@ -1,13 +1,12 @@
 //! `ir debug` and `ir gdb`: a session over an image and a trace in files.
 
-ghost use Rattle.std.specs.Prelude.{◌≡◌, ◌⊎◌, ◌↔◌, OnOk, OnErr, IfOk, IfErr, true, false};
+ghost use Rattle.std.specs.Prelude.{◌≡◌, ◌↔◌, ◌⊎◌, OnOk, OnErr, IfOk, IfErr, true, false};
 ghost use Rattle.std.specs.String.{string_bytes};
-ghost use Rattle.ir_commands.specs.Files.{IsFileIn, IsImageIn, IsStatusOfNone, OfImageAndTrace, TellsFault};
-ghost use Rattle.ir_commands.specs.Printing.{LeavesUnread};
+ghost use Rattle.ir_commands.specs.Files.{IsFileIn, IsImageIn, IsStatusOfNone, TellsFault};
 ghost use Rattle.ir_files.specs.Writers.{writer_of};
 ghost use Rattle.ir_files.specs.declared.exit_status.ExitStatus.TheVariants as exit;
 ghost use Rattle.ir_program.specs.Connecting.{HeldConnection};
-ghost use Rattle.ir_program.specs.Leaving.{HeldSession};
+ghost use Rattle.ir_program.specs.Doing.{HoldsConnectionOf, HoldsSessionOf};
 ghost use Rattle.ir_program.specs.Taking.{reader_of};
 
 use crate::debugging::debug_run;
@@ -73,11 +72,9 @@ where
     requires writes { O.broken out.old ≡ false }
     requires reports { E.broken faults.old ≡ false }
     // The bytes of the files were read, and their session was held; or nothing was read of the reader, and nothing written.
-    ensures { OfImageAndTrace (D.bytes_at around.now.folder.now (string_bytes arguments.now.image)) (D.bytes_at around.now.folder.now (string_bytes arguments.now.trace))
-        (λ image trace. HeldSession image trace result (reader_of (I.left reader.old) (I.left reader.new) (I.broken reader.new))
-        (writer_of (O.written out.old) (O.written out.new) (O.broken out.new)) ((reader.new ≡ reader.old) × (out.new ≡ out.old)))
-        ⊎ LeavesUnread (IsStatusOfNone (D.bytes_at around.now.folder.now (string_bytes arguments.now.image)) result) ((reader.new ≡ reader.old) × (out.new ≡ out.old))
-        (writer_of (E.written faults.old) (E.written faults.new) (E.broken faults.new)) }
+    ensures { HoldsSessionOf (D.bytes_at around.now.folder.now) arguments.now result (reader_of (I.left reader.old) (I.left reader.new) (I.broken reader.new))
+        (writer_of (O.written out.old) (O.written out.new) (O.broken out.new)) (writer_of (E.written faults.old) (E.written faults.new) (E.broken faults.new))
+        ((reader.new ≡ reader.old) × (out.new ≡ out.old)) }
 {
     let alloc = around.rt.alloc();
     let (image, trace) = match read_files(alloc, around.folder, arguments, faults) {
@@ -135,11 +132,9 @@ where
     requires writes { O.broken out.old ≡ false }
     requires reports { E.broken faults.old ≡ false }
     // The bytes of the files were read, and gdb's packets about them were answered; or nothing was read of the reader, and nothing written.
-    ensures { OfImageAndTrace (D.bytes_at around.now.folder.now (string_bytes arguments.now.image)) (D.bytes_at around.now.folder.now (string_bytes arguments.now.trace))
-        (λ image trace. HeldConnection image trace result (reader_of (I.left reader.old) (I.left reader.new) (I.broken reader.new))
-        (writer_of (O.written out.old) (O.written out.new) (O.broken out.new)) ((reader.new ≡ reader.old) × (out.new ≡ out.old)) (out.new ≡ out.old))
-        ⊎ LeavesUnread (IsStatusOfNone (D.bytes_at around.now.folder.now (string_bytes arguments.now.image)) result) ((reader.new ≡ reader.old) × (out.new ≡ out.old))
-        (writer_of (E.written faults.old) (E.written faults.new) (E.broken faults.new)) }
+    ensures { HoldsConnectionOf (D.bytes_at around.now.folder.now) arguments.now result (reader_of (I.left reader.old) (I.left reader.new) (I.broken reader.new))
+        (writer_of (O.written out.old) (O.written out.new) (O.broken out.new)) (writer_of (E.written faults.old) (E.written faults.new) (E.broken faults.new))
+        ((reader.new ≡ reader.old) × (out.new ≡ out.old)) (out.new ≡ out.old) }
 {
     let alloc = around.rt.alloc();
     let (image, trace) = match read_files(alloc, around.folder, arguments, faults) {

@@ -1,28 +1,25 @@
 //! What the program does by its arguments, over streams and a folder.
 
-ghost use Rattle.std.specs.Prelude.{◌≡◌, ◌≢◌, ◌⊎◌, false};
-ghost use Rattle.ir_files.specs.Writers.{Writer, writer_of};
+ghost use Rattle.std.specs.Prelude.{◌≡◌, ◌≢◌, false};
+ghost use Rattle.ir_files.specs.Writers.{writer_of};
 ghost use Rattle.ir_files.specs.declared.exit_status.ExitStatus.TheVariants as exit;
 ghost use Rattle.ir_commands.specs.Files.{TellsFault};
-ghost use Rattle.ir_commands.specs.Printing.{LeavesUnread, PrintsCode, IsStatusOfNoImage};
-ghost use Rattle.ir_program.specs.Doing.{HeldBundle, HoldsSession, HoldsConnection, Shows};
+ghost use Rattle.ir_files.specs.Given.{IsStored};
+ghost use Rattle.ir_program.specs.Doing.{Does, HeldBundle, HoldsSession, HoldsConnection, MakesImage, Prints, PrintsOutcomes, Shows};
 ghost use Rattle.ir_program.specs.Taking.{TakenReader};
 
 use crate::bundles::bundle;
 use crate::debug::{debug_files, gdb_files};
 use crate::ends_once::EndsOnce;
 use crate::prompting::Prompting;
-use ir_arguments::{
-    Asked, DebugArguments, Explored, HuntArguments, ListArguments, Make, Print, RecordArguments,
-    ShrinkArguments, UntilArguments, parsed,
-};
+use ir_arguments::{Asked, DebugArguments, Explored, Make, Print, parsed};
 use ir_commands::{
     Surroundings, assemble_file, classes_file, convert_file, diff_files, events_file,
     explain_image, explore_file, hunt_file, list_file, record_file, say, shrink_file, stale_file,
     trace_file, until_file, view_file, who_file, why_file, within_file,
 };
 use ir_files::{ExitStatus, Folder};
-use ir_object::{Gate, Given, Hands};
+use ir_object::{Gate, Given};
 use ir_search::Observer;
 use ir_stream::{Sink, Source, write_all};
 use std::alloc::Global;
@@ -68,17 +65,16 @@ fn help<O: Sink, E: Sink>(text: &str, out: &mut O, faults: &mut E) -> ExitStatus
 }
 
 // The session of what is read, an image and a trace as lines of digits and then commands. At a terminal its input ends at the first end of it.
-fn bundled_session<R, H, I, O, E>(
-    rt: &R,
-    hands: &H,
+fn bundled_session<R, D, G, I, O, E>(
+    around: &Surroundings<'_, R, D, G>,
     at_terminal: bool,
     input: I,
     out: &mut O,
     faults: &mut E,
 ) -> ExitStatus
 where
-    R: Eprint,
-    H: Hands,
+    R: Threads + Clock + Sync + Eprint + AllocGlobal,
+    G: Gate + Sync,
     I: Source + Drop,
     O: Sink,
     E: Sink,
@@ -89,75 +85,46 @@ where
 {
     let mut input = EndsOnce::new(input, at_terminal);
     if at_terminal {
-        let _ = rt.eprint(format_args!("{WAITS}"));
+        let _ = around.rt.eprint(format_args!("{WAITS}"));
     }
-    bundle(hands, &mut input, out, faults)
+    let hands = Given::new(around.rt, around.rt.alloc(), around.gate);
+    bundle(&hands, &mut input, out, faults)
 }
 
 // Makes an image.
-fn make<D: Folder, E: Sink>(
-    alloc: Global,
-    folder: &D,
+fn make<R: AllocGlobal, D: Folder, G, E: Sink>(
+    around: &Surroundings<'_, R, D, G>,
     what: &Make,
     explains: bool,
     faults: &mut E,
 ) -> ExitStatus
     requires { E.broken faults.old ≡ false }
+    ensures { MakesImage (D.bytes_at around.now.folder.now) (λ place bytes. IsStored (D.knows around.now.folder.now) (D.was_put around.now.folder.now) place bytes)
+        what.now result }
 {
+    let (alloc, folder) = (around.rt.alloc(), around.folder);
     match what {
         Make::Source(arguments) => assemble_file(alloc, folder, arguments, explains, faults),
         Make::Elf(arguments) => convert_file(alloc, folder, arguments, explains, faults),
     }
 }
 
-// The exit status of a command over an image. It is reported what a refused image is.
-fn over_image<D: Folder, E: Sink>(
-    alloc: Global,
-    folder: &D,
-    image: &str,
-    status: ExitStatus,
-    faults: &mut E,
-) -> ExitStatus
-    ensures same { result ≡ status }
-    ensures kept { status ≢ exit.Refused → faults.new ≡ faults.old }
-{
-    explain_image(alloc, folder, image, status, faults);
-    status
-}
-
-// Prints the code of an image. It is reported what a refused image is.
-fn print_code<D: Folder, O: Sink, E: Sink>(
-    alloc: Global,
-    folder: &D,
-    arguments: &ListArguments,
-    out: &mut O,
-    faults: &mut E,
-) -> ExitStatus
-    requires writes { O.broken out.old ≡ false }
-    requires reports { E.broken faults.old ≡ false }
-    ensures prints { (told : Writer) × (PrintsCode (D.bytes_at folder.now) arguments.now result (writer_of (O.written out.old) (O.written out.new) (O.broken out.new)) told
-        ⊎ LeavesUnread (IsStatusOfNoImage (D.bytes_at folder.now) arguments.now.image arguments.now.map result) (out.new ≡ out.old) told) }
-    ensures quiet { result ≡ exit.Done → faults.new ≡ faults.old }
-{
-    let status = list_file(alloc, folder, arguments, out, faults);
-    let image = arguments.image.as_str();
-    over_image(alloc, folder, image, status, faults)
-}
-
 // Prints lines about files.
-fn print<D: Folder, O: Sink, E: Sink>(
-    alloc: Global,
-    folder: &D,
+fn print<R: AllocGlobal, D: Folder, G, O: Sink, E: Sink>(
+    around: &Surroundings<'_, R, D, G>,
     what: &mut Print,
     out: &mut O,
     faults: &mut E,
 ) -> ExitStatus
     requires writes { O.broken out.old ≡ false }
     requires reports { E.broken faults.old ≡ false }
+    ensures prints { Prints (D.bytes_at around.now.folder.now) what.old result (writer_of (O.written out.old) (O.written out.new) (O.broken out.new))
+        (writer_of (E.written faults.old) (E.written faults.new) (E.broken faults.new)) (out.new ≡ out.old) }
     ensures quiet { result ≡ exit.Done → faults.new ≡ faults.old }
 {
+    let (alloc, folder) = (around.rt.alloc(), around.folder);
     match what {
-        Print::Code(arguments) => print_code(alloc, folder, arguments, out, faults),
+        Print::Code(arguments) => list_file(alloc, folder, arguments, out, faults),
         Print::Trace(arguments) => trace_file(alloc, folder, arguments, out, faults),
         Print::Events(arguments) => { events_file(alloc, folder, arguments, out, faults) }
         Print::Stale(arguments) => { stale_file(alloc, folder, arguments, out, faults) }
@@ -183,112 +150,14 @@ where
     E: Sink,
     requires writes { O.broken out.old ≡ false }
     requires reports { E.broken faults.old ≡ false }
+    ensures { PrintsOutcomes (D.bytes_at around.now.folder.now) what.now result (writer_of (O.written out.old) (O.written out.new) (O.broken out.new))
+        (writer_of (E.written faults.old) (E.written faults.new) (E.broken faults.new)) (out.new ≡ out.old) }
 {
-    let (alloc, folder) = (around.rt.alloc(), around.folder);
     match what {
-        Explored::Within(arguments) => {
-            let status = within_file(around, arguments, out, faults);
-            let image = arguments.explore.image.as_str();
-            let status = over_image(alloc, folder, image, status, faults);
-            over_image(alloc, folder, arguments.other.as_str(), status, faults)
-        }
-        Explored::Classes(arguments) => {
-            let status = classes_file(around, arguments, out, faults);
-            let image = arguments.explore.image.as_str();
-            over_image(alloc, folder, image, status, faults)
-        }
-        Explored::Outcomes(arguments) => {
-            let status = explore_file(around, arguments, out, faults);
-            let image = arguments.image.as_str();
-            over_image(alloc, folder, image, status, faults)
-        }
+        Explored::Within(arguments) => within_file(around, arguments, out, faults),
+        Explored::Classes(arguments) => classes_file(around, arguments, out, faults),
+        Explored::Outcomes(arguments) => explore_file(around, arguments, out, faults),
     }
-}
-
-// Records the guest in a file.
-fn record<R, D, G, O, E>(
-    around: &Surroundings<'_, R, D, G>,
-    arguments: &RecordArguments,
-    explains: bool,
-    out: &mut O,
-    faults: &mut E,
-) -> ExitStatus
-where
-    R: Threads + Wait + Sync + Clock + AllocGlobal,
-    D: Folder,
-    G: Gate + Sync,
-    O: Sink,
-    E: Sink,
-    requires writes { O.broken out.old ≡ false }
-    requires reports { E.broken faults.old ≡ false }
-{
-    let status = record_file(around, arguments, explains, out, faults);
-    let image = arguments.image.as_str();
-    over_image(around.rt.alloc(), around.folder, image, status, faults)
-}
-
-// Hunts for a run of the guest in a file.
-fn hunt<R, D, G, O, E>(
-    around: &Surroundings<'_, R, D, G>,
-    arguments: &HuntArguments,
-    explains: bool,
-    out: &mut O,
-    faults: &mut E,
-) -> ExitStatus
-where
-    R: Threads + Sync + Clock + Eprint + AllocGlobal,
-    D: Folder,
-    O: Sink,
-    E: Sink,
-    requires writes { O.broken out.old ≡ false }
-    requires reports { E.broken faults.old ≡ false }
-{
-    let status = hunt_file(around, arguments, explains, out, faults);
-    let image = arguments.image.as_str();
-    over_image(around.rt.alloc(), around.folder, image, status, faults)
-}
-
-// Looks for an outcome of the guest in a file.
-fn until<R, D, G, O, E>(
-    around: &Surroundings<'_, R, D, G>,
-    arguments: &UntilArguments,
-    explains: bool,
-    out: &mut O,
-    faults: &mut E,
-) -> ExitStatus
-where
-    R: Clock + AllocGlobal,
-    D: Folder,
-    G: Observer,
-    O: Sink,
-    E: Sink,
-    requires writes { O.broken out.old ≡ false }
-    requires reports { E.broken faults.old ≡ false }
-{
-    let status = until_file(around, arguments, explains, out, faults);
-    let image = arguments.explore.image.as_str();
-    over_image(around.rt.alloc(), around.folder, image, status, faults)
-}
-
-// Shrinks a recorded run of the guest in a file.
-fn shrink<R, D, G, O, E>(
-    around: &Surroundings<'_, R, D, G>,
-    arguments: &ShrinkArguments,
-    explains: bool,
-    out: &mut O,
-    faults: &mut E,
-) -> ExitStatus
-where
-    R: Clock + AllocGlobal,
-    D: Folder,
-    O: Sink,
-    E: Sink,
-    requires writes { O.broken out.old ≡ false }
-    requires reports { E.broken faults.old ≡ false }
-{
-    let status = shrink_file(around, arguments, explains, out, faults);
-    let image = arguments.image.as_str();
-    over_image(around.rt.alloc(), around.folder, image, status, faults)
 }
 
 // Reports why nothing is done; the exit status of that.
@@ -352,11 +221,45 @@ where
     gdb_files(around, arguments, &mut input, out, faults)
 }
 
+// The image that a request is about, if it is told what it is where it is refused.
+fn image_of(asked: &Asked) -> Option<&str> {
+    let image = match asked {
+        Asked::Record(arguments) => &arguments.image,
+        Asked::Hunt(arguments) => &arguments.image,
+        Asked::Shrink(arguments) => &arguments.image,
+        Asked::Until(arguments) => &arguments.explore.image,
+        Asked::Print(Print::Code(arguments)) => &arguments.image,
+        Asked::Explore(Explored::Outcomes(arguments)) => &arguments.image,
+        Asked::Explore(Explored::Classes(arguments)) => &arguments.explore.image,
+        Asked::Explore(Explored::Within(arguments)) => &arguments.explore.image,
+        _ => return None,
+    };
+    Some(image.as_str())
+}
+
+// Where an image was refused, it is reported what it is; and the same of the guest that it is compared with.
+fn explain<D: Folder, E: Sink>(
+    alloc: Global,
+    folder: &D,
+    asked: &Asked,
+    status: ExitStatus,
+    faults: &mut E,
+)
+    ensures { status ≢ exit.Refused → faults.new ≡ faults.old }
+{
+    if let Some(image) = image_of(asked) {
+        explain_image(alloc, folder, image, status, faults);
+    }
+    if let Asked::Explore(Explored::Within(arguments)) = asked {
+        explain_image(alloc, folder, arguments.other.as_str(), status, faults);
+    }
+}
+
 // Does what is asked, and gives the exit status.
 fn serve<R, D, G, I, O, E>(
     around: &Surroundings<'_, R, D, G>,
     terminals: Terminals,
-    asked: Asked,
+    asked: &mut Asked,
     input: I,
     out: &mut O,
     faults: &mut E,
@@ -371,24 +274,22 @@ where
     requires reads { I.broken input ≡ false }
     requires writes { O.broken out.old ≡ false }
     requires reports { E.broken faults.old ≡ false }
+    ensures { Does (D.bytes_at around.now.folder.now) (λ place bytes. IsStored (D.knows around.now.folder.now) (D.was_put around.now.folder.now) place bytes)
+        asked.old result (I.left input) (writer_of (O.written out.old) (O.written out.new) (O.broken out.new))
+        (writer_of (E.written faults.old) (E.written faults.new) (E.broken faults.new)) (out.new ≡ out.old) }
 {
-    let (rt, folder) = (around.rt, around.folder);
-    let alloc = rt.alloc();
     let explains = terminals.faults;
     match asked {
-        Asked::Session => {
-            let hands = Given::new(rt, alloc, around.gate);
-            bundled_session(rt, &hands, terminals.input, input, out, faults)
-        }
-        Asked::Make(what) => make(alloc, folder, &what, explains, faults),
-        Asked::Record(arguments) => record(around, &arguments, explains, out, faults),
-        Asked::Hunt(arguments) => hunt(around, &arguments, explains, out, faults),
-        Asked::Shrink(arguments) => shrink(around, &arguments, explains, out, faults),
-        Asked::Until(arguments) => until(around, &arguments, explains, out, faults),
-        Asked::Debug(arguments) => debug(around, &arguments, terminals.input, input, out, faults),
-        Asked::Gdb(arguments) => gdb(around, &arguments, input, out, faults),
-        Asked::Print(mut what) => print(alloc, folder, &mut what, out, faults),
-        Asked::Explore(what) => explore(around, &what, out, faults),
+        Asked::Session => bundled_session(around, terminals.input, input, out, faults),
+        Asked::Make(what) => make(around, what, explains, faults),
+        Asked::Record(arguments) => record_file(around, arguments, explains, out, faults),
+        Asked::Hunt(arguments) => hunt_file(around, arguments, explains, out, faults),
+        Asked::Shrink(arguments) => shrink_file(around, arguments, explains, out, faults),
+        Asked::Until(arguments) => until_file(around, arguments, explains, out, faults),
+        Asked::Debug(arguments) => debug(around, arguments, terminals.input, input, out, faults),
+        Asked::Gdb(arguments) => gdb(around, arguments, input, out, faults),
+        Asked::Print(what) => print(around, what, out, faults),
+        Asked::Explore(what) => explore(around, what, out, faults),
         Asked::Help(text) => help(text.as_str(), out, faults),
         Asked::Nothing(why) => told(why.as_str(), ExitStatus::BadArguments, faults),
         Asked::NoMem => told("memory ran out", ExitStatus::Failed, faults),
@@ -414,6 +315,16 @@ where
     requires writes { O.broken out.old ≡ false }
     requires reports { E.broken faults.old ≡ false }
 {
-    let asked = parsed(around.rt.alloc(), invocation.arguments);
-    serve(&around, invocation.terminals, asked, input, out, faults)
+    let alloc = around.rt.alloc();
+    let mut asked = parsed(alloc, invocation.arguments);
+    let status = serve(
+        &around,
+        invocation.terminals,
+        &mut asked,
+        input,
+        out,
+        faults,
+    );
+    explain(alloc, around.folder, &asked, status, faults);
+    status
 }

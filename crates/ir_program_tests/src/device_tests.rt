@@ -6,6 +6,7 @@ use ir_debug::{DeviceErr, Sink, Source};
 use ir_files::WholeSink;
 use ir_object::{Given, OpenGate};
 use ir_program::{ProgramErr, bundle, bundled};
+use ir_stream::write_all;
 use std::test::Fail;
 use std::thread::Threads;
 use std::time::Clock;
@@ -77,7 +78,11 @@ impl Sink for Page {
 
 // Putting the page in its place is a call too.
 impl WholeSink for Page {
-    ghost use Rattle.std.specs.Prelude.{codes};
+    ghost use Rattle.std.specs.Prelude.{ℕ, codes};
+
+    ghost Home = { ℕ };
+
+    ghost home = { λ _. 0 };
 
     ghost whole = { λ p. p.whole };
 
@@ -85,7 +90,8 @@ impl WholeSink for Page {
 
     ghost cause = { λ _. codes "its calls are used up" };
 
-    fn finish(&mut self) -> Result<(), DeviceErr> {
+    fn put_whole(&mut self, bytes: &[u8]) -> Result<(), DeviceErr> {
+        write_all(self, bytes)?;
         if self.calls_left == 0 {
             self.failed = true;
             return Err(DeviceErr);

@@ -52,8 +52,12 @@ impl KeptOutputs {
 }
 
 impl OutputSink for KeptOutputs {
-    ghost use Rattle.std.specs.Prelude.{Some, map, codes};
+    ghost use Rattle.std.specs.Prelude.{ℕ, Some, map, codes};
     ghost use Rattle.ir_files.specs.Outputs.{Printed};
+
+    ghost Home = { ℕ };
+
+    ghost home = { λ _. 0 };
 
     ghost taken = { λ k. Some (map {B = Printed} (λ o. (o.thread, o.bytes.items)) k.each.items) };
 

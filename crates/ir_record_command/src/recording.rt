@@ -179,6 +179,7 @@ fn lines(alloc: Global, trace: &Trace) -> Result<String, AllocError>
 fn put_each<P: OutputSink>(outputs: &mut P, printed: &[Vec<u8>]) -> Result<(), DeviceErr>
     ensures ok { OnOk result (TookEach (output_writer_of (P.taken outputs.old) (P.taken outputs.new) (P.broken outputs.new)) (map (λ b. b.items) printed.now)) }
     ensures failed { OnErr result (FailedAtOne (output_writer_of (P.taken outputs.old) (P.taken outputs.new) (P.broken outputs.new)) (map (λ b. b.items) printed.now)) }
+    ensures home { P.home outputs.new ≡ P.home outputs.old }
 {
     for (thread, bytes) in printed.iter().enumerate() {
         outputs.put(thread, bytes.as_slice())?;
@@ -204,8 +205,9 @@ fn written<W: WholeSink, P: OutputSink, O: Sink>(
         (output_writer_of (P.taken outputs.old) (P.taken outputs.new) (P.broken outputs.new))
         (writer_of (O.written out.old) (O.written out.new) (O.broken out.new))
         ((outputs.new ≡ outputs.old) × (out.new ≡ out.old)) (out.new ≡ out.old)) }
+    ensures homes { (W.home trace.new ≡ W.home trace.old) × (P.home outputs.new ≡ P.home outputs.old) }
 {
-    if write_all(trace, bytes).is_err() || trace.finish().is_err() {
+    if trace.put_whole(bytes).is_err() {
         return Err(RecordFault::Trace);
     }
     if put_each(outputs, printed).is_err() {
@@ -239,6 +241,7 @@ fn kept<W: WholeSink, P: OutputSink, O: Sink>(
         (output_writer_of (P.taken files.old.outputs) (P.taken files.new.outputs) (P.broken files.new.outputs))
         (writer_of (O.written out.old) (O.written out.new) (O.broken out.new))
         ((files.new.trace ≡ files.old.trace) × (files.new.outputs ≡ files.old.outputs) × (out.new ≡ out.old)) ((files.new.outputs ≡ files.old.outputs) × (out.new ≡ out.old)) (out.new ≡ out.old)) }
+    ensures homes { (W.home files.new.trace ≡ W.home files.old.trace) × (P.home files.new.outputs ≡ P.home files.old.outputs) }
 {
     let (recorded, printed) = recorded?;
     let bytes = write_trace(alloc, &recorded)?;
@@ -312,9 +315,6 @@ fn told<W: WholeSink, P: OutputSink, O: Sink, E: Sink>(
     requires recorded { IfOk recorded (λ r. IsRecordedOf recording.now.image.now recording.now.plan.now r.0 (map (λ b. b.items) r.1.items)) }
     requires allowed { OnOk recorded (Allows recording.now.image.now recording.now.plan.now) }
     requires refused { IfErr recorded (λ e. RefusesRecord e recording.now.image.now recording.now.plan.now) }
-    requires writes { W.broken files.old.trace ≡ false }
-    requires puts { P.broken files.old.outputs ≡ false }
-    requires prints { O.broken out.old ≡ false }
     requires reports { E.broken faults.old ≡ false }
     ensures done { IfOk result (λ recorded. (printed : List (List ℕ)) × IsRecordedOf recording.now.image.now recording.now.plan.now recorded printed
         × Appends (W.written files.old.trace) (W.written files.new.trace) (encoding recorded)
@@ -327,6 +327,8 @@ fn told<W: WholeSink, P: OutputSink, O: Sink, E: Sink>(
         (telling P.taken P.broken P.called P.cause) O.written O.broken) status recording.now.image.now recording.now.plan.now
         (devices files.old.trace files.old.outputs out.old) (devices files.new.trace files.new.outputs out.new)
         (writer_of (E.written faults.old) (E.written faults.new) (E.broken faults.new))) }
+    // The files are those of the same places.
+    ensures homes { (W.home files.new.trace ≡ W.home files.old.trace) × (P.home files.new.outputs ≡ P.home files.old.outputs) }
 {
     match kept(alloc, recording, recorded, files, out) {
         Ok(recorded) => Ok(recorded),
@@ -371,6 +373,8 @@ pub fn record_by_list<R: Clock + AllocGlobal, W: WholeSink, P: OutputSink, O: Si
         (telling P.taken P.broken P.called P.cause) O.written O.broken) status recording.now.image.now recording.now.plan.now
         (devices files.old.trace files.old.outputs out.old) (devices files.new.trace files.new.outputs out.new)
         (writer_of (E.written faults.old) (E.written faults.new) (E.broken faults.new))) }
+    // The files are those of the same places.
+    ensures homes { (W.home files.new.trace ≡ W.home files.old.trace) × (P.home files.new.outputs ≡ P.home files.old.outputs) }
 {
     let alloc = rt.alloc();
     let Recording { image, plan } = *recording;
@@ -425,6 +429,8 @@ pub fn record_run<
         (telling P.taken P.broken P.called P.cause) O.written O.broken) status recording.now.image.now recording.now.plan.now
         (devices files.old.trace files.old.outputs out.old) (devices files.new.trace files.new.outputs out.new)
         (writer_of (E.written faults.old) (E.written faults.new) (E.broken faults.new))) }
+    // The files are those of the same places.
+    ensures homes { (W.home files.new.trace ≡ W.home files.old.trace) × (P.home files.new.outputs ≡ P.home files.old.outputs) }
 {
     let Recording { image, plan } = *recording;
     match plan.order {

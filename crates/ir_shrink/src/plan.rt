@@ -16,4 +16,6 @@ pub struct ShrinkPlan<'a> {
     pub stale: Option<bool>,
     /// How many seconds the search may take: no further run is begun after them. If it is `None`, as many as it takes.
     pub seconds: Option<u32>,
+    /// Whether it is shown on standard error how many switches are left, each time that there are fewer.
+    pub is_shown: bool,
 }

@@ -112,7 +112,7 @@ impl<C: Clock> Judge<'_, C> {
 }
 
 // What the search of a plan comes to.
-fn seek<R: Clock>(
+fn seek<R: Clock + Eprint>(
     rt: &R,
     alloc: Global,
     image: &ParsedImage<'_>,
@@ -132,7 +132,7 @@ fn seek<R: Clock>(
     };
     let given = judge.given(trace)?;
     let before = given.switches;
-    let pace = Pace::new(rt, plan.seconds);
+    let pace = Pace::new(rt, plan.seconds, plan.is_shown);
     let shrunken = judge.shrunken(&pace, given)?;
     let after = shrunken.kept.switches;
     let is_minimal = shrunken.is_minimal;
@@ -214,7 +214,7 @@ fn by_list<'a>(how: &RecordPlan<'a>, list: &'a str) -> RecordPlan<'a>
 /// # Errors
 /// The exit status. It is `NotFit` if no order is found whose run has the trace, and `NotSo` if the run doesn't fulfil a condition. Else it
 /// is the status of a fault, as of `record_run`. Which it is, is reported in one line, and nothing is written before that is known.
-pub fn shrink_run<R, W, P, O, E>(
+pub fn shrink_run<R: Clock + Eprint + AllocGlobal, W: WholeSink, P: OutputSink, O: Sink, E: Sink>(
     rt: &R,
     given: &GivenRun<'_, '_>,
     plan: &ShrinkPlan<'_>,
@@ -222,12 +222,6 @@ pub fn shrink_run<R, W, P, O, E>(
     out: &mut O,
     faults: &mut E,
 ) -> Result<Shrunk, ExitStatus>
-where
-    R: Clock + AllocGlobal,
-    W: WholeSink,
-    P: OutputSink,
-    O: Sink,
-    E: Sink,
     requires writes { W.broken files.old.trace ≡ false }
     requires puts { P.broken files.old.outputs ≡ false }
     requires prints { O.broken out.old ≡ false }
@@ -237,10 +231,10 @@ where
         shrunk.trace shrunk.is_minimal given.now.image.now plan.now given.now.trace.now (devices files.old.trace files.old.outputs out.old) (devices files.new.trace files.new.outputs out.new)) }
     ensures whole { OnOk result (W.whole files.new.trace ≡ true) }
     ensures quiet { OnOk result (faults.new ≡ faults.old) }
-    // Else it was refused, and nothing was written; or the lines failed; or what was found is said, and its recording stopped.
     ensures stopped { IfErr result (λ status. StopsShrink (tellings (telling W.written W.broken W.called W.cause) (telling P.taken P.broken P.called P.cause) O.written O.broken)
         status given.now.image.now plan.now given.now.trace.now (devices files.old.trace files.old.outputs out.old) (devices files.new.trace files.new.outputs out.new)
         (writer_of (E.written faults.old) (E.written faults.new) (E.broken faults.new))) }
+    ensures homes { (W.home files.new.trace ≡ W.home files.old.trace) × (P.home files.new.outputs ≡ P.home files.old.outputs) }
 {
     let GivenRun { image, trace } = *given;
     let alloc = rt.alloc();

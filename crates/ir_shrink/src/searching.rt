@@ -74,7 +74,7 @@ fn drawn(
     Ok(all)
 }
 
-impl<C: Clock> Judge<'_, C> {
+impl<C: Clock + Eprint> Judge<'_, C> {
     // Something better where the item at a place has endless turns. Where so many items are left out there, or those after it, nothing is.
     fn longer_at(&self, kept: &Kept, place: usize, size: usize) -> Result<Option<Kept>, AllocError>
         requires place { place < length kept.now.items.items }
@@ -170,7 +170,10 @@ impl<C: Clock> Judge<'_, C> {
             }
             let tried = self.tried_at(&kept, place, size)?;
             match tried {
-                Some(better) => kept = better,
+                Some(better) => {
+                    pace.show(self.clock, better.switches);
+                    kept = better;
+                }
                 None => place = place.saturating_add(size),
             }
         }
@@ -210,11 +213,8 @@ impl<C: Clock> Judge<'_, C> {
         Ok(Sought::Nothing)
     }
 
-    /// What a run is shrunk to.
-    ///
-    /// # Errors
-    /// Out of memory.
-    pub fn shrunken(&self, pace: &Pace, kept: Kept) -> Result<Shrunken, AllocError>
+    // What a run is shrunk to, in rounds until there is nothing better.
+    fn shrunken_by_rounds(&self, pace: &Pace, kept: Kept) -> Result<Shrunken, AllocError>
         requires { IsKeptOf (goal_of self.now.image.now self.now.plan.now) kept }
         ensures kept { IfOk result (λ s. IsKeptOf (goal_of self.now.image.now self.now.plan.now) s.kept) }
         ensures fewer { IfOk result (λ s. s.kept.switches ≤ kept.switches) }
@@ -225,7 +225,10 @@ impl<C: Clock> Judge<'_, C> {
         'rounds: loop {
             let next = self.sought(pace, &kept)?;
             match next {
-                Sought::Better(better) => kept = better,
+                Sought::Better(better) => {
+                    pace.show(self.clock, better.switches);
+                    kept = better;
+                }
                 Sought::Nothing => {
                     return Ok(Shrunken {
                         kept,
@@ -240,5 +243,21 @@ impl<C: Clock> Judge<'_, C> {
                 }
             }
         }
+    }
+
+    /// What a run is shrunk to. What the pace shows is taken off the terminal then.
+    ///
+    /// # Errors
+    /// Out of memory.
+    pub fn shrunken(&self, pace: &Pace, kept: Kept) -> Result<Shrunken, AllocError>
+        requires { IsKeptOf (goal_of self.now.image.now self.now.plan.now) kept }
+        ensures kept { IfOk result (λ s. IsKeptOf (goal_of self.now.image.now self.now.plan.now) s.kept) }
+        ensures fewer { IfOk result (λ s. s.kept.switches ≤ kept.switches) }
+        ensures minimal { IfOk result (λ s. s.is_minimal ≡ true → IsMinimal (goal_of self.now.image.now self.now.plan.now) s.kept.items.items s.kept.switches) }
+        ensures over { IfOk result (λ s. s.is_minimal ≡ false → (n : ℕ) × (pace.now.seconds ≡ Some n)) }
+    {
+        let shrunken = self.shrunken_by_rounds(pace, kept);
+        pace.end(self.clock);
+        shrunken
     }
 }

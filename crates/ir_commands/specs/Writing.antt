@@ -1,0 +1,143 @@
+-- What the commands that write files leave there, by the bytes that a folder says are at the paths of their arguments.
+use Rattle.std.specs.Prelude.{◌≡◌, ◌⊎◌, ℕ, List, [], ◌∷◌, ◌++◌, Option, Some, None, option_map, MatchOption, Ok, Err, String, map, true, ⊤}
+use Rattle.std.specs.String.{string_bytes}
+use Rattle.ir_asm.specs.Passes.{labels_of}
+use Rattle.ir_asm.specs.Source.{Fault}
+use Rattle.ir_arguments.specs.declared.assemble.AssembleArguments.{AssembleArguments}
+use Rattle.ir_arguments.specs.declared.elf.ElfArguments.{ElfArguments}
+use Rattle.ir_arguments.specs.declared.record.Chaos.{Chaos}
+use Rattle.ir_arguments.specs.declared.record.RecordArguments.{RecordArguments}
+use Rattle.ir_elf.specs.declared.refusal.Refusal.{Refusal}
+use Rattle.ir_files.specs.Writers.{Writer, Took}
+use Rattle.ir_files.specs.declared.exit_status.ExitStatus.{ExitStatus}
+use Rattle.ir_files.specs.declared.exit_status.ExitStatus.TheVariants as status
+use Rattle.ir_hunt.specs.Finding.{IsOrderOfSeed}
+use Rattle.ir_make.specs.Assembling.{image_bytes, masked}
+use Rattle.ir_make.specs.Converting.{elf_image_bytes}
+use Rattle.ir_make.specs.Mapping.{label_symbols}
+use Rattle.ir_record_command.specs.Faults.{RefusesRecord, fault_status}
+use Rattle.ir_record_command.specs.Plan.{Plan}
+use Rattle.ir_record_command.specs.Recording.{IsRecordedOf, recording_lines}
+use Rattle.ir_record_command.specs.declared.record_fault.RecordFault.{RecordFault}
+use Rattle.ir_stream.specs.Answers.{AppendsPrefix}
+use Rattle.ir_symbols.specs.Maps.{map_text}
+use Rattle.ir_symbols.specs.Symbols.{Symbol}
+use Rattle.ir_symbols.specs.Tables.{IsSortOf}
+use Rattle.ir_trace.specs.Encoding.{encoding}
+use Rattle.ir_trace.specs.Recorded.{Recorded}
+use Rattle.ir_commands.specs.Exploring.{IsInput}
+use Rattle.ir_commands.specs.Files.{IsFileIn, IsImageIn, TellsFault}
+use Rattle.ir_commands.specs.Printing.{Paths, LeavesUnread}
+
+-- what says that a file at a path has these bytes
+abbrev pub Storing : Type 1
+Storing = List ℕ → List ℕ → Type 0
+
+-- `ir elf`: the image of the ELF file's guest is at the path of IMAGE
+pub record Converts (at : Paths) (stored : Storing) (arguments : ElfArguments) : Type 0 where
+  pub file : List ℕ
+  pub image : List ℕ
+  pub is_file : IsFileIn (at (string_bytes arguments.elf)) file
+  pub is_image : elf_image_bytes file ≡ Ok image
+  pub stored_image : stored (string_bytes arguments.image) image
+
+-- the ELF file is no guest
+pub record RefusesElf (at : Paths) (arguments : ElfArguments) : Type 0 where
+  pub file : List ℕ
+  pub refusal : Refusal
+  pub is_file : IsFileIn (at (string_bytes arguments.elf)) file
+  pub is_none : elf_image_bytes file ≡ Err refusal
+
+-- an image was made, or refused, or a fault stopped it, or a file that is read would be lost
+pub record Makes (done refused : Type 0) (answered : ExitStatus) : Type 0 where
+  pub one : (answered ≡ status.Done) ⊎ ((answered ≡ status.Refused) ⊎ ((answered ≡ status.Failed) ⊎ (answered ≡ status.BadArguments)))
+  pub made : answered ≡ status.Done → done
+  pub unmade : answered ≡ status.Refused → refused
+
+-- the labels of a source are at the path of MAP, where it is given
+abbrev pub StoresLabels : {Z : Type 0} → Storing → Option (String Z) → List ℕ → Type 0
+StoresLabels stored path source = MatchOption path ⊤ (λ path. (labels : _) × (table : List Symbol)
+    × (labels_of (map masked source) ≡ Ok labels) × IsSortOf (label_symbols labels) table × stored (string_bytes path) (map_text table))
+
+-- `ir asm`: the image of the source is at the path of IMAGE
+pub record Assembles (at : Paths) (stored : Storing) (arguments : AssembleArguments) : Type 0 where
+  pub source : List ℕ
+  pub image : List ℕ
+  pub is_source : IsFileIn (at (string_bytes arguments.source)) source
+  pub is_image : image_bytes source ≡ Ok image
+  pub stored_image : stored (string_bytes arguments.image) image
+  pub stored_labels : StoresLabels stored arguments.map source
+
+-- the source has a fault
+pub record RefusesSource (at : Paths) (arguments : AssembleArguments) : Type 0 where
+  pub source : List ℕ
+  pub fault : Fault
+  pub is_source : IsFileIn (at (string_bytes arguments.source)) source
+  pub is_none : image_bytes source ≡ Err fault
+
+-- ---- `ir record`
+
+-- how a guest is recorded that reads these bytes, in this order, as the arguments say
+abbrev pub plan_asked : RecordArguments → Option (List ℕ) → List ℕ → Plan
+plan_asked arguments order input = record {
+  order = order;
+  budget = arguments.options.budget;
+  random = arguments.options.random;
+  input = input;
+  profile = arguments.options.profile;
+}
+
+-- the list in a file: a line feed may end it, and a carriage return come before that
+pub record IsListIn (known : Option (List ℕ)) (list : List ℕ) : Type 0 where
+  pub file : List ℕ
+  pub is_file : IsFileIn known file
+  pub is_list : (file ≡ list) ⊎ ((file ≡ list ++ 10 ∷ []) ⊎ ((file ≡ list ++ 13 ∷ []) ⊎ (file ≡ list ++ 13 ∷ 10 ∷ [])))
+
+-- the list that spells the order, as the arguments say: that of a seed, the list in a file, or the list itself; or there is none
+abbrev pub IsOrderAsked : Paths → RecordArguments → List ℕ → List ℕ → Option (List ℕ) → Type 0
+IsOrderAsked at arguments image input order = MatchOption arguments.chaos
+    (MatchOption arguments.order_file (order ≡ option_map string_bytes arguments.order)
+    (λ path. (list : List ℕ) × (order ≡ Some list) × IsListIn (at (string_bytes path)) list))
+    (λ chaos. (list : List ℕ) × (order ≡ Some list) × IsOrderOfSeed image (plan_asked arguments None input) chaos.way chaos.seed list)
+
+-- what is recorded, by the bytes of the files that are read
+pub record AsksFor (at : Paths) (arguments : RecordArguments) (image : List ℕ) (plan : Plan) : Type 0 where
+  pub input : List ℕ
+  pub order : Option (List ℕ)
+  pub is_image : IsImageIn (at (string_bytes arguments.image)) image
+  pub is_input : IsInput at arguments.options.input input
+  pub is_order : IsOrderAsked at arguments image input order
+  pub is_plan : plan ≡ plan_asked arguments order input
+
+-- a run of the image's guest was recorded: its trace is at the path of TRACE, and a line for each thread was printed
+pub record Records (at : Paths) (stored : Storing) (arguments : RecordArguments) (recorded : Recorded) (out : Writer) : Type 0 where
+  pub image : List ℕ
+  pub plan : Plan
+  pub printed : List (List ℕ)
+  pub asked : AsksFor at arguments image plan
+  pub is : IsRecordedOf image plan recorded printed
+  pub trace : stored (string_bytes arguments.trace) (encoding recorded)
+  pub lines : Took out (recording_lines recorded)
+
+-- the recording was refused, or stopped as it was written, with the status of a fault, which a line tells
+pub record StopsRecords (at : Paths) (arguments : RecordArguments) (answered : ExitStatus) (out faults : Writer) (unprinted : Type 0) : Type 0 where
+  pub image : List ℕ
+  pub plan : Plan
+  pub fault : RecordFault
+  pub asked : AsksFor at arguments image plan
+  pub status : answered ≡ fault_status fault
+  pub because : (RefusesRecord fault image plan × unprinted)
+      ⊎ ((recorded : Recorded) × (printed : List (List ℕ)) × IsRecordedOf image plan recorded printed
+      × AppendsPrefix out.before out.after (recording_lines recorded))
+  pub told : TellsFault faults
+
+-- the exit status where a recording doesn't begin: a file that is read would be lost, or one isn't read, or is refused
+abbrev pub IsStatusOfNoRecording : ExitStatus → Type 0
+IsStatusOfNoRecording answered = (answered ≡ status.BadArguments) ⊎ ((answered ≡ status.Failed) ⊎ (answered ≡ status.Refused))
+
+-- what `ir record` did: a run was recorded; or it wasn't, or not all of it was written; or the recording didn't begin, and nothing was printed
+abbrev pub RecordsFile : Paths → Storing → RecordArguments → ExitStatus → Writer → Writer → Type 0 → Type 0
+RecordsFile at stored arguments answered out faults unprinted =
+    (((answered ≡ status.Done) ⊎ ((answered ≡ status.NotSo) × (arguments.status ≡ true))) × ((recorded : Recorded) × Records at stored arguments recorded out))
+    ⊎ (StopsRecords at arguments answered out faults unprinted
+    ⊎ LeavesUnread (IsStatusOfNoRecording answered) unprinted faults)
