@@ -163,8 +163,6 @@ impl Beside {
         ensures order { IfOk result (λ beside. IsOrderAsked (D.bytes_at folder.now) arguments.now image.now beside.input.items (option_map string_bytes beside.list)) }
         ensures status { IfErr result IsStatusOfNoRecording }
         ensures told { OnErr result (E.broken faults.old ≡ false → TellsFault (writer_of (E.written faults.old) (E.written faults.new) (E.broken faults.new))) }
-        ensures status { IfErr result IsStatusOfNoRecording }
-        ensures told { OnErr result (E.broken faults.old ≡ false → TellsFault (writer_of (E.written faults.old) (E.written faults.new) (E.broken faults.new))) }
     {
         let paths = paths(arguments);
         let outputs = output_places(alloc, folder, faults, &paths, image)?;
