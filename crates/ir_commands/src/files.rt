@@ -155,8 +155,8 @@ pub fn told_of_file<W: WholeSink, E: Sink>(
     read: &str,
     faults: &mut E,
 ) -> ExitStatus
-    ensures same { W.broken file.now ≡ false → result ≡ status }
-    ensures failed { W.broken file.now ≡ true → result ≡ exit.Failed }
+    ensures status { (result ≡ status) ⊎ (result ≡ exit.Failed) }
+    ensures done { result ≡ exit.Done → status ≡ exit.Done }
 {
     if file.failed() {
         say(faults, file.name(), " can't be written: ", file.why());
