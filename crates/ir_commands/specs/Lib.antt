@@ -3,5 +3,4 @@ pub mod Exploring
 pub mod Files
 pub mod Listing
 pub mod Printing
-pub mod Searching
 pub mod Writing

@@ -1,7 +1,6 @@
 //! Conditions that arguments give.
 
-ghost use Rattle.std.specs.Prelude.{◌≡◌, ◌≢◌, IfErr, OnOk, IfOk};
-ghost use Rattle.ir_files.specs.declared.exit_status.ExitStatus.TheVariants as exit;
+ghost use Rattle.std.specs.Prelude.{◌≡◌, OnOk, IfOk};
 ghost use Rattle.ir_commands.specs.Conditions.{AreWritten};
 
 use crate::files::say;
@@ -45,7 +44,6 @@ pub fn conditions_of<'a, E: Sink>(
     texts: &'a [ConditionText],
 ) -> Result<Vec<Condition<'a>>, ExitStatus>
     ensures kept { OnOk result (faults.new ≡ faults.old) }
-    ensures undone { IfErr result (λ status. status ≢ exit.Done) }
     ensures read { IfOk result (λ conditions. AreWritten texts.now conditions.items) }
 {
     let Ok(conditions) = read_conditions(alloc, texts) else {

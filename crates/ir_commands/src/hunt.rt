@@ -1,15 +1,6 @@
 //! `ir hunt`: the first of many seeds whose run fulfils conditions is recorded.
 
-ghost use Rattle.std.specs.Prelude.{◌≡◌, ◌≢◌, ◌++◌, ℕ, List, IfErr, IfOk, false};
-ghost use Rattle.std.specs.Io.KnownBytes.{Appends};
-ghost use Rattle.ir_files.specs.Given.{IsStored};
-ghost use Rattle.ir_files.specs.Writers.{writer_of};
-ghost use Rattle.ir_files.specs.declared.exit_status.ExitStatus.TheVariants as exit;
-ghost use Rattle.ir_hunt.specs.Hunted.{IsFinding};
-ghost use Rattle.ir_hunt.specs.Lines.{found_line};
-ghost use Rattle.ir_record_command.specs.Recording.{recording_lines};
-ghost use Rattle.ir_trace.specs.Encoding.{encoding};
-ghost use Rattle.ir_commands.specs.Searching.{HuntsFile};
+ghost use Rattle.std.specs.Prelude.{◌≡◌, false};
 
 use crate::conditions::{conditions_of, copied_texts};
 use crate::ends::recorded_status;
@@ -54,11 +45,6 @@ where
     E: Sink,
     requires writes { O.broken out.old ≡ false }
     requires reports { E.broken faults.old ≡ false }
-    ensures found { IfOk result (λ recorded. (left_out seed : ℕ) × (list : List ℕ) × (printed : List (List ℕ))
-        × IsFinding image.now plan.now left_out seed list recorded printed
-        × IsStored (D.knows around.now.folder.now) (D.was_put around.now.folder.now) places.trace.now (encoding recorded)
-        × Appends (O.written out.old) (O.written out.new) (found_line seed list ++ recording_lines recorded)) }
-    ensures undone { IfErr result (λ status. status ≢ exit.Done) }
 {
     let Surroundings { rt, folder, .. } = *around;
     let mut files = record_files(rt.alloc(), folder, places.trace, places.outputs);
@@ -124,8 +110,6 @@ where
     D: Folder,
     O: Sink,
     E: Sink,
-    ensures kept { hunted.arguments.now.shrinks ≡ false → out.new ≡ out.old }
-    ensures stopped { hunted.arguments.now.shrinks ≡ false → IfErr found (λ status. result ≡ status) }
 {
     let alloc = around.rt.alloc();
     let explains = hunted.plan.is_shown;
@@ -150,9 +134,6 @@ fn hunted_by<R: Threads + Sync + Clock + Eprint + AllocGlobal, D: Folder, G, O: 
 ) -> Result<ExitStatus, ExitStatus>
     requires writes { O.broken out.old ≡ false }
     requires reports { E.broken faults.old ≡ false }
-    ensures done { IfOk result (λ answered. HuntsFile (D.bytes_at around.now.folder.now) (λ place bytes. IsStored (D.knows around.now.folder.now) (D.was_put around.now.folder.now) place bytes)
-        arguments.now answered (writer_of (O.written out.old) (O.written out.new) (O.broken out.new))) }
-    ensures undone { IfErr result (λ status. status ≢ exit.Done) }
 {
     let (alloc, folder) = (around.rt.alloc(), around.folder);
     let paths = paths(arguments);
@@ -199,8 +180,6 @@ where
     E: Sink,
     requires writes { O.broken out.old ≡ false }
     requires reports { E.broken faults.old ≡ false }
-    ensures { HuntsFile (D.bytes_at around.now.folder.now) (λ place bytes. IsStored (D.knows around.now.folder.now) (D.was_put around.now.folder.now) place bytes)
-        arguments.now result (writer_of (O.written out.old) (O.written out.new) (O.broken out.new)) }
 {
     match hunted_by(around, arguments, explains, out, faults) {
         Ok(status) | Err(status) => status,

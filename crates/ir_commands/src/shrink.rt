@@ -1,18 +1,6 @@
 //! `ir shrink`: a recorded run is shrunk to one with fewer context switches.
 
-ghost use Rattle.std.specs.Prelude.{◌≡◌, ◌≢◌, ◌++◌, ℕ, List, None, Ok, IfErr, IfOk, OnOk, false, true};
-ghost use Rattle.std.specs.String.{string_bytes};
-ghost use Rattle.std.specs.Io.KnownBytes.{Appends};
-ghost use Rattle.ir_files.specs.Given.{IsStored};
-ghost use Rattle.ir_files.specs.Writers.{writer_of};
-ghost use Rattle.ir_files.specs.declared.exit_status.ExitStatus.TheVariants as exit;
-ghost use Rattle.ir_record_command.specs.Recording.{recording_lines};
-ghost use Rattle.ir_shrink.specs.Lines.{shrunk_lines};
-ghost use Rattle.ir_shrink.specs.Stopping.{IsShrinking};
-ghost use Rattle.ir_trace.specs.Encoding.{encoding};
-ghost use Rattle.ir_trace.specs.Recorded.{recorded_at};
-ghost use Rattle.ir_commands.specs.Files.{IsFileIn, IsImageIn};
-ghost use Rattle.ir_commands.specs.Searching.{Shrinks, ShrinksFile};
+ghost use Rattle.std.specs.Prelude.{◌≡◌, None, OnOk, false};
 
 use crate::conditions::{conditions_of, copied_texts};
 use crate::ends::tell_ends;
@@ -73,9 +61,6 @@ fn given_by<D: Folder, E: Sink>(
     arguments: &ShrinkArguments,
 ) -> Result<Given, ExitStatus>
     ensures kept { OnOk result (faults.new ≡ faults.old) }
-    ensures image { IfOk result (λ given. IsImageIn (D.bytes_at folder.now (string_bytes arguments.now.image)) given.image.items) }
-    ensures trace { IfOk result (λ given. IsFileIn (D.bytes_at folder.now (string_bytes arguments.now.trace)) given.trace.items) }
-    ensures undone { IfErr result (λ status. status ≢ exit.Done) }
 {
     let image = image_in(alloc, folder, faults, arguments.image.as_str())?;
     match bytes_of(
@@ -100,8 +85,6 @@ fn fitting_trace<O: Sink, E: Sink>(
     requires { O.broken out.old ≡ false }
     ensures kept { OnOk result (faults.new ≡ faults.old) }
     ensures quiet { OnOk result (out.new ≡ out.old) }
-    ensures reads { IfOk result (λ trace. recorded_at given.now.trace.items ≡ Ok trace) }
-    ensures undone { IfErr result (λ status. status ≢ exit.Done) }
 {
     let (image, trace) = (given.image.as_slice(), given.trace.as_slice());
     match open_fit(alloc, image, trace) {
@@ -158,11 +141,6 @@ where
     E: Sink,
     requires writes { O.broken out.old ≡ false }
     requires reports { E.broken faults.old ≡ false }
-    ensures done { IfOk result (λ shrunk. (before after : ℕ) × (list : List ℕ) × (printed : List (List ℕ))
-        × IsShrinking given.now.image.now plan.now given.now.trace.now before after list shrunk.is_minimal shrunk.trace printed
-        × IsStored (D.knows around.now.folder.now) (D.was_put around.now.folder.now) places.trace.now (encoding shrunk.trace)
-        × Appends (O.written out.old) (O.written out.new) (shrunk_lines before after list shrunk.is_minimal ++ recording_lines shrunk.trace)) }
-    ensures undone { IfErr result (λ status. status ≢ exit.Done) }
 {
     let Surroundings { rt, folder, .. } = *around;
     let mut files = record_files(rt.alloc(), folder, places.trace, places.outputs);
@@ -175,9 +153,7 @@ pub fn shrunk_status<E: Sink>(
     explains: bool,
     shrunk: &Shrunk,
     faults: &mut E,
-) -> ExitStatus
-    ensures { result ≡ exit.Done → shrunk.now.is_minimal ≡ true }
-{
+) -> ExitStatus {
     if explains {
         tell_ends(alloc, &shrunk.trace, faults);
     }
@@ -204,8 +180,6 @@ where
     E: Sink,
     requires writes { O.broken out.old ≡ false }
     requires reports { E.broken faults.old ≡ false }
-    ensures { ShrinksFile (D.bytes_at around.now.folder.now) (λ place bytes. IsStored (D.knows around.now.folder.now) (D.was_put around.now.folder.now) place bytes)
-        arguments.now result (writer_of (O.written out.old) (O.written out.new) (O.broken out.new)) }
 {
     match shrunk_by(around, arguments, explains, out, faults) {
         Ok(shrunk) => shrunk_status(around.rt.alloc(), explains, &shrunk, faults),
@@ -223,9 +197,6 @@ fn shrunk_by<R: Clock + Eprint + AllocGlobal, D: Folder, G, O: Sink, E: Sink>(
 ) -> Result<Shrunk, ExitStatus>
     requires writes { O.broken out.old ≡ false }
     requires reports { E.broken faults.old ≡ false }
-    ensures done { IfOk result (λ shrunk. Shrinks (D.bytes_at around.now.folder.now) (λ place bytes. IsStored (D.knows around.now.folder.now) (D.was_put around.now.folder.now) place bytes)
-        arguments.now shrunk.trace shrunk.is_minimal (writer_of (O.written out.old) (O.written out.new) (O.broken out.new))) }
-    ensures undone { IfErr result (λ status. status ≢ exit.Done) }
 {
     let (alloc, folder) = (around.rt.alloc(), around.folder);
     if loses_given(folder, faults, arguments) {

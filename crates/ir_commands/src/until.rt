@@ -1,17 +1,6 @@
 //! `ir explore --until`: the first outcome that fulfils conditions is recorded.
 
-ghost use Rattle.std.specs.Prelude.{◌≡◌, ◌≢◌, ◌++◌, List, ℕ, IfErr, IfOk, false, map};
-ghost use Rattle.std.specs.Io.KnownBytes.{Appends};
-ghost use Rattle.ir_explore.specs.Hang.{IsHangRecorded};
-ghost use Rattle.ir_explore.specs.Until.{IsOutcomeFinding};
-ghost use Rattle.ir_explore.specs.declared.hang_order.HangOrder.{HangOrder};
-ghost use Rattle.ir_files.specs.Given.{IsStored};
-ghost use Rattle.ir_files.specs.Writers.{writer_of};
-ghost use Rattle.ir_files.specs.declared.exit_status.ExitStatus.TheVariants as exit;
-ghost use Rattle.ir_record_command.specs.Recording.{recording_lines};
-ghost use Rattle.ir_schedule.specs.Conditions.{as_condition};
-ghost use Rattle.ir_trace.specs.Encoding.{encoding};
-ghost use Rattle.ir_commands.specs.Searching.{Finds, FindsInFile};
+ghost use Rattle.std.specs.Prelude.{◌≡◌, false};
 
 use crate::conditions::conditions_of;
 use crate::ends::recorded_status;
@@ -55,11 +44,6 @@ where
     E: Sink,
     requires writes { O.broken out.old ≡ false }
     requires reports { E.broken faults.old ≡ false }
-    ensures found { IfOk result (λ recorded. (text list : List ℕ) × (printed : List (List ℕ))
-        × IsOutcomeFinding plan.now.image.now plan.now.explore (map as_condition plan.now.conditions.now) list text recorded printed
-        × IsStored (D.knows around.now.folder.now) (D.was_put around.now.folder.now) places.trace.now (encoding recorded)
-        × Appends (O.written out.old) (O.written out.new) (text ++ recording_lines recorded)) }
-    ensures undone { IfErr result (λ status. status ≢ exit.Done) }
 {
     let Surroundings { rt, folder, .. } = *around;
     let mut files = record_files(rt.alloc(), folder, places.trace, places.outputs);
@@ -82,11 +66,6 @@ where
     E: Sink,
     requires writes { O.broken out.old ≡ false }
     requires reports { E.broken faults.old ≡ false }
-    ensures found { IfOk result (λ recorded. (order : HangOrder) × (text : List ℕ) × (printed : List (List ℕ))
-        × IsHangRecorded plan.now.image.now plan.now.explore order text recorded printed
-        × IsStored (D.knows around.now.folder.now) (D.was_put around.now.folder.now) places.trace.now (encoding recorded)
-        × Appends (O.written out.old) (O.written out.new) (text ++ recording_lines recorded)) }
-    ensures undone { IfErr result (λ status. status ≢ exit.Done) }
 {
     let Surroundings { rt, folder, .. } = *around;
     let mut files = record_files(rt.alloc(), folder, places.trace, places.outputs);
@@ -107,9 +86,6 @@ fn found_by<R: Clock + AllocGlobal, D: Folder, G: Observer, O: Sink, E: Sink>(
 ) -> Result<Trace, ExitStatus>
     requires writes { O.broken out.old ≡ false }
     requires reports { E.broken faults.old ≡ false }
-    ensures found { IfOk result (λ recorded. Finds (D.bytes_at around.now.folder.now) (λ place bytes. IsStored (D.knows around.now.folder.now) (D.was_put around.now.folder.now) place bytes)
-        arguments.now recorded (writer_of (O.written out.old) (O.written out.new) (O.broken out.new))) }
-    ensures undone { IfErr result (λ status. status ≢ exit.Done) }
 {
     let (alloc, folder) = (around.rt.alloc(), around.folder);
     let paths = paths(arguments);
@@ -145,8 +121,6 @@ pub fn until_file<R: Clock + AllocGlobal, D: Folder, G: Observer, O: Sink, E: Si
 ) -> ExitStatus
     requires writes { O.broken out.old ≡ false }
     requires reports { E.broken faults.old ≡ false }
-    ensures { FindsInFile (D.bytes_at around.now.folder.now) (λ place bytes. IsStored (D.knows around.now.folder.now) (D.was_put around.now.folder.now) place bytes)
-        arguments.now result (writer_of (O.written out.old) (O.written out.new) (O.broken out.new)) }
 {
     let found = found_by(around, arguments, out, faults);
     recorded_status(around.rt.alloc(), found, explains, faults)
