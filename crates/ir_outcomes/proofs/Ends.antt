@@ -1,6 +1,7 @@
 -- Why a search for outcomes ends before it is over.
 use Rattle.std.proofs.Common.{◌≡◌, ℕ, suc, List, [], ◌∷◌, ◌++◌, Some, length, arith}
 use Rattle.std.specs.Prelude.{slice_get}
+use Rattle.ir_search.specs.declared.origin.Origin.{Origin}
 use Rattle.ir_search.specs.declared.stop.Stop.{Stop}
 use Rattle.ir_search.specs.declared.stop.Stop.TheVariants.{Nodes, Private, Log, World, Memory, Time, Outcomes}
 use Rattle.ir_search.proofs.CallerLemmas.{slice_get_append_kept, slice_get_some_below}

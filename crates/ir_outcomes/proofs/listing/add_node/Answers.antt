@@ -30,8 +30,9 @@ show-requires-clause-done c = λ s at.
     ((c.has_new_outcome.ensures.new c.if-not-has_new_outcome.false).done (length listed) c.args.node (added_element_is_last listed c.args.node)).1 s at
 
 pub is_full-requires : goal.is_full-requires
-is_full-requires c =
-    subst (IsFew c.args.states.now.graph.bounds) (sym (c.len.ensures ∙ c.args.list.now.outcomes.ok.0)) c.requires.few
+is_full-requires c = record {
+  few = subst (IsFew c.args.states.now.graph.bounds) (sym (c.len.ensures ∙ c.args.list.now.outcomes.ok.0)) c.requires.few;
+}
 
 pub returns-then-is_full-clause-refused : goal.returns-then-is_full-clause-refused
 returns-then-is_full-clause-refused c =
