@@ -157,6 +157,7 @@ pub fn told_of_file<W: WholeSink, E: Sink>(
 ) -> ExitStatus
     ensures status { (result ≡ status) ⊎ (result ≡ exit.Failed) }
     ensures done { result ≡ exit.Done → status ≡ exit.Done }
+    ensures refused { result ≡ exit.Refused → status ≡ exit.Refused }
 {
     if file.failed() {
         say(faults, file.name(), " can't be written: ", file.why());

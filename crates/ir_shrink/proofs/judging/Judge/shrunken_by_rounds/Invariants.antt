@@ -1,7 +1,7 @@
 use Rattle.std.proofs.Common.{◌≤◌}
 use Rattle.ir_shrink.specs.Judging.{IsKeptOf}
 use Rattle.ir_shrink.specs.Shrinking.{goal_of}
-use Rattle.ir_shrink.proofs.judging.Judge.shrunken.Given as goal
+use Rattle.ir_shrink.proofs.judging.Judge.shrunken_by_rounds.Given as goal
 
 abbrev pub invariant-rounds : goal.invariant-rounds
 invariant-rounds g l = record {
