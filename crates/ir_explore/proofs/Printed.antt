@@ -16,10 +16,11 @@ use Rattle.ir_outcomes.specs.Explored.{AreExplored, IsExplored}
 use Rattle.ir_outcomes.specs.declared.explored.Explored.{Explored}
 use Rattle.ir_outcomes.specs.declared.exploring.Exploring.{Exploring}
 use Rattle.ir_outcomes.proofs.CallerLemmas.{explored_before_first}
-use Rattle.ir_explore.specs.Faults.{StopsPrinting}
+use Rattle.ir_explore.specs.Faults.{IsExplorable, StopsPrinting, ToldNothing}
 use Rattle.ir_explore.specs.Printed.{HasPrinted}
 use Rattle.ir_explore.specs.Texts.{Objects, objects_of, AreTexts, TellsPart, AreKnown, known_of, IsEnding, IsAnswerAbout}
-use Rattle.ir_explore.specs.declared.fault.ExploreFault.TheVariants.{NoMem, Write}
+use Rattle.ir_explore.specs.declared.fault.ExploreFault.{ExploreFault}
+use Rattle.ir_explore.specs.declared.fault.ExploreFault.TheVariants.{Image, TooLarge, NoMem, Write}
 use Rattle.ir_explore.specs.Plan.{ExplorePlan, setup_of}
 use Rattle.ir_explore.proofs.Joined.{no_outcome_no_texts, texts_kept_among_more}
 use Rattle.ir_stream.proofs.CallerLemmas.{prefix_after_whole}
@@ -117,3 +118,17 @@ lines_and_end_answer guest plan o s e lines last answered same flats outcomes is
     whole = refl;
   },
 )
+
+-- why an answer about a guest isn't printed whole is why none is told of the bytes that encode it
+pub stops_told_of_bytes : (e : ExploreFault) (bytes : List ℕ) (plan : ExplorePlan) (guest : Guest) (w : Writer) → IsExplorable bytes plan.profile guest
+    → StopsPrinting e guest plan w → ToldNothing e bytes plan w
+stops_told_of_bytes (Image why) bytes plan guest w is stops = elim stops [
+  | inl early ↦ absurd early
+  | inr p ↦ absurd (cc p.0)
+]
+stops_told_of_bytes TooLarge bytes plan guest w is stops = elim stops [
+  | inl early ↦ absurd early
+  | inr p ↦ absurd (cc p.0)
+]
+stops_told_of_bytes NoMem bytes plan guest w is stops = inr (guest, is, stops)
+stops_told_of_bytes Write bytes plan guest w is stops = (guest, is, stops)
