@@ -4,7 +4,7 @@
 python3 tests/shrinking.py IR [--seeds N] [--jobs N] [--table] [FAULT ..]
 
 Seeds of `ir hunt` that show a fault are shrunk. What is written has to be what `ir record --order LIST` records, the switches that the line names are
-those of LIST, what is shrunk once more has no more switches (the long faults of --table may have), and `ir hunt --shrink` comes to the same. Where
+those of LIST, what is shrunk once more has no more switches (a guest in C may have: a line says so), and `ir hunt --shrink` comes to the same. Where
 `ir explore --until` finds the fault, the fewest switches that it names have to be those of the shrunk run in at least nine of ten. It counts changes
 between entries and tries, of which a run never has more than changes between steps. --table prints for each fault the switches of the hunted orders, of
 the shrunk runs, and the fewest. Guests in C need riscv64-unknown-elf-gcc, and are left out if it isn't there. The last line is `N passed, M failed`.
@@ -183,7 +183,7 @@ def check_seed(folder, image, fault, seed, way):
     wants(f"its trace of {name}", (folder / "both.trc").read_bytes(), (folder / "least.trc").read_bytes())
     more = shrunk(done(["shrink", image, "least.trc", "again.trc", *until], folder, timeout=600))[1]
     if more > after:
-        if not fault.long:
+        if isinstance(fault.source, str):
             raise Wrong(f"{name}: {after}, and once more {more}")
         print(f"{name}: {after}, and once more {more}", flush=True)
     return int(seed), switches_of(hunted), before, after, order
