@@ -8,10 +8,11 @@ of `proofs/` is public; a crate stands in crates.txt on each crate that its file
 `examples.rt` are those of the files of `examples`, since a test can read no file; the manual page and docs/reference agree with the texts of
 `--help`; the literals of the page of `ir view` are those of page/view.html; docs/internals names and counts what is there (scripts/definitions.py,
 scripts/facts.py); no lemma statement stands in two crates, and no line of src, specs and proofs has more than 200 characters
-(scripts/statements.py); no function has more than 6 parameters or more than 12 clauses; and each edit of `must-fail/` and `edits/` applies, has no line
-that isn't read, and writes no name that its file doesn't have.
+(scripts/statements.py); no function has more than 6 parameters or more than 12 clauses; each edit of `must-fail/` and `edits/` applies, has no line
+that isn't read, and writes no name that its file doesn't have; and `rt fmt` would change no file, since the gate refuses a crate of which it would.
 """
 import re
+import subprocess
 import sys
 from functools import cache
 from pathlib import Path
@@ -194,8 +195,15 @@ def large_functions():
                 yield f"{path.relative_to(TOP)}: {found[1]} has {many} clauses"
 
 
+def unformatted():
+    """The files that `rt fmt` would change, a line each."""
+    files = [str(path.relative_to(TOP)) for path in files_of(TOP / "crates") if {"src", "specs", "proofs"} & set(path.relative_to(TOP).parts)]
+    ran = subprocess.run(["rattle", "fmt", "--check", *files], cwd=TOP, capture_output=True, text=True, check=False)
+    return (ran.stdout + ran.stderr).splitlines() if ran.returncode else []
+
+
 def main():
-    found = [*faults(), *unknown_tactics(), *large_functions(), *examples(), *differences(), *completion_differences(), *page_differences(), *bad_edits(), *definitions.faults(), *facts.differences(), *statements.copies(), *statements.long_lines()]
+    found = [*faults(), *unknown_tactics(), *large_functions(), *examples(), *differences(), *completion_differences(), *page_differences(), *bad_edits(), *definitions.faults(), *facts.differences(), *statements.copies(), *statements.long_lines(), *unformatted()]
     print("\n".join(found) or "rooms: each crate cites what the others offer; examples, help and definitions agree with the pages; the edits apply")
     return 1 if found else 0
 

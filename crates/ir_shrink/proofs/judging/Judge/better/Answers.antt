@@ -15,7 +15,7 @@ pub returns-in-Good : goal.returns-in-Good
 returns-in-Good g c = (
   good_is_kept c.args.self.now.image.now c.args.self.now.plan.now c.args.items.now c.in_ok-played.played.items.items c.in_ok-played.played.flat
       c.in_ok-played.ensures c.switches-count.result
-    (c.switches-count.ensures ∙ ap (λ xs. thread_changes (map (λ t. t.0) (turns_of_items xs))) c.as_slice.ensures.value)
+      (c.switches-count.ensures ∙ ap (λ xs. thread_changes (map (λ t. t.0) (turns_of_items xs))) c.as_slice.ensures.value)
       (subst (IsVerdict (goal_of c.args.self.now.image.now c.args.self.now.plan.now) c.in_ok-played.ensures.run) c.in-Good.is
       (c.in_ok-verdict.ensures c.args.items.now c.in_ok-played.ensures)),
   omega (arith, c.if-count-limit.false),
