@@ -141,6 +141,7 @@ bench: ir
 	cd crates/ir_bench && python3 ../../scripts/rt.py run < stdin > out.txt && rm out.txt
 	python3 bench/speed.py ./ir crates/ir_bench/out/ir_bench
 	python3 bench/hunting.py ./ir
+	python3 bench/shrinking.py ./ir
 	python3 bench/traces.py ./ir
 	python3 bench/exploring.py ./ir --large
 	python3 bench/spin.py ./ir

@@ -3,11 +3,11 @@
 
 python3 tests/shrinking.py IR [--seeds N] [--jobs N] [--table] [FAULT ..]
 
-Seeds of `ir hunt` that show a fault are shrunk. What is written has to be what `ir record --order LIST` records, the switches that the line names are those of
-LIST, what is shrunk once more has no more switches, and `ir hunt --shrink` comes to the same. Where `ir explore --until` finds the fault, the fewest switches that it
-names have to be those of the shrunk run in at least nine of ten. It counts changes between entries and tries, of which a run never has more than changes between
-steps. --table prints for each fault the switches of the hunted orders, the shrunk runs and the fewest. Guests in C need riscv64-unknown-elf-gcc, and are
-left out if it isn't there. The last line is `N passed, M failed`.
+Seeds of `ir hunt` that show a fault are shrunk. What is written has to be what `ir record --order LIST` records, the switches that the line names are
+those of LIST, what is shrunk once more has no more switches (a guest in C may have: a line says so), and `ir hunt --shrink` comes to the same. Where
+`ir explore --until` finds the fault, the fewest switches that it names have to be those of the shrunk run in at least nine of ten. It counts changes
+between entries and tries, of which a run never has more than changes between steps. --table prints for each fault the switches of the hunted orders, of
+the shrunk runs, and the fewest. Guests in C need riscv64-unknown-elf-gcc, and are left out if it isn't there. The last line is `N passed, M failed`.
 """
 import shutil
 import subprocess
@@ -49,8 +49,8 @@ REFUSED = [
 
 @dataclass(frozen=True)
 class Fault:
-    """A guest, in assembly or as a file in C; the conditions of a run that shows its fault; what `ir explore` looks for, if it can; options of the recording and
-    of ir-cc; and whether the test takes it, or the table alone."""
+    """A guest, as a text in assembly or as a file for the compiler; the conditions of a run that shows its fault; what `ir explore` looks for, if it can; options of the
+    recording; and whether the table alone takes it, and not the test."""
 
     name: str
     source: object
@@ -58,7 +58,6 @@ class Fault:
     sought: tuple = ()
     budget: tuple = ()
     profile: tuple = ()
-    options: tuple = ()
     long: bool = False
 
     def until(self, conditions):
@@ -100,7 +99,9 @@ def in_c():
         ("tests/threads/programs/account.c", "fault", {}), ("tests/threads/programs/deadlock.c", "budget", {"sought": ("hang",), "budget": small}),
     ]
     for path, condition, more in rows:
-        yield Fault(Path(path).name, TOP / path, (condition,), **{"sought": (condition,), **more})
+        # These guests poll, and a run that spends a budget would be a fault of a different kind, which `ir explore` doesn't have.
+        conditions = (condition,) if condition == "budget" else (condition, "!budget")
+        yield Fault(Path(path).name, TOP / path, conditions, **{"sought": (condition,), "budget": ("--budget", "50000"), **more})
 
 
 def all_faults():
@@ -117,13 +118,13 @@ def all_faults():
 
 @dataclass
 class Row:
-    """What came of a fault: by each way the switches of the hunted orders, of the orders of their traces and of the shrunk runs; and the fewest of `ir explore`, with
-    those of its order."""
+    """What came of a fault: by each way the switches of the hunted orders, of the orders of their traces and of the shrunk runs; and the fewest of `ir explore`, or how
+    it ended."""
 
     fault: Fault
     shrunk: dict = field(default_factory=dict)
     fewest: object = None
-    states: str = ""
+    ended: str = ""
 
 
 def shrunk(lines):
@@ -153,8 +154,10 @@ def image_of(folder, fault):
     if isinstance(fault.source, str):
         assembled(folder, "guest", fault.source)
         return "guest.img"
-    ended = subprocess.run([sys.executable, COMPILER, fault.source, *fault.options, "-o", "guest.elf"], cwd=folder, check=False, capture_output=True, text=True, timeout=300)
-    wants(f"{fault.name}: ir-cc", (ended.returncode, ended.stderr), (0, ""))
+    by_hand = fault.source.suffix == ".S"
+    words = ["riscv64-unknown-elf-gcc", fault.source, "@guest/ir.opts"] if by_hand else [sys.executable, COMPILER, fault.source]
+    ended = subprocess.run([*words, "-o", folder / "guest.elf"], cwd=TOP, check=False, capture_output=True, text=True, timeout=300)
+    wants(f"{fault.name}: compiled", (ended.returncode, ended.stderr), (0, ""))
     return "guest.elf"
 
 
@@ -180,24 +183,26 @@ def check_seed(folder, image, fault, seed, way):
     wants(f"its trace of {name}", (folder / "both.trc").read_bytes(), (folder / "least.trc").read_bytes())
     more = shrunk(done(["shrink", image, "least.trc", "again.trc", *until], folder, timeout=600))[1]
     if more > after:
-        raise Wrong(f"{name}: {after}, and once more {more}")
+        if isinstance(fault.source, str):
+            raise Wrong(f"{name}: {after}, and once more {more}")
+        print(f"{name}: {after}, and once more {more}", flush=True)
     return int(seed), switches_of(hunted), before, after, order
 
 
 def fewest_of(folder, image, fault):
-    """The fewest switches of a run that shows the fault, if `ir explore` finds it, with those of its order, and how its search ended."""
+    """The fewest switches of a run that shows the fault, if `ir explore` finds it, and how its search ended."""
     if not fault.sought:
-        return None, ""
+        return None, "not explored"
     try:
         ended = run(["explore", image, "fewest.trc", *fault.profile, *fault.until(fault.sought), "--states", str(MOST_STATES)], folder, timeout=2 * MOST_SECONDS)
     except subprocess.TimeoutExpired:
-        return None, "time"
+        return None, "explored for too long"
     lines = ended.stdout.decode().splitlines()
     told = next((line.split() for line in lines if line.startswith(("found ", "hang "))), None)
     last = next((line for line in reversed(lines) if line.startswith(("finished", "stopped", "found"))), "")
     if ended.returncode or told is None:
         return None, last
-    return (int(told[told.index("switches") + 1]), switches_of(told[-1])), last
+    return int(told[told.index("switches") + 1]), last
 
 
 def row_of(fault, seeds):
@@ -206,7 +211,7 @@ def row_of(fault, seeds):
     with tempfile.TemporaryDirectory() as place:
         folder = Path(place)
         image = image_of(folder, fault)
-        row.fewest, row.states = fewest_of(folder, image, fault)
+        row.fewest, row.ended = fewest_of(folder, image, fault)
         for way in WAYS:
             seed = 0
             for _ in range(seeds):
@@ -214,6 +219,7 @@ def row_of(fault, seeds):
                 if found is None:
                     break
                 row.shrunk.setdefault(way, []).append(found)
+                tell(row, way, found)
                 seed = found[0] + 1
     return row
 
@@ -240,20 +246,20 @@ def print_table(rows):
     print("| Fault | Hunted by walk | Shrunk | Hunted by pct:3 | Shrunk | Fewest |\n|---|---|---|---|---|---|")
     for row in rows:
         cells = [span(found[place] for found in row.shrunk.get(way, [])) for way in WAYS for place in (1, 3)]
-        print(f"| {row.fault.name} | {' | '.join(cells)} | {row.fewest[0] if row.fewest else ''} |", flush=True)
+        print(f"| {row.fault.name} | {' | '.join(cells)} | {'' if row.fewest is None else row.fewest} |", flush=True)
 
 
-def told_seeds(row):
-    """The seeds of a fault, a line each."""
-    for way, found in row.shrunk.items():
-        for seed, hunted, before, after, _ in found:
-            fewest = f", fewest {row.fewest[0]} (its order {row.fewest[1]})" if row.fewest else f" {row.states}"
-            print(f"{row.fault.name} {way} {seed}: {hunted}, {before} to {after}{fewest}", flush=True)
+def tell(row, way, found):
+    """A line about a seed of a fault."""
+    seed, hunted, before, after, _ = found
+    fewest = row.ended if row.fewest is None else f"fewest {row.fewest}"
+    print(f"{row.fault.name} {way} {seed}: {hunted}, {before} to {after}, {fewest}", flush=True)
 
 
 def compared(rows):
     """How many shrunk runs have the fewest switches, and of how many these are known. A hang has no run that could be compared."""
-    pairs = [(after, row.fewest[0]) for row in rows if row.fewest and row.fault.sought != ("hang",) for found in row.shrunk.values() for *_, after, _ in found]
+    explored = [row for row in rows if row.fewest is not None and row.fault.sought != ("hang",)]
+    pairs = [(after, row.fewest) for row in explored for found in row.shrunk.values() for *_, after, _ in found]
     return sum(after <= fewest for after, fewest in pairs), len(pairs)
 
 
@@ -263,7 +269,7 @@ def arguments():
     parser.add_argument("--seeds", type=int, default=3, help="how many seeds of each fault and way")
     parser.add_argument("--table", action="store_true", help="prints the table of the faults, the long ones too")
     parser.add_argument("faults", nargs="*", metavar="FAULT", help="faults that are shrunk; all if none is named")
-    return parser.parse_args()
+    return parser.parse_intermixed_args()
 
 
 def tried(check):
@@ -288,8 +294,6 @@ def main():
     with ThreadPoolExecutor(asked.jobs) as pool:
         rows = list(pool.map(lambda fault: tried(lambda: row_of(fault, asked.seeds)), chosen))
     known = [row for row in rows if row is not None]
-    for row in known:
-        told_seeds(row)
     if asked.table:
         print_table(known)
     equal, count = compared(known)
