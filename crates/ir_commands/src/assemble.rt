@@ -88,11 +88,14 @@ pub fn assemble_file<D: Folder, E: Sink>(
         Err(status) => return told_of_file(&file, status, source, faults),
     };
     let status = told_of_file(&file, ExitStatus::Done, source, faults);
+    if status != ExitStatus::Done {
+        return ExitStatus::Failed;
+    }
     match &arguments.map {
-        Some(map) if status == ExitStatus::Done => {
+        Some(map) => {
             let image = arguments.image.as_str();
             put_labels(alloc, folder, &labels, image, map.as_str(), faults)
         }
-        _ => status,
+        None => ExitStatus::Done,
     }
 }

@@ -130,13 +130,25 @@ fn list_of_seed<C: Clock, E: Sink>(
 }
 
 // The files of a recording.
-fn paths(arguments: &RecordArguments) -> RecordingPaths<'_> {
+fn paths(arguments: &RecordArguments) -> RecordingPaths<'_>
+    ensures { result.input.now ≡ arguments.now.options.input }
+{
     RecordingPaths {
         image: arguments.image.as_str(),
         trace: arguments.trace.as_str(),
         input: &arguments.options.input,
         list: arguments.order_file.as_ref(),
         output: arguments.options.output.as_ref(),
+    }
+}
+
+// The text of a list, if there is one.
+fn text_in(list: &Option<String>) -> Option<&str>
+    ensures { option_map (λ text. text.now) result ≡ option_map string_bytes list.now }
+{
+    match list {
+        Some(list) => Some(list.as_str()),
+        None => None,
     }
 }
 
@@ -234,7 +246,7 @@ where
     let image = ParsedImage::new(alloc, image.as_slice());
     let beside = Beside::of(alloc, rt, folder, faults, arguments, &image)?;
     let input = beside.input.as_slice();
-    let order = beside.list.as_ref().map(|list| list.as_str());
+    let order = text_in(&beside.list);
     let paths = beside.outputs.as_ref().map(|paths| paths.as_slice());
     let plan = arguments.plan(order, input);
     let mut files = record_files(alloc, folder, arguments.trace.as_str(), paths);

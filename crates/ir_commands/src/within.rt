@@ -7,7 +7,7 @@ ghost use Rattle.ir_image.specs.Guest.{object_count};
 ghost use Rattle.ir_within.specs.Plans.{aspects_of};
 ghost use Rattle.ir_files.specs.Writers.{writer_of};
 ghost use Rattle.ir_commands.specs.Exploring.{Compares, ExploresClasses, IsStatusOfNoClasses, IsStatusOfNoComparison, LacksCounted, counted_asked};
-ghost use Rattle.ir_commands.specs.Files.{IsImageIn, IsStatusOfNone, TellsFault};
+ghost use Rattle.ir_commands.specs.Files.{IsImageIn, TellsFault};
 ghost use Rattle.ir_commands.specs.Printing.{LeavesUnread};
 
 use crate::explore::plan_of;
@@ -115,8 +115,7 @@ fn both_files<D: Folder, E: Sink>(
     ensures kept { OnOk result (faults.new ≡ faults.old) }
     ensures image { IfOk result (λ files. IsImageIn (D.bytes_at folder.now (string_bytes arguments.now.explore.image)) files.image.items) }
     ensures other { IfOk result (λ files. IsImageIn (D.bytes_at folder.now (string_bytes arguments.now.other)) files.other.items) }
-    ensures status { IfErr result (λ answered. IsStatusOfNone (D.bytes_at folder.now (string_bytes arguments.now.explore.image)) answered
-        ⊎ IsStatusOfNone (D.bytes_at folder.now (string_bytes arguments.now.other)) answered) }
+    ensures status { IfErr result (IsStatusOfNoComparison (D.bytes_at folder.now) arguments.now) }
     ensures told { OnErr result (E.broken faults.old ≡ false → TellsFault (writer_of (E.written faults.old) (E.written faults.new) (E.broken faults.new))) }
 {
     Ok(BothFiles {
@@ -159,9 +158,10 @@ pub fn within_file<R: AllocGlobal, D: Folder, G: Observer, O: Sink, E: Sink>(
     };
     let path = arguments.explore.image.as_str();
     let other_path = arguments.other.as_str();
-    if lacks_counted(alloc, &plan.explore, &both.0, counted, path, faults)
-        || lacks_counted(alloc, &plan.explore, &both.1, counted, other_path, faults)
-    {
+    if lacks_counted(alloc, &plan.explore, &both.0, counted, path, faults) {
+        return ExitStatus::BadArguments;
+    }
+    if lacks_counted(alloc, &plan.explore, &both.1, counted, other_path, faults) {
         return ExitStatus::BadArguments;
     }
     within_run(alloc, &plan, out, faults)

@@ -1,19 +1,68 @@
-use Rattle.std.proofs.Common.{rules, ◌≡◌, ◌⊎◌, ◌++◌, ◌∷◌, ℕ, List, [], Some, IfErr, IfOk, OnErr, OnOk, MatchOption, true, false, option_map, ◌+◌, ◌-◌, ◌*◌, ◌<◌, ◌≤◌, length, ◌/◌, ◌%◌, Bool, nat_eq, nat_lt, slice_index_or, slice_set, bit_and, bit_or, Fits, w8, w32, w64, Bor, MutBor}
+use Rattle.std.proofs.Common.{◌∙◌, ap, ap₂, inl, option_map, subst, sym}
+use Rattle.std.proofs.lemmas.Result.{IfErr-weaker}
 use Rattle.std.specs.String.{string_bytes}
-use Rattle.ir_files.specs.Given.{IsStored}
+use Rattle.ir_files.specs.Outputs.{output_writer_of}
 use Rattle.ir_files.specs.Writers.{writer_of}
-use Rattle.ir_files.specs.declared.exit_status.ExitStatus.TheVariants as exit
-use Rattle.ir_hunt.specs.Finding.{IsOrderOfSeed}
-use Rattle.ir_commands.specs.Exploring.{IsInput}
-use Rattle.ir_commands.specs.Files.{TellsFault}
-use Rattle.ir_commands.specs.Printing.{LeavesUnread}
-use Rattle.ir_commands.specs.Writing.{IsListIn, IsOrderAsked, IsStatusOfNoRecording, Records, RecordsFile, StopsRecords}
+use Rattle.ir_record_command.specs.Faults.{unwritten_of}
+use Rattle.ir_trace.specs.Encoding.{encoding}
+use Rattle.ir_commands.specs.Files.{IsImageIn, TellsFault}
+use Rattle.ir_commands.specs.Writing.{AsksFor, plan_asked}
+use Rattle.ir_commands.proofs.Stored.{both_if_ok, reported_is_told, stops_because, stored_in_place}
 use Rattle.ir_commands.proofs.record.recorded_by.Goals as goal
 
--- src/record.rt:208:1
 pub returns-clause-done : goal.returns-clause-done
-returns-clause-done g c = ?
+returns-clause-done g c =
+    let at = g.D.Folder.bytes_at c.args.around.now.folder.now in
+    let arguments = c.args.arguments.now in
+    let image = c.new-image.result in
+    let files = c.record_files-files.result in
+    let after = c.record_run.new.files in
+    let asked : AsksFor at arguments image c.plan-plan.result = record {
+      input = c.in_ok-beside.beside.input.items;
+      order = option_map string_bytes c.in_ok-beside.beside.list;
+      is_image = subst (λ p. IsImageIn (at p) image) c.as_str.ensures.value
+          (subst (λ z. IsImageIn (at c.as_str.result.now) z) (sym (c.new-image.ensures ∙ c.as_slice.ensures.value)) c.in_ok-image.ensures.bytes);
+      is_input = c.in_ok-beside.ensures.input;
+      is_order = c.in_ok-beside.ensures.order;
+      is_plan = c.plan-plan.ensures ∙ ap₂ (plan_asked arguments) c.text_in-order.ensures c.as_slice-input.ensures.value;
+    } in
+    both_if_ok c.record_run.result (λ whole recorded done. record {
+      image = image;
+      plan = c.plan-plan.result;
+      printed = done.0;
+      asked = asked;
+      is = done.1;
+      trace = stored_in_place g.D.Folder.knows g.D.Folder.was_put (λ m. g.D.Folder.known m.file) c.args.around.now.folder.now files.trace.folder.now
+          after.trace.folder.now (string_bytes arguments.trace) files.trace.place.now after.trace.place.now files.trace.made after.trace.made
+          (encoding recorded) c.record_files-files.ensures.folder (c.record_files-files.ensures.place ∙ c.as_str-2.ensures.value)
+          c.record_run.ensures.homes.0 c.record_files-files.ensures.empty (after.trace.put whole) done.2.0;
+      lines = done.2.1.1;
+    }) c.record_run.ensures.whole c.record_run.ensures.done
 
--- src/record.rt:208:1
 pub returns-clause-stopped : goal.returns-clause-stopped
-returns-clause-stopped g c = ?
+returns-clause-stopped g c =
+    let at = g.D.Folder.bytes_at c.args.around.now.folder.now in
+    let arguments = c.args.arguments.now in
+    let image = c.new-image.result in
+    let asked : AsksFor at arguments image c.plan-plan.result = record {
+      input = c.in_ok-beside.beside.input.items;
+      order = option_map string_bytes c.in_ok-beside.beside.list;
+      is_image = subst (λ p. IsImageIn (at p) image) c.as_str.ensures.value
+          (subst (λ z. IsImageIn (at c.as_str.result.now) z) (sym (c.new-image.ensures ∙ c.as_slice.ensures.value)) c.in_ok-image.ensures.bytes);
+      is_input = c.in_ok-beside.ensures.input;
+      is_order = c.in_ok-beside.ensures.order;
+      is_plan = c.plan-plan.ensures ∙ ap₂ (plan_asked arguments) c.text_in-order.ensures c.as_slice-input.ensures.value;
+    } in
+    let kept = c.in_ok-beside.ensures.kept ∙ c.in_ok-image.ensures.kept ∙ c.if-loses_input.ensures.kept in
+    IfErr-weaker c.record_run.result _ _ (λ answered h. inl (record {
+      image = image;
+      plan = c.plan-plan.result;
+      fault = h.0;
+      asked = asked;
+      status = h.1;
+      because = stops_because h.0 image c.plan-plan.result _ _
+          (writer_of (g.O.Sink.written c.args.out.now) (g.O.Sink.written c.record_run.new.out) (g.O.Sink.broken c.record_run.new.out))
+          (λ same. sym (ap g.O.Sink.written same)) h.2.1;
+      told = subst (λ f. TellsFault (writer_of (g.E.Sink.written f) (g.E.Sink.written c.record_run.new.faults) (g.E.Sink.broken c.record_run.new.faults))) kept
+          (reported_is_told h.0 image c.plan-plan.result _ _ _ h.2.0);
+    })) c.record_run.ensures.stopped
