@@ -59,24 +59,25 @@ both_if_ok (Ok x) f o p = f o x p
 both_if_ok (Err e) f o p = p
 
 lines_prefix : (e : RecordFault) (bytes : List ℕ) (printed : List (List ℕ)) (lines : List ℕ) (trace : Writer) (outputs : OutputWriter) (out : Writer)
-    {O L : Type 0} → (L → out.before ≡ out.after) → WriteFails e bytes printed lines trace outputs out (O × L) L → AppendsPrefix out.before out.after lines
-lines_prefix Trace bytes printed lines trace outputs out same f = subst (λ z. AppendsPrefix out.before z lines) (same f.1.1) (nothing_is_prefix out.before lines)
-lines_prefix Output bytes printed lines trace outputs out same f = subst (λ z. AppendsPrefix out.before z lines) (same f.2) (nothing_is_prefix out.before lines)
-lines_prefix Lines bytes printed lines trace outputs out same f = f.2.0
-lines_prefix Clock bytes printed lines trace outputs out same f = absurd f
-lines_prefix (Image e) bytes printed lines trace outputs out same f = absurd f
-lines_prefix TooLarge bytes printed lines trace outputs out same f = absurd f
-lines_prefix (Order threads) bytes printed lines trace outputs out same f = absurd f
-lines_prefix NoMem bytes printed lines trace outputs out same f = absurd f
+    {later last : Type 0} → (later → last) → (last → out.before ≡ out.after) → WriteFails e bytes printed lines trace outputs out later last
+    → AppendsPrefix out.before out.after lines
+lines_prefix Trace bytes printed lines trace outputs out to same f = subst (λ z. AppendsPrefix out.before z lines) (same (to f.1)) (nothing_is_prefix out.before lines)
+lines_prefix Output bytes printed lines trace outputs out to same f = subst (λ z. AppendsPrefix out.before z lines) (same f.2) (nothing_is_prefix out.before lines)
+lines_prefix Lines bytes printed lines trace outputs out to same f = f.2.0
+lines_prefix Clock bytes printed lines trace outputs out to same f = absurd f
+lines_prefix (Image e) bytes printed lines trace outputs out to same f = absurd f
+lines_prefix TooLarge bytes printed lines trace outputs out to same f = absurd f
+lines_prefix (Order threads) bytes printed lines trace outputs out to same f = absurd f
+lines_prefix NoMem bytes printed lines trace outputs out to same f = absurd f
 
 -- why a recording stopped: it was refused, and nothing was printed, or a prefix of its lines was
-pub stops_because : (e : RecordFault) (image : List ℕ) (plan : Plan) (trace : Writer) (outputs : OutputWriter) (out : Writer) {T O L : Type 0}
-    → (L → out.before ≡ out.after) → StopsRecord e image plan trace outputs out (T × (O × L)) (O × L) L
-    → (RefusesRecord e image plan × L) ⊎ ((recorded : Recorded) × (printed : List (List ℕ)) × IsRecordedOf image plan recorded printed
+pub stops_because : (e : RecordFault) (image : List ℕ) (plan : Plan) {trace : Writer} {outputs : OutputWriter} (out : Writer) {all later last : Type 0}
+    → (all → last) → (later → last) → (last → out.before ≡ out.after) → StopsRecord e image plan trace outputs out all later last
+    → (RefusesRecord e image plan × last) ⊎ ((recorded : Recorded) × (printed : List (List ℕ)) × IsRecordedOf image plan recorded printed
     × AppendsPrefix out.before out.after (recording_lines recorded))
-stops_because e image plan trace outputs out same (inl h) = inl (h.0, h.1.1.1)
-stops_because e image plan trace outputs out same (inr h) =
-    inr (h.0, h.1, h.2.0, lines_prefix e _ h.1 (recording_lines h.0) trace outputs out same h.2.1)
+stops_because e image plan out all_last later_last same (inl h) = inl (h.0, all_last h.1)
+stops_because e image plan {trace} {outputs} out all_last later_last same (inr h) =
+    inr (h.0, h.1, h.2, lines_prefix e _ h.1 (recording_lines h.0) trace outputs out later_last same h.3)
 
 -- a fault of a recording that is reported is told
 pub reported_is_told : (e : RecordFault) (image : List ℕ) (plan : Plan) (trace output : Unwritten) (faults : Writer)

@@ -1,4 +1,4 @@
-use Rattle.std.proofs.Common.{◌∙◌, ap, ap₂, inl, option_map, subst, sym}
+use Rattle.std.proofs.Common.{◌∙◌, ap, ap₂, inl, option_map, refl, subst, sym}
 use Rattle.std.proofs.lemmas.Result.{IfErr-weaker}
 use Rattle.std.specs.String.{string_bytes}
 use Rattle.ir_files.specs.Outputs.{output_writer_of}
@@ -35,8 +35,8 @@ returns-clause-done g c =
       trace = stored_in_place g.D.Folder.knows g.D.Folder.was_put (λ m. g.D.Folder.known m.file) c.args.around.now.folder.now files.trace.folder.now
           after.trace.folder.now (string_bytes arguments.trace) files.trace.place.now after.trace.place.now files.trace.made after.trace.made
           (encoding recorded) c.record_files-files.ensures.folder (c.record_files-files.ensures.place ∙ c.as_str-2.ensures.value)
-          c.record_run.ensures.homes.0 c.record_files-files.ensures.empty (after.trace.put whole) done.2.0;
-      lines = done.2.1.1;
+          c.record_run.ensures.homes.0 c.record_files-files.ensures.empty (after.trace.put whole) done.2;
+      lines = done.4;
     }) c.record_run.ensures.whole c.record_run.ensures.done
 
 pub returns-clause-stopped : goal.returns-clause-stopped
@@ -53,16 +53,16 @@ returns-clause-stopped g c =
       is_order = c.in_ok-beside.ensures.order;
       is_plan = c.plan-plan.ensures ∙ ap₂ (plan_asked arguments) c.text_in-order.ensures c.as_slice-input.ensures.value;
     } in
-    let kept = c.in_ok-beside.ensures.kept ∙ c.in_ok-image.ensures.kept ∙ c.if-loses_input.ensures.kept in
+    let kept = c.in_ok-beside.ensures.kept ∙ c.in_ok-image.ensures.kept ∙ c.if-loses_input.ensures.kept refl in
     IfErr-weaker c.record_run.result _ _ (λ answered h. inl (record {
       image = image;
       plan = c.plan-plan.result;
       fault = h.0;
       asked = asked;
       status = h.1;
-      because = stops_because h.0 image c.plan-plan.result _ _
+      because = stops_because h.0 image c.plan-plan.result
           (writer_of (g.O.Sink.written c.args.out.now) (g.O.Sink.written c.record_run.new.out) (g.O.Sink.broken c.record_run.new.out))
-          (λ same. sym (ap g.O.Sink.written same)) h.2.1;
+          (λ all. all.2) (λ later. later.1) (λ same. sym (ap g.O.Sink.written same)) h.2.1;
       told = subst (λ f. TellsFault (writer_of (g.E.Sink.written f) (g.E.Sink.written c.record_run.new.faults) (g.E.Sink.broken c.record_run.new.faults))) kept
           (reported_is_told h.0 image c.plan-plan.result _ _ _ h.2.0);
     })) c.record_run.ensures.stopped

@@ -1,4 +1,4 @@
-use Rattle.std.proofs.Common.{◌∙◌, inl, subst}
+use Rattle.std.proofs.Common.{◌∙◌, inl, refl, subst}
 use Rattle.ir_files.specs.Writers.{writer_of}
 use Rattle.ir_within.specs.Plans.{aspects_of}
 use Rattle.ir_commands.specs.Exploring.{IsPlanOf, TellsByClass, counted_asked}
@@ -25,7 +25,7 @@ returns g c =
         is_plan = subst (λ z. IsPlanOf arguments.explore z plan) c.as_slice-2.ensures.value c.plan_of-explore.ensures;
         tells = subst (λ f. TellsByClass image plan (counted_asked arguments.counted) answered out
             (writer_of (g.E.Sink.written f) (g.E.Sink.written c.classes_run.new.faults) (g.E.Sink.broken c.classes_run.new.faults)))
-            (c.if-lacks_counted.ensures.kept ∙ c.in-Some.ensures.kept ∙ c.in-Ok.ensures.kept)
+            (c.if-lacks_counted.ensures.kept refl ∙ c.in-Some.ensures.kept ∙ c.in-Ok.ensures.kept)
             (subst (λ a. TellsByClass image plan a answered out between) c.aspects_of.ensures
             (subst (λ z. TellsByClass z plan (aspects_of c.aspects_of.result) answered out between) (c.new-image.ensures ∙ c.as_slice.ensures.value)
             (told_by_class c.new-image.result plan (aspects_of c.aspects_of.result) answered out between c.classes_run.ensures.done)));

@@ -1,4 +1,4 @@
-use Rattle.std.proofs.Common.{◌∙◌, inl, subst}
+use Rattle.std.proofs.Common.{◌∙◌, inl, refl, subst}
 use Rattle.ir_files.specs.Writers.{writer_of}
 use Rattle.ir_within.specs.Faults.{Comparison}
 use Rattle.ir_within.specs.Plans.{aspects_of}
@@ -28,7 +28,7 @@ returns g c =
         is_plan = subst (λ z. IsPlanOf arguments.explore z plan) c.as_slice.ensures.value c.plan_of-explore.ensures;
         tells = subst (λ f. TellsComparison (record { image = files.image.items; other = files.other.items; plan = plan; aspects = counted_asked arguments.counted }) answered out
             (writer_of (g.E.Sink.written f) (g.E.Sink.written c.within_run.new.faults) (g.E.Sink.broken c.within_run.new.faults)))
-            (c.if-lacks_counted-2.ensures.kept ∙ c.if-lacks_counted.ensures.kept ∙ c.in-Some.ensures.kept ∙ c.in-Ok.ensures.kept)
+            (c.if-lacks_counted-2.ensures.kept refl ∙ c.if-lacks_counted.ensures.kept refl ∙ c.in-Some.ensures.kept ∙ c.in-Ok.ensures.kept)
             (subst (λ a. TellsComparison (record { image = files.image.items; other = files.other.items; plan = plan; aspects = a }) answered out between) c.aspects_of.ensures
             (subst (λ z. TellsComparison (record { image = files.image.items; other = z; plan = plan; aspects = counted }) answered out between) c.both_images-both.ensures.1
             (subst (λ z. TellsComparison (record { image = z; other = both.1; plan = plan; aspects = counted }) answered out between) c.both_images-both.ensures.0
