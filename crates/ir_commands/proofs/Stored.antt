@@ -1,6 +1,6 @@
 -- Files that stand at their places, and recordings that stopped.
 use Rattle.std.proofs.Common.{◌≡◌, ◌∙◌, ◌⊎◌, ℕ, Bool, true, List, Option, ap, inl, inr, subst, sym, arith}
-use Rattle.std.specs.Prelude.{IfOk, OnOk, Result, Ok, Err}
+use Rattle.std.specs.Prelude.{IfOk, OnOk, Result, Ok, Err, codes, length}
 use Rattle.std.specs.Io.KnownBytes.{Appends}
 use Rattle.ir_files.specs.Given.{KnownFile, IsStored, fresh, given_bytes, is_put}
 use Rattle.ir_files.specs.Outputs.{OutputWriter}
@@ -11,11 +11,13 @@ use Rattle.ir_files.specs.declared.exit_status.ExitStatus.TheVariants as status
 use Rattle.ir_files.proofs.CallerLemmas.{put_file_is_stored}
 use Rattle.ir_past.proofs.CallerLemmas.{nothing_is_prefix}
 use Rattle.ir_record_command.specs.Faults.{IsReported, RefusesRecord, StopsRecord, Unwritten, WriteFails, image_words, record_fault_words, unwritten_words}
+use Rattle.ir_record_command.specs.Order.{item_why}
 use Rattle.ir_record_command.specs.Plan.{Plan}
 use Rattle.ir_record_command.specs.Recording.{IsRecordedOf, recording_lines}
 use Rattle.ir_record_command.specs.declared.record_fault.RecordFault.{RecordFault}
 use Rattle.ir_record_command.specs.declared.record_fault.RecordFault.TheVariants.{Clock, Image, TooLarge, Order, NoMem, Trace, Output, Lines}
 use Rattle.ir_stream.specs.Answers.{AppendsPrefix}
+use Rattle.ir_trace.specs.Encoding.{encoding}
 use Rattle.ir_trace.specs.Recorded.{Recorded}
 use Rattle.ir_commands.specs.Files.{TellsFault}
 
@@ -71,13 +73,13 @@ lines_prefix (Order threads) bytes printed lines trace outputs out to same f = a
 lines_prefix NoMem bytes printed lines trace outputs out to same f = absurd f
 
 -- why a recording stopped: it was refused, and nothing was printed, or a prefix of its lines was
-pub stops_because : (e : RecordFault) (image : List ℕ) (plan : Plan) {trace : Writer} {outputs : OutputWriter} (out : Writer) {all later last : Type 0}
+pub stops_because : (e : RecordFault) (image : List ℕ) (plan : Plan) (trace : Writer) (outputs : OutputWriter) (out : Writer) {all later last : Type 0}
     → (all → last) → (later → last) → (last → out.before ≡ out.after) → StopsRecord e image plan trace outputs out all later last
     → (RefusesRecord e image plan × last) ⊎ ((recorded : Recorded) × (printed : List (List ℕ)) × IsRecordedOf image plan recorded printed
     × AppendsPrefix out.before out.after (recording_lines recorded))
-stops_because e image plan out all_last later_last same (inl h) = inl (h.0, all_last h.1)
-stops_because e image plan {trace} {outputs} out all_last later_last same (inr h) =
-    inr (h.0, h.1, h.2, lines_prefix e _ h.1 (recording_lines h.0) trace outputs out later_last same h.3)
+stops_because e image plan trace outputs out all_last later_last same (inl h) = inl (h.0, all_last h.1)
+stops_because e image plan trace outputs out all_last later_last same (inr h) =
+    inr (h.0, h.1, h.2, lines_prefix e (encoding h.0) h.1 (recording_lines h.0) trace outputs out later_last same h.3)
 
 -- a fault of a recording that is reported is told
 pub reported_is_told : (e : RecordFault) (image : List ℕ) (plan : Plan) (trace output : Unwritten) (faults : Writer)
@@ -87,6 +89,7 @@ reported_is_told TooLarge image plan trace output faults r = (record_fault_words
 reported_is_told NoMem image plan trace output faults r = (record_fault_words NoMem, r)
 reported_is_told Clock image plan trace output faults r = (record_fault_words Clock, r)
 reported_is_told Lines image plan trace output faults r = (record_fault_words Lines, r)
-reported_is_told (Order threads) image plan trace output faults r = (_, r.2.2.2.2.2)
+reported_is_told (Order threads) image plan trace output faults r =
+    (named_fault (codes "LIST: the item '") r.4.0 (codes "' ") (item_why (length r.0.entries) r.4.0), r.4.2)
 reported_is_told Trace image plan trace output faults r = (unwritten_words trace, r)
 reported_is_told Output image plan trace output faults r = (unwritten_words output, r)

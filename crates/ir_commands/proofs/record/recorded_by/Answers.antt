@@ -60,7 +60,7 @@ returns-clause-stopped g c =
       fault = h.0;
       asked = asked;
       status = h.1;
-      because = stops_because h.0 image c.plan-plan.result
+      because = stops_because h.0 image c.plan-plan.result _ _
           (writer_of (g.O.Sink.written c.args.out.now) (g.O.Sink.written c.record_run.new.out) (g.O.Sink.broken c.record_run.new.out))
           (λ all. all.2) (λ later. later.1) (λ same. sym (ap g.O.Sink.written same)) h.2.1;
       told = subst (λ f. TellsFault (writer_of (g.E.Sink.written f) (g.E.Sink.written c.record_run.new.faults) (g.E.Sink.broken c.record_run.new.faults))) kept
