@@ -5,7 +5,7 @@ use Rattle.std.specs.Io.KnownBytes.{Appends}
 use Rattle.ir_files.specs.Given.{KnownFile, IsStored, fresh, given_bytes, is_put}
 use Rattle.ir_files.specs.Outputs.{OutputWriter}
 use Rattle.ir_files.specs.Statuses.{status_number}
-use Rattle.ir_files.specs.Writers.{Writer, Reports, fault_text, named_fault}
+use Rattle.ir_files.specs.Writers.{Writer, named_fault}
 use Rattle.ir_files.specs.declared.exit_status.ExitStatus.{ExitStatus}
 use Rattle.ir_files.specs.declared.exit_status.ExitStatus.TheVariants as status
 use Rattle.ir_files.proofs.CallerLemmas.{put_file_is_stored}

@@ -5,7 +5,6 @@ use Rattle.ir_asm.specs.Passes.{labels_of}
 use Rattle.ir_asm.specs.Source.{Fault}
 use Rattle.ir_arguments.specs.declared.assemble.AssembleArguments.{AssembleArguments}
 use Rattle.ir_arguments.specs.declared.elf.ElfArguments.{ElfArguments}
-use Rattle.ir_arguments.specs.declared.record.Chaos.{Chaos}
 use Rattle.ir_arguments.specs.declared.record.RecordArguments.{RecordArguments}
 use Rattle.ir_elf.specs.declared.refusal.Refusal.{Refusal}
 use Rattle.ir_files.specs.Writers.{Writer, Took}

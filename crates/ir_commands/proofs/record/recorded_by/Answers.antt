@@ -1,9 +1,7 @@
 use Rattle.std.proofs.Common.{◌∙◌, ap, ap₂, inl, option_map, refl, subst, sym}
 use Rattle.std.proofs.lemmas.Result.{IfErr-weaker}
 use Rattle.std.specs.String.{string_bytes}
-use Rattle.ir_files.specs.Outputs.{output_writer_of}
 use Rattle.ir_files.specs.Writers.{writer_of}
-use Rattle.ir_record_command.specs.Faults.{unwritten_of}
 use Rattle.ir_trace.specs.Encoding.{encoding}
 use Rattle.ir_commands.specs.Files.{IsImageIn, TellsFault}
 use Rattle.ir_commands.specs.Writing.{AsksFor, plan_asked}
