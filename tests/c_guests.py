@@ -1,10 +1,10 @@
 #!/usr/bin/env python3
 """Tests of guests from C: sources are compiled, converted by `ir elf`, recorded, hunted in and debugged.
 
-python3 tests/c_guests.py IR [TEST ..]
+python3 tests/c_guests.py IR [--table | TEST ..]
 
 Needs riscv64-unknown-elf-gcc. If it isn't installed nothing is tested, and the status is 0. Runs each test in a folder of its own, or only
-those that are named. The last line is `N passed, M failed`.
+those that are named. The last line is `N passed, M failed`. --table prints the table of docs/guide/c-guests.md on the programs with a fault.
 """
 import json
 import random
@@ -14,6 +14,7 @@ import struct
 import subprocess
 import sys
 import tempfile
+import time
 from dataclasses import dataclass
 from functools import partial
 from pathlib import Path
@@ -916,6 +917,47 @@ def test_repaired(folder, name):
     wants(f"{name}: all outcomes", (ended.returncode, counted), (5, [f"finished outcomes {faults.FAULTS[name].outcomes} states hangs 0"]))
 
 
+# The table of how far it is from a program to the line of its fault.
+
+
+def timed(words, folder):
+    """The seconds of a command, and what it prints."""
+    start = time.monotonic()
+    ended = subprocess.run(words, cwd=folder, check=False, capture_output=True, text=True, stdin=subprocess.DEVNULL, timeout=1200)
+    wants(" ".join(map(str, words)), ended.returncode, 0)
+    return time.monotonic() - start, ended.stdout
+
+
+def row_of(name):
+    """A row of the table: the search, what is typed in gdb until the fault's line is there, and the seconds of each of the three commands of the shell."""
+    fault = faults.FAULTS[name]
+    line = fault.line(name)
+    typed = ["source examples/ir.gdb", f"target remote | ./ir gdb {name}.elf {name}.trc", *(text.replace("LINE", line) for text in fault.typed)]
+    with tempfile.TemporaryDirectory() as place:
+        folder = Path(place)
+        link_all(folder)
+        compiling, _ = timed(["guest/ir-cc", f"tests/c_guests/faults/{name}.c", "-o", f"{name}.elf"], folder)
+        searching, _ = timed(["./ir", fault.search, f"{name}.elf", f"{name}.trc", "--until", fault.condition], folder)
+        words = [GDB, "-nx", "-q", "-batch", "-ex", "set width 0", f"{name}.elf"]
+        _, shown = timed([*words, *(word for number, text in enumerate(typed) for word in ("-ex", f"echo ({number})\\n", "-ex", text))], folder)
+        there = re.search(rf"{name}\.c:{line}$|^{line}\t", shown, re.M)
+        if not there:
+            raise Wrong(f"{name}: gdb doesn't show line {line}:\n{shown}")
+        after = shown[:there.end()]
+        needed = typed[:1 + int(re.findall(r"^\((\d+)\)$", after, re.M)[-1])]
+        showing, _ = timed([*words, *(word for text in needed for word in ("-ex", text))], folder)
+    condition = f"'{fault.condition}'" if re.search("[ !]", fault.condition) else fault.condition
+    in_gdb = ", ".join(f"`{text}`" for text in needed[2:])
+    return f"| {name}.c | `{fault.search} --until {condition}` | {in_gdb} | 3 + {len(needed)} | {compiling:.1f} | {searching:.1f} | {showing:.1f} |"
+
+
+def print_table():
+    """Prints the table."""
+    print("| Program | Search | In gdb after `source` and `target` | Commands | ir-cc, s | Search, s | gdb, s |\n|---|---|---|---|---|---|---|")
+    for name in faults.FAULTS:
+        print(row_of(name), flush=True)
+
+
 # Lines and names.
 
 
@@ -1127,6 +1169,11 @@ def test_noted(folder):
     notes = noted(folder, said, "peterson.elf")
     wants("a long order", (notes[0].count("thread"), notes[0].endswith(", and 4 turns more")), (12, True))
     wants("ir explore", notes[1:], ["thread 1 adder", "object 3 count the-count=00000002"])
+    bytes_ = b"-40\n\x1b[2J" + b"x" * 300
+    parts = [bytes_[at:at + 32].hex() for at in range(0, len(bytes_), 32)]
+    said = f"thread 0 end 1 code 0 out {len(bytes_)}\n" + "".join(f"{part}\n" for part in parts) + "thread 1 end 1 code 0 out 2\n410a\nobject 3 words fffffff6 00000000\n4141\n"
+    shown = "'-40\\n\\x1b[2J" + "x" * 192 + "' .."
+    wants("what is printed", noted(folder, said, "peterson.elf"), ["thread 0 adder", f"prints {shown}", "thread 1 adder", "prints 'A\\n'", "object 3 count the-count=fffffff6 (-10)"])
 
 
 def test_page(folder):
@@ -1160,12 +1207,17 @@ def tests():
     return all_ | {f"mended-{name}": partial(test_mended, name=name) for name in MENDED}
 
 
+def link_all(folder):
+    """Links what the tests and the pages use into a folder."""
+    for linked in ("guest", "examples", "docs", "tests"):
+        (folder / linked).symlink_to(TOP / linked)
+    (folder / "ir").symlink_to(program())
+
+
 def passes(name, test):
     """Whether a test in a folder of its own passes; prints a line."""
     with tempfile.TemporaryDirectory() as folder:
-        for linked in ("guest", "examples", "docs", "tests"):
-            (Path(folder) / linked).symlink_to(TOP / linked)
-        (Path(folder) / "ir").symlink_to(program())
+        link_all(Path(folder))
         try:
             test(Path(folder))
         except (Wrong, subprocess.SubprocessError, OSError) as why:
@@ -1177,13 +1229,16 @@ def passes(name, test):
 
 def main():
     all_ = tests()
-    names = sys.argv[2:] or list(all_)
+    names = [name for name in sys.argv[2:] if name != "--table"] or list(all_)
     if len(sys.argv) < 2 or any(name not in all_ for name in names):
         sys.exit(__doc__ + "\nThe tests are " + ", ".join(all_) + ".")
     if not shutil.which(TOOLS + "gcc"):
         print(f"{TOOLS}gcc isn't installed, so guests from C aren't tested")
         return finish(0, 0)
     use(sys.argv[1])
+    if "--table" in sys.argv[2:]:
+        print_table()
+        return 0
     passed = sum(passes(name, all_[name]) for name in names)
     return finish(passed, len(names) - passed)
 
