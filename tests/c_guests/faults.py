@@ -61,9 +61,9 @@ FAULTS = {
         ("continue", "bt"),
         ("received signal SIGABRT", r"checked \(.*\) at .*trap.c:LINE$", r"#1 .*advance \(\) at .*trap.c", r"#2 .*closer_body \(\) at .*trap.c"), 1),
     "stack": Fault(
-        "hunt", "end 0 7", (7, 0), "volatile ir_word page[256];",
+        "hunt", "end 0 7", (7, 0), "page[0] = node;",
         ("continue", "info threads", *["up", "print page[0]"] * 4, "bt -2"),
-        ("received signal SIGSEGV", r"ended: bad store\)", "= 3$", "= 2$", "= 1$", "= 3$", r"walker_body \(\) at .*stack.c"), 1),
+        ("received signal SIGSEGV", r"length \(node=\d\) at .*stack.c:LINE$", r"ended: bad store\)", "= 3$", "= 2$", "= 1$", "= 3$", r"walker_body \(\) at .*stack.c"), 1),
 }
 
 
