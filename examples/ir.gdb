@@ -152,7 +152,7 @@ def in_words(error):
     """An error of gdb, with the reason if it is that something would be changed."""
     found = re.match(r"Writing to (memory|registers) is not allowed", str(error))
     if found:
-        refuse({"memory": "its memory and objects are those of the run", "registers": "its registers are those of the run"}[found[1]])
+        refuse({"memory": "its memory and objects belong to the run", "registers": "its registers belong to the run"}[found[1]])
     raise gdb.GdbError(str(error)) from error
 
 

@@ -1127,7 +1127,7 @@ def test_where(folder):
 
 
 def test_other_image(folder):
-    """Names and lines of another program than the one that was recorded are refused: an old image, or an ELF file that was compiled anew."""
+    """Names and lines of a program that isn't the recorded one are refused: an old image, or an ELF file that was compiled anew."""
     compiled(folder, "peterson", "old")
     wants("ir elf", run("elf old.elf old.img", folder).returncode, 0)
     run(["hunt", "old.img", "old.trc", "--until", "!word 3 0 2"], folder)
