@@ -1091,13 +1091,23 @@ def test_dwarf(folder):
     wants("the lines", said[0], said[1])
 
 
+def less(event, plain):
+    """An event for other viewers without the names and arguments that ir-where adds."""
+    if event["name"] == "thread_name":
+        return event | {"args": {"name": event["args"]["name"][:len(plain["args"]["name"])]}}
+    added = {"object_name", "thread_name", "word_name", "variable", "line", "function", "called_at", "changed"}
+    return event | {"args": {name: value for name, value in event["args"].items() if name not in added}} if "args" in event else event
+
+
 def events_known(folder, *words):
     """What the page says of events, by thread and event; and the boxes of the events for other viewers, by thread and event."""
     page = ran(folder, "guest/ir-where", *words, "--page", "--ir", program())
     chrome = ran(folder, "guest/ir-where", *words, "--chrome", "--ir", program())
     wants("page and events", (page.returncode, page.stderr, chrome.returncode, chrome.stderr), (0, "", 0, ""))
     names = json.loads(re.search(r'id="names">(.*)</script>', page.stdout)[1])
-    run_ = json.loads(chrome.stdout)
+    run_, plain = json.loads(chrome.stdout), json.loads(run(["view", words[-1], "--image", words[-2], "--chrome"], folder).stdout)
+    wants("what else the events have", [less(it, was) for it, was in zip(run_["traceEvents"], plain["traceEvents"])], plain["traceEvents"])
+    wants("beside the events", (run_ | {"traceEvents": 0}, len(run_["traceEvents"])), (plain | {"traceEvents": 0}, len(plain["traceEvents"])))
     wants("the threads", [it["args"]["name"] for it in run_["traceEvents"] if it["name"] == "thread_name"][0].split(), ["thread", "0", names["threads"]["0"]])
     return names["events"], {f"{it['tid'] // 64}.{it['args']['event']}": it["args"] for it in run_["traceEvents"] if it["ph"] in "Xi" and it["cat"] != "end"}
 
@@ -1137,6 +1147,12 @@ def test_other_image(folder):
         wants(" ".join(words), (ended.returncode != 0, ended.stdout, why in ended.stderr and bool(ended.stderr), "Traceback" in ended.stderr), (True, "", True, False))
     for image in ("old.img", "old.elf"):
         wants(image, ran(folder, "guest/ir-where", "old.elf", image, "old.trc", "--ir", program()).returncode, 0)
+    (folder / "odd.elf").write_bytes((folder / "old.elf").read_bytes().replace(b"\0add\0", b"\0<>>\0"))
+    said = [ran(folder, "guest/ir-where", name, "old.trc", "--ir", program()).stdout for name in ("old.elf", "odd.elf")]
+    wants("a name like a mark", (said[0].count("\n"), said[1].count("\n")), (14, 14))
+    wants("a name like a mark is in the events", b" <<>>+" in run("events odd.elf old.trc", folder).stdout, True)
+    ended = subprocess.run([sys.executable, "guest/ir-where", "old.elf", "--note", "--ir", program()], cwd=folder, check=False, capture_output=True, input=b"\xff\n")
+    wants("what is no text", (ended.returncode, ended.stdout, ended.stderr), (0, b"\xff\n", b""))
 
 
 def noted(folder, typed, *words):

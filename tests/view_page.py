@@ -431,6 +431,7 @@ def check_where(browser, program, folder):
     assert browser.value("document.querySelectorAll('b').length") == 0
     browser.value("find(1, 5)")
     assert "the-count 0 to 1" in browser.value("el('what').textContent")
+    print("peterson: events have lines, calls and changed words, and what is copied is for a session and for gdb")
 
 
 def with_long_versions(page, data):
