@@ -140,19 +140,22 @@ def word_at(text):
 
 
 def refuse(what):
-    """Refuses a command that would change the recording that is open. Of another program gdb may ask it."""
+    """Refuses a command if a recording is open, and says what can't be done. Of another program gdb may ask it."""
     try:
         recording()
     except gdb.GdbError:
         return
-    raise gdb.GdbError(f"A recording can't be changed: {what}.")
+    raise gdb.GdbError(f"{what}.")
+
+
+UNCHANGED = "A recording can't be changed: "
 
 
 def in_words(error):
     """An error of gdb, with the reason if it is that something would be changed."""
     found = re.match(r"Writing to (memory|registers) is not allowed", str(error))
     if found:
-        refuse({"memory": "its memory and objects belong to the run", "registers": "its registers belong to the run"}[found[1]])
+        refuse(UNCHANGED + {"memory": "its memory and objects belong to the run", "registers": "its registers belong to the run"}[found[1]])
     raise gdb.GdbError(str(error)) from error
 
 
@@ -182,12 +185,12 @@ class Call(gdb.Command):
             gdb.execute(f"print {text}", from_tty)
         except gdb.error as error:
             if "is not allowed" in str(error):
-                refuse("no function of the program can be called, and nothing can be set")
+                refuse(UNCHANGED + "no function of the program can be called, and nothing can be set")
             in_words(error)
 
 
 class Refuse(gdb.Command):
-    """ir-refuse WORDS: refuses what would change the recording that is open, with these words."""
+    """ir-refuse WORDS: fails with these words if a recording is open."""
 
     def __init__(self):
         super().__init__("ir-refuse", gdb.COMMAND_SUPPORT)
@@ -305,10 +308,17 @@ def name_created():
 end
 # jump and return would set registers.
 define hook-jump
-ir-refuse its threads go where they went
+ir-refuse A recording can't be changed: its threads go where they went
 end
 define hook-return
-ir-refuse reverse-finish goes to where this function was called, and finish to where it returns
+ir-refuse A recording can't be changed: reverse-finish goes to where this function was called, and finish to where it returns
+end
+# Without this gdb would refuse each move until the watch of a read is deleted.
+define hook-rwatch
+ir-refuse Reads can't be watched: watch stops at changes, and ir-who OBJECT VERSION names who read an object
+end
+define hook-awatch
+ir-refuse Reads can't be watched: watch stops at changes, and ir-who OBJECT VERSION names who read an object
 end
 # ir-names: the threads of an ordinary program that are created by now are named by the functions that they were created with.
 define ir-names

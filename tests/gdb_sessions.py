@@ -179,10 +179,11 @@ SESSIONS = {
     "12-unwatchable": Session(
         "objs",
         ["watch *(int *)0x80000040", "continue", "delete", "watch *(long long *)0x8000003c", "continue", "delete", "watch *(char (*)[64])0x80000000",
-         "continue", "delete", "rwatch *(int *)0x80000004", "continue", "delete", "awatch *(int *)0x80000004", "continue", "delete",
+         "continue", "delete", "rwatch *(int *)0x80000004", "awatch *(int *)0x80000004",
          "watch account[0].object.balance", "continue", "delete", "continue"],
-        [*["Could not insert hardware watchpoint"] * 2, "hit Hardware watchpoint 3", *["Could not insert hardware watchpoint"] * 3,
-         "No more reverse-execution history"],
+        [*["Could not insert hardware watchpoint"] * 2, "hit Hardware watchpoint 3",
+         *["Reads can't be watched: watch stops at changes, and ir-who OBJECT VERSION names who read an object"] * 2,
+         "Could not insert hardware watchpoint", "No more reverse-execution history"],
         locked=False,
     ),
     "12-writers": Session(
@@ -212,10 +213,10 @@ SESSIONS = {
     "14-nowhere": Session(
         "over",
         ["x/4xw 0x20000", "x/8xb 0x10fffc", "x/xw 0", "break *0x20000", "continue", "delete", "watch *(int *)0x10fffe", "continue", "delete",
-         "break *0x10002", "continue", "delete", "rwatch table.limit", "continue", "delete", "continue"],
+         "break *0x10002", "continue", "delete", "rwatch table.limit", "continue"],
         ["Cannot access memory at address 0x20000", r"0x00\s+0x00\s+0x00\s+0x00\s+Cannot access memory at address 0x110000|0x10fffc.*\n?.*Cannot access memory at address 0x110000",
          "Cannot access memory at address 0x0", "Cannot insert breakpoint", "Could not insert hardware watchpoint", "Cannot insert breakpoint",
-         "Could not insert hardware (read )?watchpoint|does not support", "received signal SIGTERM"],
+         "Reads can't be watched", "received signal SIGTERM"],
     ),
     "15-run": Session(
         "lost",
