@@ -1179,6 +1179,13 @@ def test_noted(folder):
     said = run("stale peterson.trc --image peterson.elf", folder).stdout.decode()
     notes = noted(folder, said, "peterson.elf", "peterson.trc")
     wants("ir stale", "object 3 word 0 the-count" in notes, True)
+    wants("ir record", run("record peterson.elf other.trc --order 0x111,1x111", folder).returncode, 0)
+    said = run("diff other.trc peterson.trc", folder).stdout.decode().splitlines()
+    for line in said:
+        notes = noted(folder, f"{line}\n", "peterson.elf", "other.trc")
+        about = [note for note in notes if re.match(r"thread \d event \d", note)]
+        wants(line, bool(about), bool(re.search(r"thread \d (differs )?event \d", line)) and line[:2] != "2 ")
+    wants("ir diff", {line[:2] for line in said} >= {"1 ", "2 "}, True)
     said = "hang switches 2 order 0x10,1!,0x1\n"
     wants("a short order", noted(folder, said, "peterson.elf"), ["order thread 0 adder 10 steps, then thread 1 adder 1 step, its tries refused, then thread 0 adder 1 step"])
     said = "outcome 1 switches 1 order " + ",".join(["1x97", "0x97"] * 8) + "\nthread 1 end 1 code 0 out 0\nobject 3 words 00000002 00000000 00000000\n"
