@@ -1119,7 +1119,7 @@ def test_where(folder):
     text = (faults.FOLDER / "peterson.c").read_text().splitlines()
     line, calls = int(faults.FAULTS["peterson"].line("peterson")) - 1, next(n for n, it in enumerate(text, 1) if it == "    add();")
     events, boxes = events_known(folder, "peterson.elf", "peterson.trc")
-    told = f"peterson.c:{line} in add, called at peterson.c:{calls} in adder_body, the-count 0 to 1"
+    told = f"peterson.c:{line} in add,\ncalled at peterson.c:{calls} in adder_body,\nthe-count 0 to 1"
     wants("the writes of the count", sorted(it for it in events.values() if "the-count" in it), [told])
     (key, box), = ((key, it) for key, it in boxes.items() if any(change.get("name") for change in it.get("changed", ())))
     known = {"object_name": "count", "thread_name": "adder", "variable": "count", "line": f"peterson.c:{line}", "function": "add",
@@ -1132,7 +1132,7 @@ def test_where(folder):
     compiled(folder, "cache", "cache")
     run(["hunt", "cache.elf", "cache.trc", "--until", "fault"], folder)
     events, boxes = events_known(folder, "cache.elf", "cache.trc")
-    wants("an ordinary program", [it for it in events.values() if re.fullmatch(r"cached at cache.c:\d+ in look_up, called at cache.c:\d+ in get, called at .*, cached 2 to 1", it)] != [], True)
+    wants("an ordinary program", [it for it in events.values() if re.fullmatch(r"cached at cache.c:\d+ in look_up,\ncalled at cache.c:\d+ in get,\ncalled at .*,\ncached 2 to 1", it)] != [], True)
     wants("its words", {change["name"] for it in boxes.values() for change in it.get("changed", ()) if "name" in change} >= {"cached", "value", "lock"}, True)
 
 

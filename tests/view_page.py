@@ -424,10 +424,13 @@ def check_where(browser, program, folder):
     for thread, event, count, *_ in json.loads(DATA.search(path.read_text(encoding="ascii"))[1])["boxes"]:
         assert count == 1 and browser.value(f"find({thread}, {event})")
         told = browser.value("el('what').textContent")
-        assert f"thread {thread} <b>&' " in told and re.search(r"peterson\.c:\d+ in (lock|add|unlock), called at peterson\.c:\d+ in adder_body", told), told
+        assert f"thread {thread} <b>&' " in told and re.search(r"peterson\.c:\d+ in (lock|add|unlock),\scalled at peterson\.c:\d+ in adder_body", told), told
         steps = browser.value("[...el('cmds').querySelectorAll('code')].map(c => c.textContent)")
         copied = browser.value("[...el('cmds').querySelectorAll('button')].map(b => b.dataset.copy)")
         assert steps and copied == [word for step in steps for word in (step, f"ir-{step}")], copied
+        x, y = browser.value(f"{MIDDLE}(chosen)")
+        browser.mouse("mouseMoved", x, y)
+        assert max(map(len, browser.value("el('tip').textContent").splitlines())) < 90, browser.value("el('tip').textContent")
     assert browser.value("document.querySelectorAll('b').length") == 0
     browser.value("find(1, 5)")
     assert "the-count 0 to 1" in browser.value("el('what').textContent")
