@@ -1,6 +1,6 @@
 //! How the threads of a recording ended, in words.
 
-ghost use Rattle.std.specs.Prelude.{◌≡◌, IfErr, OnOk};
+ghost use Rattle.std.specs.Prelude.{◌≡◌, IfErr, OnErr, OnOk};
 ghost use Rattle.ir_files.specs.declared.exit_status.ExitStatus.TheVariants as status;
 
 use crate::files::say;
@@ -80,6 +80,7 @@ pub fn recorded_status<E: Sink>(
 ) -> ExitStatus
     ensures done { OnOk recorded (result ≡ status.Done) }
     ensures stopped { IfErr recorded (λ status. result ≡ status) }
+    ensures kept { OnErr recorded (faults.new ≡ faults.old) }
 {
     match recorded {
         Ok(recorded) => {

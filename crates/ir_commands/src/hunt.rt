@@ -1,6 +1,11 @@
 //! `ir hunt`: the first of many seeds whose run fulfils conditions is recorded.
 
-ghost use Rattle.std.specs.Prelude.{◌≡◌, false};
+ghost use Rattle.std.specs.Prelude.{◌≡◌, ◌⊎◌, IfErr, IfOk, OnErr, OnOk, false};
+ghost use Rattle.std.specs.String.{string_bytes};
+ghost use Rattle.ir_files.specs.Given.{IsStored};
+ghost use Rattle.ir_files.specs.Writers.{writer_of};
+ghost use Rattle.ir_files.specs.declared.exit_status.ExitStatus.TheVariants as exit;
+ghost use Rattle.ir_commands.specs.Searching.{Hunts, HuntsFile, RecordsHunted, TellsNoSearch, TellsNoSeed};
 
 use crate::conditions::{conditions_of, copied_texts};
 use crate::ends::recorded_status;
@@ -19,7 +24,11 @@ use std::thread::Threads;
 use std::time::Clock;
 
 // The files of a hunt.
-fn paths(arguments: &HuntArguments) -> RecordingPaths<'_> {
+fn paths(arguments: &HuntArguments) -> RecordingPaths<'_>
+    ensures image { result.image.now ≡ string_bytes arguments.now.image }
+    ensures trace { result.trace.now ≡ string_bytes arguments.now.trace }
+    ensures input { result.input.now ≡ arguments.now.options.input }
+{
     RecordingPaths {
         image: arguments.image.as_str(),
         trace: arguments.trace.as_str(),
@@ -45,6 +54,8 @@ where
     E: Sink,
     requires writes { O.broken out.old ≡ false }
     requires reports { E.broken faults.old ≡ false }
+    ensures found { OnOk result (RecordsHunted image.now plan.now (λ bytes. IsStored D.known (D.knows around.now.folder.now) (D.was_put around.now.folder.now) places.trace.now bytes) (writer_of (O.written out.old) (O.written out.new) (O.broken out.new))) }
+    ensures none { IfErr result (λ answered. TellsNoSeed image.now plan.now answered (writer_of (O.written out.old) (O.written out.new) (O.broken out.new)) ⊎ TellsNoSearch answered (writer_of (E.written faults.old) (E.written faults.new) (E.broken faults.new))) }
 {
     let Surroundings { rt, folder, .. } = *around;
     let mut files = record_files(rt.alloc(), folder, places.trace, places.outputs);
@@ -110,6 +121,10 @@ where
     D: Folder,
     O: Sink,
     E: Sink,
+    ensures quiet { hunted.arguments.now.shrinks ≡ false → out.new ≡ out.old }
+    ensures done { hunted.arguments.now.shrinks ≡ false → OnOk found (result ≡ exit.Done) }
+    ensures stopped { hunted.arguments.now.shrinks ≡ false → IfErr found (λ status. result ≡ status) }
+    ensures kept { hunted.arguments.now.shrinks ≡ false → OnErr found (faults.new ≡ faults.old) }
 {
     let alloc = around.rt.alloc();
     let explains = hunted.plan.is_shown;
@@ -134,6 +149,9 @@ fn hunted_by<R: Threads + Sync + Clock + Eprint + AllocGlobal, D: Folder, G, O: 
 ) -> Result<ExitStatus, ExitStatus>
     requires writes { O.broken out.old ≡ false }
     requires reports { E.broken faults.old ≡ false }
+    ensures done { arguments.now.shrinks ≡ false → IfOk result (λ answered. HuntsFile (D.bytes_at around.now.folder.now) (λ place bytes. IsStored D.known (D.knows around.now.folder.now) (D.was_put around.now.folder.now) place bytes)
+        arguments.now answered (writer_of (O.written out.old) (O.written out.new) (O.broken out.new)) (writer_of (E.written faults.old) (E.written faults.new) (E.broken faults.new))) }
+    ensures stopped { IfErr result (λ answered. TellsNoSearch answered (writer_of (E.written faults.old) (E.written faults.new) (E.broken faults.new))) }
 {
     let (alloc, folder) = (around.rt.alloc(), around.folder);
     let paths = paths(arguments);
@@ -180,6 +198,8 @@ where
     E: Sink,
     requires writes { O.broken out.old ≡ false }
     requires reports { E.broken faults.old ≡ false }
+    ensures { arguments.now.shrinks ≡ false → HuntsFile (D.bytes_at around.now.folder.now) (λ place bytes. IsStored D.known (D.knows around.now.folder.now) (D.was_put around.now.folder.now) place bytes)
+        arguments.now result (writer_of (O.written out.old) (O.written out.new) (O.broken out.new)) (writer_of (E.written faults.old) (E.written faults.new) (E.broken faults.new)) }
 {
     match hunted_by(around, arguments, explains, out, faults) {
         Ok(status) | Err(status) => status,

@@ -1,6 +1,10 @@
 //! `ir explore --until`: the first outcome that fulfils conditions is recorded.
 
-ghost use Rattle.std.specs.Prelude.{◌≡◌, false};
+ghost use Rattle.std.specs.Prelude.{◌≡◌, ◌⊎◌, IfErr, OnOk, false, true};
+ghost use Rattle.std.specs.String.{string_bytes};
+ghost use Rattle.ir_files.specs.Given.{IsStored};
+ghost use Rattle.ir_files.specs.Writers.{writer_of};
+ghost use Rattle.ir_commands.specs.Searching.{RecordsHang, RecordsOutcome, SearchFinds, SearchesFile, SearchMisses, TellsNoSearch, TellsVain};
 
 use crate::conditions::conditions_of;
 use crate::ends::recorded_status;
@@ -18,7 +22,11 @@ use ir_trace::Trace;
 use std::time::Clock;
 
 // The files of the recording.
-fn paths(arguments: &UntilArguments) -> RecordingPaths<'_> {
+fn paths(arguments: &UntilArguments) -> RecordingPaths<'_>
+    ensures image { result.image.now ≡ string_bytes arguments.now.explore.image }
+    ensures trace { result.trace.now ≡ string_bytes arguments.now.trace }
+    ensures input { result.input.now ≡ arguments.now.explore.input }
+{
     RecordingPaths {
         image: arguments.explore.image.as_str(),
         trace: arguments.trace.as_str(),
@@ -44,6 +52,8 @@ where
     E: Sink,
     requires writes { O.broken out.old ≡ false }
     requires reports { E.broken faults.old ≡ false }
+    ensures found { OnOk result (RecordsOutcome plan.now.image.now plan.now.explore plan.now.conditions.now (λ bytes. IsStored D.known (D.knows around.now.folder.now) (D.was_put around.now.folder.now) places.trace.now bytes) (writer_of (O.written out.old) (O.written out.new) (O.broken out.new))) }
+    ensures none { IfErr result (λ answered. TellsVain false plan.now.image.now plan.now.explore plan.now.conditions.now answered (writer_of (O.written out.old) (O.written out.new) (O.broken out.new)) ⊎ TellsNoSearch answered (writer_of (E.written faults.old) (E.written faults.new) (E.broken faults.new))) }
 {
     let Surroundings { rt, folder, .. } = *around;
     let mut files = record_files(rt.alloc(), folder, places.trace, places.outputs);
@@ -66,6 +76,8 @@ where
     E: Sink,
     requires writes { O.broken out.old ≡ false }
     requires reports { E.broken faults.old ≡ false }
+    ensures found { OnOk result (RecordsHang plan.now.image.now plan.now.explore (λ bytes. IsStored D.known (D.knows around.now.folder.now) (D.was_put around.now.folder.now) places.trace.now bytes) (writer_of (O.written out.old) (O.written out.new) (O.broken out.new))) }
+    ensures none { IfErr result (λ answered. TellsVain true plan.now.image.now plan.now.explore plan.now.conditions.now answered (writer_of (O.written out.old) (O.written out.new) (O.broken out.new)) ⊎ TellsNoSearch answered (writer_of (E.written faults.old) (E.written faults.new) (E.broken faults.new))) }
 {
     let Surroundings { rt, folder, .. } = *around;
     let mut files = record_files(rt.alloc(), folder, places.trace, places.outputs);
@@ -86,6 +98,8 @@ fn found_by<R: Clock + AllocGlobal, D: Folder, G: Observer, O: Sink, E: Sink>(
 ) -> Result<Trace, ExitStatus>
     requires writes { O.broken out.old ≡ false }
     requires reports { E.broken faults.old ≡ false }
+    ensures found { OnOk result (SearchFinds (D.bytes_at around.now.folder.now) (λ place bytes. IsStored D.known (D.knows around.now.folder.now) (D.was_put around.now.folder.now) place bytes) arguments.now (writer_of (O.written out.old) (O.written out.new) (O.broken out.new))) }
+    ensures none { IfErr result (λ answered. SearchMisses (D.bytes_at around.now.folder.now) arguments.now answered (writer_of (O.written out.old) (O.written out.new) (O.broken out.new)) ⊎ TellsNoSearch answered (writer_of (E.written faults.old) (E.written faults.new) (E.broken faults.new))) }
 {
     let (alloc, folder) = (around.rt.alloc(), around.folder);
     let paths = paths(arguments);
@@ -121,6 +135,8 @@ pub fn until_file<R: Clock + AllocGlobal, D: Folder, G: Observer, O: Sink, E: Si
 ) -> ExitStatus
     requires writes { O.broken out.old ≡ false }
     requires reports { E.broken faults.old ≡ false }
+    ensures { SearchesFile (D.bytes_at around.now.folder.now) (λ place bytes. IsStored D.known (D.knows around.now.folder.now) (D.was_put around.now.folder.now) place bytes)
+        arguments.now result (writer_of (O.written out.old) (O.written out.new) (O.broken out.new)) (writer_of (E.written faults.old) (E.written faults.new) (E.broken faults.new)) }
 {
     let found = found_by(around, arguments, out, faults);
     recorded_status(around.rt.alloc(), found, explains, faults)
