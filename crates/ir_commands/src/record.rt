@@ -4,12 +4,11 @@ ghost use Rattle.std.specs.Prelude.{◌≡◌, ◌⊎◌, ◌++◌, ◌∷◌, �
 ghost use Rattle.std.specs.String.{string_bytes};
 ghost use Rattle.ir_files.specs.Given.{IsStored};
 ghost use Rattle.ir_files.specs.Writers.{writer_of};
-ghost use Rattle.ir_files.specs.declared.exit_status.ExitStatus.TheVariants as exit;
 ghost use Rattle.ir_hunt.specs.Finding.{IsOrderOfSeed};
 ghost use Rattle.ir_commands.specs.Exploring.{IsInput};
 ghost use Rattle.ir_commands.specs.Files.{TellsFault};
 ghost use Rattle.ir_commands.specs.Printing.{LeavesUnread};
-ghost use Rattle.ir_commands.specs.Writing.{IsListIn, IsOrderAsked, IsStatusOfNoRecording, Records, RecordsFile, StopsRecords};
+ghost use Rattle.ir_commands.specs.Writing.{IsListIn, IsOrderAsked, IsStatusOfNoRecording, Records, RecordsFile, StopsRecords, recorded_status};
 
 use crate::ends::{all_ended, tell_ends};
 use crate::files::{bytes_of, image_in, say};
@@ -204,7 +203,7 @@ fn status_of<E: Sink>(
     explains: bool,
     faults: &mut E,
 ) -> ExitStatus
-    ensures { (result ≡ exit.Done) ⊎ ((result ≡ exit.NotSo) × (asks ≡ true)) }
+    ensures { result ≡ recorded_status asks trace.now }
 {
     if explains {
         tell_ends(alloc, trace, faults);
