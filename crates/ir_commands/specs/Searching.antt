@@ -1,5 +1,5 @@
 -- What the commands that look for a run leave, by the bytes that a folder says are at the paths of their arguments.
-use Rattle.std.specs.Prelude.{◌≡◌, ◌⊎◌, ℕ, Bool, true, false, List, ◌++◌, None, Ok, Err, map, nat_lt}
+use Rattle.std.specs.Prelude.{◌≡◌, ◌⊎◌, ℕ, Bool, true, false, List, ◌++◌, Option, None, Ok, Err, map, nat_lt}
 use Rattle.std.specs.String.{string_bytes}
 use Rattle.ir_arguments.specs.declared.explore.UntilArguments.{UntilArguments}
 use Rattle.ir_arguments.specs.declared.hunt.HuntArguments.{HuntArguments}
@@ -8,7 +8,7 @@ use Rattle.ir_explore.specs.Hang.{IsHangAnswer, IsHangRecorded}
 use Rattle.ir_explore.specs.Plan.{ExplorePlan}
 use Rattle.ir_explore.specs.Until.{IsOutcomeFinding, IsUntil}
 use Rattle.ir_explore.specs.declared.hang_order.HangOrder.{HangOrder}
-use Rattle.ir_files.specs.Writers.{Writer, Took}
+use Rattle.ir_files.specs.Writers.{Writer, Took, writer_of}
 use Rattle.ir_files.specs.declared.exit_status.ExitStatus.{ExitStatus}
 use Rattle.ir_files.specs.declared.exit_status.ExitStatus.TheVariants as status
 use Rattle.ir_hunt.specs.Hunted.{IsFinding, IsNoneIn}
@@ -53,11 +53,10 @@ pub record AsksHunt (at : Paths) (arguments : HuntArguments) (image : List ℕ) 
   pub is_plan : IsHuntPlanOf arguments input plan
 
 -- the run of the lowest seed that is found was recorded: this holds of its trace, and its lines were printed
-pub record RecordsHunted (image : List ℕ) (plan : HuntPlan) (is_kept : List ℕ → Type 0) (out : Writer) : Type 0 where
+pub record RecordsHunted (image : List ℕ) (plan : HuntPlan) (recorded : Recorded) (is_kept : List ℕ → Type 0) (out : Writer) : Type 0 where
   pub left_out : ℕ
   pub seed : ℕ
   pub list : List ℕ
-  pub recorded : Recorded
   pub printed : List (List ℕ)
   pub finding : IsFinding image plan left_out seed list recorded printed
   pub trace : is_kept (encoding recorded)
@@ -71,16 +70,13 @@ pub record TellsNoSeed (image : List ℕ) (plan : HuntPlan) (answered : ExitStat
   pub status : answered ≡ none_status (nat_lt last plan.seeds.last) left_out
   pub lines : Took out (none_lines plan.seeds.first last plan.seeds.last)
 
--- a guest was hunted in: its run was recorded and its trace is at the path of TRACE, or no seed was found
+-- a guest was hunted in: the run that is found was recorded and its trace is at the path of TRACE, or no seed was found
 pub record Hunts (at : Paths) (stored : Storing) (arguments : HuntArguments) (answered : ExitStatus) (out : Writer) : Type 0 where
   pub image : List ℕ
   pub plan : HuntPlan
   pub asked : AsksHunt at arguments image plan
-  pub ended : ((answered ≡ status.Done) × RecordsHunted image plan (stored (string_bytes arguments.trace)) out) ⊎ TellsNoSeed image plan answered out
-
--- what `ir hunt` did where what it finds isn't shrunk
-abbrev pub HuntsFile : Paths → Storing → HuntArguments → ExitStatus → Writer → Writer → Type 0
-HuntsFile at stored arguments answered out faults = Hunts at stored arguments answered out ⊎ TellsNoSearch answered faults
+  pub ended : ((answered ≡ status.Done) × ((recorded : Recorded) × RecordsHunted image plan recorded (stored (string_bytes arguments.trace)) out))
+      ⊎ TellsNoSeed image plan answered out
 
 -- ---- `ir explore --until`
 
@@ -209,3 +205,53 @@ IsStatusOfNoShrinking answered = IsStatusOfNoRecording answered ⊎ (answered �
 abbrev pub ShrinksFile : Paths → Storing → ShrinkArguments → ExitStatus → Writer → Writer → Type 0
 ShrinksFile at stored arguments answered out faults = ((is_minimal : Bool) × (answered ≡ shrunk_status is_minimal) × ShrinksTo at stored arguments is_minimal out)
     ⊎ (ShrinkRefuses at arguments answered faults ⊎ IsStatusOfNoShrinking answered)
+
+-- ---- `ir hunt --shrink`
+
+-- a run that was found is shrunk as the hunt looked for it
+pub record IsShrinkPlanOfHunt (hunt : HuntPlan) (given : Recorded) (plan : ShrinkPlan) : Type 0 where
+  pub how : plan.record ≡ record { order = None; budget = given.budget; random = hunt.record.random; input = hunt.record.input; profile = given.profile }
+  pub conditions : plan.conditions.now ≡ hunt.conditions.now
+  pub stale : plan.stale ≡ hunt.stale
+  pub seconds : plan.seconds ≡ hunt.seconds
+
+-- the run that was found was shrunk so
+pub record ShrinksFound (image : List ℕ) (hunt : HuntPlan) (given : Recorded) (is_minimal : Bool) (is_kept : List ℕ → Type 0) (out : Writer) : Type 0 where
+  pub plan : ShrinkPlan
+  pub is_plan : IsShrinkPlanOfHunt hunt given plan
+  pub shrunk : RecordsShrunkRun image given plan is_minimal is_kept out
+
+-- it wasn't
+pub record RefusesFound (image : List ℕ) (hunt : HuntPlan) (given : Recorded) (answered : ExitStatus) (faults : Writer) : Type 0 where
+  pub plan : ShrinkPlan
+  pub is_plan : IsShrinkPlanOfHunt hunt given plan
+  pub why : RefusesGiven image given plan answered faults
+
+-- how the shrinking of a run that was found ended
+abbrev pub EndsFound : List ℕ → HuntPlan → Recorded → (List ℕ → Type 0) → ExitStatus → Writer → Writer → Type 0
+EndsFound image hunt given is_kept answered out faults =
+    ((is_minimal : Bool) × (answered ≡ shrunk_status is_minimal) × ShrinksFound image hunt given is_minimal is_kept out)
+    ⊎ (RefusesFound image hunt given answered faults ⊎ IsStatusOfNoRecording answered)
+
+-- the run of the lowest seed that is found was recorded and its lines were printed, and then it was shrunk
+pub record HuntsThenShrinks (image : List ℕ) (plan : HuntPlan) (is_kept : List ℕ → Type 0) (answered : ExitStatus) (out faults : Writer) : Type 0 where
+  pub given : Recorded
+  -- what was printed and reported by then
+  pub said : Writer
+  pub reported : Option (List ℕ)
+  pub begins : said.before ≡ out.before
+  pub hunted : RecordsHunted image plan given is_kept said
+  pub ended : EndsFound image plan given is_kept answered (writer_of said.after out.after out.failed) (writer_of reported faults.after faults.failed)
+
+-- a guest was hunted in, and what was found was shrunk
+pub record HuntsToShrink (at : Paths) (stored : Storing) (arguments : HuntArguments) (answered : ExitStatus) (out faults : Writer) : Type 0 where
+  pub image : List ℕ
+  pub plan : HuntPlan
+  pub asked : AsksHunt at arguments image plan
+  pub ended : HuntsThenShrinks image plan (stored (string_bytes arguments.trace)) answered out faults ⊎ TellsNoSeed image plan answered out
+
+-- what `ir hunt` did
+abbrev pub HuntsFile : Paths → Storing → HuntArguments → ExitStatus → Writer → Writer → Type 0
+HuntsFile at stored arguments answered out faults =
+    ((arguments.shrinks ≡ false → Hunts at stored arguments answered out) × (arguments.shrinks ≡ true → HuntsToShrink at stored arguments answered out faults))
+    ⊎ TellsNoSearch answered faults

@@ -1,11 +1,12 @@
 //! `ir hunt`: the first of many seeds whose run fulfils conditions is recorded.
 
-ghost use Rattle.std.specs.Prelude.{◌≡◌, ◌⊎◌, IfErr, IfOk, OnErr, OnOk, false};
+ghost use Rattle.std.specs.Prelude.{◌≡◌, ◌⊎◌, IfErr, IfOk, OnErr, OnOk, false, true};
 ghost use Rattle.std.specs.String.{string_bytes};
 ghost use Rattle.ir_files.specs.Given.{IsStored};
 ghost use Rattle.ir_files.specs.Writers.{writer_of};
 ghost use Rattle.ir_files.specs.declared.exit_status.ExitStatus.TheVariants as exit;
-ghost use Rattle.ir_commands.specs.Searching.{Hunts, HuntsFile, RecordsHunted, TellsNoSearch, TellsNoSeed};
+ghost use Rattle.ir_commands.specs.Searching.{EndsFound, HuntsFile, RecordsHunted, RefusesFound, ShrinksFound, TellsNoSearch, TellsNoSeed};
+ghost use Rattle.ir_commands.specs.Writing.{IsStatusOfNoRecording};
 
 use crate::conditions::{conditions_of, copied_texts};
 use crate::ends::recorded_status;
@@ -54,7 +55,7 @@ where
     E: Sink,
     requires writes { O.broken out.old ≡ false }
     requires reports { E.broken faults.old ≡ false }
-    ensures found { OnOk result (RecordsHunted image.now plan.now (λ bytes. IsStored D.known (D.knows around.now.folder.now) (D.was_put around.now.folder.now) places.trace.now bytes) (writer_of (O.written out.old) (O.written out.new) (O.broken out.new))) }
+    ensures found { IfOk result (λ recorded. RecordsHunted image.now plan.now recorded (λ bytes. IsStored D.known (D.knows around.now.folder.now) (D.was_put around.now.folder.now) places.trace.now bytes) (writer_of (O.written out.old) (O.written out.new) (O.broken out.new))) }
     ensures none { IfErr result (λ answered. TellsNoSeed image.now plan.now answered (writer_of (O.written out.old) (O.written out.new) (O.broken out.new)) ⊎ TellsNoSearch answered (writer_of (E.written faults.old) (E.written faults.new) (E.broken faults.new))) }
 {
     let Surroundings { rt, folder, .. } = *around;
@@ -81,6 +82,8 @@ fn shrunk<R: Clock + Eprint + AllocGlobal, D: Folder, G, O: Sink, E: Sink>(
 ) -> Result<Shrunk, ExitStatus>
     requires writes { O.broken out.old ≡ false }
     requires reports { E.broken faults.old ≡ false }
+    ensures done { IfOk result (λ shrunk. ShrinksFound hunted.image.now hunted.plan.now found.now shrunk.is_minimal (λ bytes. IsStored D.known (D.knows around.now.folder.now) (D.was_put around.now.folder.now) places.trace.now bytes) (writer_of (O.written out.old) (O.written out.new) (O.broken out.new))) }
+    ensures stopped { IfErr result (λ answered. RefusesFound hunted.image.now hunted.plan.now found.now answered (writer_of (E.written faults.old) (E.written faults.new) (E.broken faults.new)) ⊎ IsStatusOfNoRecording answered) }
 {
     let Hunted {
         image,
@@ -107,6 +110,33 @@ fn shrunk<R: Clock + Eprint + AllocGlobal, D: Folder, G, O: Sink, E: Sink>(
     shrunk_into(around, places, &run, &shrinking, out, faults)
 }
 
+// The exit status of the shrinking of a run that was found.
+fn shrunk_found<R, D, G, O, E>(
+    around: &Surroundings<'_, R, D, G>,
+    places: Places<'_, '_>,
+    hunted: Hunted<'_, '_>,
+    found: &Trace,
+    out: &mut O,
+    faults: &mut E,
+) -> ExitStatus
+where
+    R: Clock + Eprint + AllocGlobal,
+    D: Folder,
+    O: Sink,
+    E: Sink,
+    ensures { EndsFound hunted.image.now hunted.plan.now found.now (λ bytes. IsStored D.known (D.knows around.now.folder.now) (D.was_put around.now.folder.now) places.trace.now bytes) result
+        (writer_of (O.written out.old) (O.written out.new) (O.broken out.new)) (writer_of (E.written faults.old) (E.written faults.new) (E.broken faults.new)) }
+{
+    if out.failed() || faults.failed() {
+        return ExitStatus::Failed;
+    }
+    let explains = hunted.plan.is_shown;
+    match shrunk(around, places, hunted, found, out, faults) {
+        Ok(shrunk) => shrunk_status(around.rt.alloc(), explains, &shrunk, faults),
+        Err(status) => status,
+    }
+}
+
 // The exit status of a hunt. What was found is shrunk, if that is asked for.
 fn ended<R, D, G, O, E>(
     around: &Surroundings<'_, R, D, G>,
@@ -121,21 +151,23 @@ where
     D: Folder,
     O: Sink,
     E: Sink,
-    ensures quiet { hunted.arguments.now.shrinks ≡ false → out.new ≡ out.old }
-    ensures done { hunted.arguments.now.shrinks ≡ false → OnOk found (result ≡ exit.Done) }
-    ensures stopped { hunted.arguments.now.shrinks ≡ false → IfErr found (λ status. result ≡ status) }
-    ensures kept { hunted.arguments.now.shrinks ≡ false → OnErr found (faults.new ≡ faults.old) }
+    ensures stopped { IfErr found (λ status. result ≡ status) }
+    ensures quiet { OnErr found (out.new ≡ out.old) }
+    ensures kept { OnErr found (faults.new ≡ faults.old) }
+    ensures done { hunted.arguments.now.shrinks ≡ false → OnOk found ((result ≡ exit.Done) × (out.new ≡ out.old)) }
+    ensures shrunk { hunted.arguments.now.shrinks ≡ true → IfOk found (λ given. EndsFound hunted.image.now hunted.plan.now given (λ bytes. IsStored D.known (D.knows around.now.folder.now) (D.was_put around.now.folder.now) places.trace.now bytes) result
+        (writer_of (O.written out.old) (O.written out.new) (O.broken out.new)) (writer_of (E.written faults.old) (E.written faults.new) (E.broken faults.new))) }
 {
-    let alloc = around.rt.alloc();
-    let explains = hunted.plan.is_shown;
     match found {
-        Ok(found) if hunted.arguments.shrinks && !out.failed() && !faults.failed() => {
-            match shrunk(around, places, hunted, &found, out, faults) {
-                Ok(shrunk) => shrunk_status(alloc, explains, &shrunk, faults),
-                Err(status) => status,
+        Ok(found) => {
+            if hunted.arguments.shrinks {
+                shrunk_found(around, places, hunted, &found, out, faults)
+            } else {
+                let explains = hunted.plan.is_shown;
+                recorded_status(around.rt.alloc(), Ok(found), explains, faults)
             }
         }
-        found => recorded_status(alloc, found, explains, faults),
+        Err(status) => status,
     }
 }
 
@@ -149,7 +181,7 @@ fn hunted_by<R: Threads + Sync + Clock + Eprint + AllocGlobal, D: Folder, G, O: 
 ) -> Result<ExitStatus, ExitStatus>
     requires writes { O.broken out.old ≡ false }
     requires reports { E.broken faults.old ≡ false }
-    ensures done { arguments.now.shrinks ≡ false → IfOk result (λ answered. HuntsFile (D.bytes_at around.now.folder.now) (λ place bytes. IsStored D.known (D.knows around.now.folder.now) (D.was_put around.now.folder.now) place bytes)
+    ensures done { IfOk result (λ answered. HuntsFile (D.bytes_at around.now.folder.now) (λ place bytes. IsStored D.known (D.knows around.now.folder.now) (D.was_put around.now.folder.now) place bytes)
         arguments.now answered (writer_of (O.written out.old) (O.written out.new) (O.broken out.new)) (writer_of (E.written faults.old) (E.written faults.new) (E.broken faults.new))) }
     ensures stopped { IfErr result (λ answered. TellsNoSearch answered (writer_of (E.written faults.old) (E.written faults.new) (E.broken faults.new))) }
 {
@@ -198,7 +230,7 @@ where
     E: Sink,
     requires writes { O.broken out.old ≡ false }
     requires reports { E.broken faults.old ≡ false }
-    ensures { arguments.now.shrinks ≡ false → HuntsFile (D.bytes_at around.now.folder.now) (λ place bytes. IsStored D.known (D.knows around.now.folder.now) (D.was_put around.now.folder.now) place bytes)
+    ensures { HuntsFile (D.bytes_at around.now.folder.now) (λ place bytes. IsStored D.known (D.knows around.now.folder.now) (D.was_put around.now.folder.now) place bytes)
         arguments.now result (writer_of (O.written out.old) (O.written out.new) (O.broken out.new)) (writer_of (E.written faults.old) (E.written faults.new) (E.broken faults.new)) }
 {
     match hunted_by(around, arguments, explains, out, faults) {

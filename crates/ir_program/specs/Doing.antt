@@ -1,5 +1,5 @@
 -- What the program does for a request, by the bytes that a folder says are at the paths of its arguments.
-use Rattle.std.specs.Prelude.{◌≡◌, ◌≢◌, ◌⊎◌, ℕ, List, Option, Ok, false}
+use Rattle.std.specs.Prelude.{◌≡◌, ◌≢◌, ◌⊎◌, ℕ, List, Option, Ok}
 use Rattle.ir_files.specs.Writers.{Writer, Took, Failed}
 use Rattle.ir_files.specs.declared.exit_status.ExitStatus.{ExitStatus}
 use Rattle.ir_files.specs.declared.exit_status.ExitStatus.TheVariants as status
@@ -99,8 +99,7 @@ abbrev pub MakesImage : Paths → Storing → Make → ExitStatus → Type 0
 MakesImage at stored (made.Source a) answered = Makes (Assembles at stored a) (RefusesSource at a) answered
 MakesImage at stored (made.Elf a) answered = Makes (Converts at stored a) (RefusesElf at a) answered
 
--- What the program did for a request: it ended with this status, had this input left before, and these took what it wrote. Of a hunt whose run is
--- shrunk at once nothing is said here.
+-- What the program did for a request: it ended with this status, had this input left before, and these took what it wrote.
 abbrev pub Does : Paths → Storing → Asked → ExitStatus → Option (List ℕ) → Writer → Writer → Type 0 → Type 0
 Does at stored asked.Session answered input out faults unprinted =
     (reader : TakenReader) × (reader.before ≡ input) × HeldBundle answered reader out unprinted
@@ -113,6 +112,6 @@ Does at stored (asked.Explore what) answered input out faults unprinted = Prints
 Does at stored (asked.Help text) answered input out faults unprinted = Shows (string_bytes text) answered out faults
 Does at stored (asked.Nothing why) answered input out faults unprinted = TellsWhyNot status.BadArguments answered faults unprinted
 Does at stored asked.NoMem answered input out faults unprinted = TellsWhyNot status.Failed answered faults unprinted
-Does at stored (asked.Hunt a) answered input out faults unprinted = a.shrinks ≡ false → HuntsFile at stored a answered out faults
+Does at stored (asked.Hunt a) answered input out faults unprinted = HuntsFile at stored a answered out faults
 Does at stored (asked.Shrink a) answered input out faults unprinted = ShrinksFile at stored a answered out faults
 Does at stored (asked.Until a) answered input out faults unprinted = SearchesFile at stored a answered out faults

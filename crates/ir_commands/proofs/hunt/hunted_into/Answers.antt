@@ -1,18 +1,17 @@
 use Rattle.std.proofs.lemmas.Result.{IfErr-weaker}
 use Rattle.ir_trace.specs.Encoding.{encoding}
-use Rattle.ir_commands.proofs.Searched.{both_on_ok, hunt_tells_none}
-use Rattle.ir_commands.proofs.Stored.{stored_in_place}
+use Rattle.ir_commands.proofs.Searched.{hunt_tells_none}
+use Rattle.ir_commands.proofs.Stored.{both_if_ok, stored_in_place}
 use Rattle.ir_commands.proofs.hunt.hunted_into.Goals as goal
 
 pub returns-clause-found : goal.returns-clause-found
 returns-clause-found g c =
     let files = c.record_files-files.result in
     let after = c.hunt_run.new.files in
-    both_on_ok c.hunt_run.result (λ whole recorded done. record {
+    both_if_ok c.hunt_run.result (λ whole recorded done. record {
       left_out = done.0;
       seed = done.1;
       list = done.2;
-      recorded = recorded;
       printed = done.3;
       finding = done.4;
       trace = stored_in_place g.D.Folder.known g.D.Folder.knows g.D.Folder.was_put (λ m. m.file) c.args.around.now.folder.now files.trace.folder.now
