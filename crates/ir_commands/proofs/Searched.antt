@@ -100,29 +100,38 @@ pub hunt_comes_to : {O E : Type 0} (written : O → Option (List ℕ)) (broken :
     → HuntsFile at stored arguments answered (writer_of (written out) (written out') (broken out')) (writer_of (reported faults) (reported faults') (fails faults'))
 hunt_comes_to written broken reported fails at stored arguments image plan out said out' faults told faults' answered place (Ok x) asked here found none stopped quiet kept done shrunk =
     let hunted = subst (λ p. RecordsHunted image plan x (stored p) (writer_of (written out) (written said) (broken said))) here found in
-    inl (λ no. record {
-      image = image;
-      plan = plan;
-      asked = asked;
-      ended = inl ((done no).0, (x, subst (λ o. RecordsHunted image plan x (stored (string_bytes arguments.trace)) (writer_of (written out) (written o) (broken o)))
-          (sym (done no).1) hunted));
-    }, λ yes. record {
-      image = image;
-      plan = plan;
-      asked = asked;
-      ended = inl (record {
-        given = x;
-        said = writer_of (written out) (written said) (broken said);
-        reported = reported told;
-        begins = refl;
-        hunted = hunted;
-        ended = subst (λ p. EndsFound image plan x (stored p) answered (writer_of (written said) (written out') (broken out'))
-            (writer_of (reported told) (reported faults') (fails faults'))) here (shrunk yes);
-      });
-    })
+    inl (
+      λ no. record {
+        image = image;
+        plan = plan;
+        asked = asked;
+        ended = inl (
+          (done no).0,
+          (
+            x,
+            subst (λ o. RecordsHunted image plan x (stored (string_bytes arguments.trace)) (writer_of (written out) (written o) (broken o)))
+                (sym (done no).1) hunted,
+          ),
+        );
+      },
+      λ yes. record {
+        image = image;
+        plan = plan;
+        asked = asked;
+        ended = inl (record {
+          given = x;
+          said = writer_of (written out) (written said) (broken said);
+          reported = reported told;
+          begins = refl;
+          hunted = hunted;
+          ended = subst (λ p. EndsFound image plan x (stored p) answered (writer_of (written said) (written out') (broken out'))
+              (writer_of (reported told) (reported faults') (fails faults'))) here (shrunk yes);
+        });
+      },
+    )
 hunt_comes_to written broken reported fails at stored arguments image plan out said out' faults told faults' answered place (Err e) asked here found (inl none) stopped quiet kept done shrunk =
     let seedless = subst (λ a. TellsNoSeed image plan a (writer_of (written out) (written out') (broken out'))) (sym stopped)
-        (subst (λ o. TellsNoSeed image plan e (writer_of (written out) (written o) (broken o))) (sym quiet) none) in
+    (subst (λ o. TellsNoSeed image plan e (writer_of (written out) (written o) (broken o))) (sym quiet) none) in
     inl (λ no. record { image = image; plan = plan; asked = asked; ended = inr seedless }, λ yes. record { image = image; plan = plan; asked = asked; ended = inr seedless })
 hunt_comes_to written broken reported fails at stored arguments image plan out said out' faults told faults' answered place (Err e) asked here found (inr none) stopped quiet kept done shrunk =
     inr (subst (λ a. TellsNoSearch a (writer_of (reported faults) (reported faults') (fails faults'))) (sym stopped)

@@ -55,8 +55,12 @@ where
     E: Sink,
     requires writes { O.broken out.old ≡ false }
     requires reports { E.broken faults.old ≡ false }
-    ensures found { IfOk result (λ recorded. RecordsHunted image.now plan.now recorded (λ bytes. IsStored D.known (D.knows around.now.folder.now) (D.was_put around.now.folder.now) places.trace.now bytes) (writer_of (O.written out.old) (O.written out.new) (O.broken out.new))) }
-    ensures none { IfErr result (λ answered. TellsNoSeed image.now plan.now answered (writer_of (O.written out.old) (O.written out.new) (O.broken out.new)) ⊎ TellsNoSearch answered (writer_of (E.written faults.old) (E.written faults.new) (E.broken faults.new))) }
+    ensures found { IfOk result (λ recorded. RecordsHunted image.now plan.now recorded
+        (λ bytes. IsStored D.known (D.knows around.now.folder.now) (D.was_put around.now.folder.now) places.trace.now bytes)
+        (writer_of (O.written out.old) (O.written out.new) (O.broken out.new))) }
+    ensures none { IfErr result (λ answered. TellsNoSeed image.now plan.now answered
+        (writer_of (O.written out.old) (O.written out.new) (O.broken out.new)) ⊎ TellsNoSearch answered
+        (writer_of (E.written faults.old) (E.written faults.new) (E.broken faults.new))) }
 {
     let Surroundings { rt, folder, .. } = *around;
     let mut files = record_files(rt.alloc(), folder, places.trace, places.outputs);
@@ -82,8 +86,11 @@ fn shrunk<R: Clock + Eprint + AllocGlobal, D: Folder, G, O: Sink, E: Sink>(
 ) -> Result<Shrunk, ExitStatus>
     requires writes { O.broken out.old ≡ false }
     requires reports { E.broken faults.old ≡ false }
-    ensures done { IfOk result (λ shrunk. ShrinksFound hunted.image.now hunted.plan.now found.now shrunk.is_minimal (λ bytes. IsStored D.known (D.knows around.now.folder.now) (D.was_put around.now.folder.now) places.trace.now bytes) (writer_of (O.written out.old) (O.written out.new) (O.broken out.new))) }
-    ensures stopped { IfErr result (λ answered. RefusesFound hunted.image.now hunted.plan.now found.now answered (writer_of (E.written faults.old) (E.written faults.new) (E.broken faults.new)) ⊎ IsStatusOfNoRecording answered) }
+    ensures done { IfOk result (λ shrunk. ShrinksFound hunted.image.now hunted.plan.now found.now shrunk.is_minimal
+        (λ bytes. IsStored D.known (D.knows around.now.folder.now) (D.was_put around.now.folder.now) places.trace.now bytes)
+        (writer_of (O.written out.old) (O.written out.new) (O.broken out.new))) }
+    ensures stopped { IfErr result (λ answered. RefusesFound hunted.image.now hunted.plan.now found.now answered
+        (writer_of (E.written faults.old) (E.written faults.new) (E.broken faults.new)) ⊎ IsStatusOfNoRecording answered) }
 {
     let Hunted {
         image,
@@ -155,7 +162,8 @@ where
     ensures quiet { OnErr found (out.new ≡ out.old) }
     ensures kept { OnErr found (faults.new ≡ faults.old) }
     ensures done { hunted.arguments.now.shrinks ≡ false → OnOk found ((result ≡ exit.Done) × (out.new ≡ out.old)) }
-    ensures shrunk { hunted.arguments.now.shrinks ≡ true → IfOk found (λ given. EndsFound hunted.image.now hunted.plan.now given (λ bytes. IsStored D.known (D.knows around.now.folder.now) (D.was_put around.now.folder.now) places.trace.now bytes) result
+    ensures shrunk { hunted.arguments.now.shrinks ≡ true → IfOk found (λ given. EndsFound hunted.image.now hunted.plan.now given
+        (λ bytes. IsStored D.known (D.knows around.now.folder.now) (D.was_put around.now.folder.now) places.trace.now bytes) result
         (writer_of (O.written out.old) (O.written out.new) (O.broken out.new)) (writer_of (E.written faults.old) (E.written faults.new) (E.broken faults.new))) }
 {
     match found {
@@ -181,7 +189,8 @@ fn hunted_by<R: Threads + Sync + Clock + Eprint + AllocGlobal, D: Folder, G, O: 
 ) -> Result<ExitStatus, ExitStatus>
     requires writes { O.broken out.old ≡ false }
     requires reports { E.broken faults.old ≡ false }
-    ensures done { IfOk result (λ answered. HuntsFile (D.bytes_at around.now.folder.now) (λ place bytes. IsStored D.known (D.knows around.now.folder.now) (D.was_put around.now.folder.now) place bytes)
+    ensures done { IfOk result (λ answered. HuntsFile (D.bytes_at around.now.folder.now)
+        (λ place bytes. IsStored D.known (D.knows around.now.folder.now) (D.was_put around.now.folder.now) place bytes)
         arguments.now answered (writer_of (O.written out.old) (O.written out.new) (O.broken out.new)) (writer_of (E.written faults.old) (E.written faults.new) (E.broken faults.new))) }
     ensures stopped { IfErr result (λ answered. TellsNoSearch answered (writer_of (E.written faults.old) (E.written faults.new) (E.broken faults.new))) }
 {

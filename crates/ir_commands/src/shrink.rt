@@ -153,8 +153,11 @@ where
     E: Sink,
     requires writes { O.broken out.old ≡ false }
     requires reports { E.broken faults.old ≡ false }
-    ensures done { IfOk result (λ shrunk. RecordsShrunkRun given.now.image.now given.now.trace.now plan.now shrunk.is_minimal (λ bytes. IsStored D.known (D.knows around.now.folder.now) (D.was_put around.now.folder.now) places.trace.now bytes) (writer_of (O.written out.old) (O.written out.new) (O.broken out.new))) }
-    ensures stopped { IfErr result (λ answered. RefusesGiven given.now.image.now given.now.trace.now plan.now answered (writer_of (E.written faults.old) (E.written faults.new) (E.broken faults.new)) ⊎ IsStatusOfNoRecording answered) }
+    ensures done { IfOk result (λ shrunk. RecordsShrunkRun given.now.image.now given.now.trace.now plan.now shrunk.is_minimal
+        (λ bytes. IsStored D.known (D.knows around.now.folder.now) (D.was_put around.now.folder.now) places.trace.now bytes)
+        (writer_of (O.written out.old) (O.written out.new) (O.broken out.new))) }
+    ensures stopped { IfErr result (λ answered. RefusesGiven given.now.image.now given.now.trace.now plan.now answered
+        (writer_of (E.written faults.old) (E.written faults.new) (E.broken faults.new)) ⊎ IsStatusOfNoRecording answered) }
 {
     let Surroundings { rt, folder, .. } = *around;
     let mut files = record_files(rt.alloc(), folder, places.trace, places.outputs);
@@ -217,7 +220,8 @@ fn shrunk_by<R: Clock + Eprint + AllocGlobal, D: Folder, G, O: Sink, E: Sink>(
     requires reports { E.broken faults.old ≡ false }
     ensures done { IfOk result (λ shrunk. ShrinksTo (D.bytes_at around.now.folder.now) (λ place bytes. IsStored D.known (D.knows around.now.folder.now) (D.was_put around.now.folder.now) place bytes)
         arguments.now shrunk.is_minimal (writer_of (O.written out.old) (O.written out.new) (O.broken out.new))) }
-    ensures stopped { IfErr result (λ answered. ShrinkRefuses (D.bytes_at around.now.folder.now) arguments.now answered (writer_of (E.written faults.old) (E.written faults.new) (E.broken faults.new)) ⊎ IsStatusOfNoShrinking answered) }
+    ensures stopped { IfErr result (λ answered. ShrinkRefuses (D.bytes_at around.now.folder.now) arguments.now answered
+        (writer_of (E.written faults.old) (E.written faults.new) (E.broken faults.new)) ⊎ IsStatusOfNoShrinking answered) }
 {
     let (alloc, folder) = (around.rt.alloc(), around.folder);
     if loses_given(folder, faults, arguments) {
