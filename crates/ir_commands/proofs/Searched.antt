@@ -3,13 +3,13 @@ use Rattle.std.proofs.Common.{◌≡◌, ◌⊎◌, ◌∙◌, List, ℕ, inl, i
 use Rattle.std.specs.Prelude.{Bool, IfErr, IfOk, OnErr, OnOk, Option, Result, Ok, Err, true, false}
 use Rattle.std.specs.String.{string_bytes}
 use Rattle.ir_explore.specs.Faults.{explore_fault_status, explore_fault_words}
-use Rattle.ir_explore.specs.Hang.{StopsHang}
+use Rattle.ir_explore.specs.Hang.{IsHangAnswer, StopsHang}
 use Rattle.ir_explore.specs.Plan.{ExplorePlan}
 use Rattle.ir_explore.specs.Until.{StopsUntil, recording}
 use Rattle.ir_explore.specs.declared.fault.ExploreFault.{ExploreFault}
 use Rattle.ir_explore.specs.declared.fault.ExploreFault.TheVariants as fault
 use Rattle.ir_arguments.specs.declared.hunt.HuntArguments.{HuntArguments}
-use Rattle.ir_files.specs.Writers.{Writer, writer_of}
+use Rattle.ir_files.specs.Writers.{Took, Writer, writer_of}
 use Rattle.ir_files.specs.declared.exit_status.ExitStatus.{ExitStatus}
 use Rattle.ir_files.specs.declared.exit_status.ExitStatus.TheVariants as status
 use Rattle.ir_hunt.specs.Stopping.{StopsHunt}
@@ -27,20 +27,25 @@ use Rattle.ir_shrink.specs.declared.refusal.Refusal.TheVariants as refused
 use Rattle.ir_trace.specs.Recorded.{Recorded}
 use Rattle.ir_commands.specs.Files.{TellsFault}
 use Rattle.ir_commands.specs.Printing.{Paths}
-use Rattle.ir_commands.specs.Searching.{AsksHunt, EndsFound, HuntsFile, RecordsHunted, RefusesGiven, TellsNoSearch, TellsNoSeed, TellsVain}
+use Rattle.ir_commands.specs.Searching.{AsksHunt, EndsFound, HuntsFile, RecordsHang, RecordsHunted, RefusesGiven, TellsNoSearch, TellsNoSeed, TellsVain}
 use Rattle.ir_commands.specs.Writing.{IsStatusOfNoRecording, Storing}
 use Rattle.ir_commands.proofs.Stored.{reported_is_told}
 
--- what holds wherever there is a value, with what holds of it
-pub both_on_ok : {T E : Type 0} {P : T → Type 0} {X Q : Type 0} (r : Result T E) → (X → (x : T) → P x → Q) → OnOk r X → IfOk r P → OnOk r Q
-both_on_ok (Ok x) f o p = f o x p
-both_on_ok (Err e) f o p = o
+-- what holds wherever there is a value, by what holds of it
+pub ok_gives : {T E : Type 0} {P : T → Type 0} {Q : Type 0} (r : Result T E) → ((x : T) → P x → Q) → IfOk r P → OnOk r Q
+ok_gives (Ok x) f p = f x p
+ok_gives (Err e) f p = p
+
+-- the same by two things that hold there
+pub on_both : {T E X Y Z : Type 0} (r : Result T E) → (X → Y → Z) → OnOk r X → OnOk r Y → OnOk r Z
+on_both (Ok x) f p q = f p q
+on_both (Err e) f p q = p
 
 -- there is a value, with the status that it has, or there is none, with the status that was answered
-pub found_or_lost : {T : Type 0} {Found : Type 0} {Lost : ExitStatus → Type 0} {done answered : ExitStatus} (r : Result T ExitStatus)
+pub found_or_lost : {T Found : Type 0} (Lost : ExitStatus → Type 0) {done answered : ExitStatus} (r : Result T ExitStatus)
     → OnOk r Found → IfErr r Lost → OnOk r (answered ≡ done) → IfErr r (λ s. answered ≡ s) → ((answered ≡ done) × Found) ⊎ Lost answered
-found_or_lost (Ok x) found lost is stopped = inl (is, found)
-found_or_lost {T} {Found} {Lost} (Err e) found lost is stopped = inr (subst Lost (sym stopped) lost)
+found_or_lost Lost (Ok x) found lost is stopped = inl (is, found)
+found_or_lost Lost (Err e) found lost is stopped = inr (subst Lost (sym stopped) lost)
 
 -- the status of a fault is that of no recording
 pub fault_is_no_recording : (e : RecordFault) {answered : ExitStatus} → answered ≡ fault_status e → IsStatusOfNoRecording answered
@@ -72,19 +77,30 @@ hunt_tells_none d answered image plan old new reports (inr (e, is, inr (inr t)))
 pub search_tells_none : {W P O : Type 0} (d : Tellings W P O) (answered : ExitStatus) (image : List ℕ) (plan : ExplorePlan) (conditions : List Condition)
     (old new : Devices W P O) (reports : Writer) {same : Type 0} → StopsUntil d answered image plan (map as_condition conditions) old new reports same
     → TellsVain false image plan conditions answered (lines_between d old new) ⊎ TellsNoSearch answered reports
-search_tells_none d answered image plan conditions old new reports (inl h) = inl (h.3, h.4, h.5)
+search_tells_none d answered image plan conditions old new reports (inl h) = inl h.3
 search_tells_none d answered image plan conditions old new reports (inr (inl h)) = inr (explore_fault_is h.0 h.1, (explore_fault_words h.0, h.5))
 search_tells_none d answered image plan conditions old new reports (inr (inr h)) =
     inr (fault_is_no_recording h.0 h.1, reported_is_told h.0 image _ _ _ reports h.7.0)
 
 -- the same of a search for a hang
-pub hang_tells_none : {W P O : Type 0} (d : Tellings W P O) (answered : ExitStatus) (image : List ℕ) (plan : ExplorePlan) (conditions : List Condition)
+pub hang_tells_none : {W P O : Type 0} (d : Tellings W P O) (answered : ExitStatus) (image : List ℕ) (plan : ExplorePlan)
     (old new : Devices W P O) (reports : Writer) {same : Type 0} → StopsHang d answered image plan old new reports same
-    → TellsVain true image plan conditions answered (lines_between d old new) ⊎ TellsNoSearch answered reports
-hang_tells_none d answered image plan conditions old new reports (inl h) = inl (h.3, h.4, h.5)
-hang_tells_none d answered image plan conditions old new reports (inr (inl h)) = inr (explore_fault_is h.0 h.1, (explore_fault_words h.0, h.5))
-hang_tells_none d answered image plan conditions old new reports (inr (inr h)) =
+    → ((text : List ℕ) × IsHangAnswer image plan (Err answered) text × Took (lines_between d old new) text) ⊎ TellsNoSearch answered reports
+hang_tells_none d answered image plan old new reports (inl h) = inl h.3
+hang_tells_none d answered image plan old new reports (inr (inl h)) = inr (explore_fault_is h.0 h.1, (explore_fault_words h.0, h.5))
+hang_tells_none d answered image plan old new reports (inr (inr h)) =
     inr (fault_is_no_recording h.0 h.1, reported_is_told h.0 image _ _ _ reports h.7.0)
+
+-- a plan that is the same may stand for it
+pub with_plan : {image : List ℕ} {plan other : ExplorePlan} {is_kept : List ℕ → Type 0} {out : Writer} → plan ≡ other
+    → RecordsHang image plan is_kept out → RecordsHang image other is_kept out
+with_plan {image} {plan} {other} {is_kept} {out} same found = subst (λ p. RecordsHang image p is_kept out) same found
+
+pub hang_vain : {image : List ℕ} {plan other : ExplorePlan} {answered : ExitStatus} {out reports : Writer} {conditions : List Condition} → plan ≡ other
+    → ((text : List ℕ) × IsHangAnswer image plan (Err answered) text × Took out text) ⊎ TellsNoSearch answered reports
+    → TellsVain true image other conditions answered out ⊎ TellsNoSearch answered reports
+hang_vain {image} {plan} {other} {answered} {out} same (inl h) = inl (subst (λ p. (text : List ℕ) × IsHangAnswer image p (Err answered) text × Took out text) same h)
+hang_vain same (inr h) = inr h
 
 -- what a hunt comes to, by what it found and what was made of that
 pub hunt_comes_to : {O E : Type 0} (written : O → Option (List ℕ)) (broken : O → Bool) (reported : E → Option (List ℕ)) (fails : E → Bool) (at : Paths) (stored : Storing)

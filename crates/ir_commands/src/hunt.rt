@@ -1,6 +1,7 @@
 //! `ir hunt`: the first of many seeds whose run fulfils conditions is recorded.
 
 ghost use Rattle.std.specs.Prelude.{◌≡◌, ◌⊎◌, IfErr, IfOk, OnErr, OnOk, false, true};
+ghost use Rattle.std.specs.Io.KnownBytes.{Appends};
 ghost use Rattle.std.specs.String.{string_bytes};
 ghost use Rattle.ir_files.specs.Given.{IsStored};
 ghost use Rattle.ir_files.specs.Writers.{writer_of};
@@ -15,9 +16,9 @@ use crate::recording::{Places, RecordingPaths, beside_of, loses_input, record_fi
 use crate::shrink::{plan_like, shrunk_into, shrunk_status};
 use crate::surroundings::Surroundings;
 use ir_arguments::HuntArguments;
-use ir_files::{ExitStatus, Folder};
+use ir_files::{ExitStatus, Folder, OutputSink, WholeSink};
 use ir_hunt::{HuntPlan, hunt_run};
-use ir_record_command::ParsedImage;
+use ir_record_command::{ParsedImage, RecordFiles};
 use ir_shrink::{GivenRun, ShrinkPlan, Shrunk};
 use ir_stream::Sink;
 use ir_trace::Trace;
@@ -39,6 +40,37 @@ fn paths(arguments: &HuntArguments) -> RecordingPaths<'_>
     }
 }
 
+// Hunts for a run of a guest, whose trace and outputs go into these files.
+fn hunted_in<R, W, P, O, E>(
+    rt: &R,
+    image: &ParsedImage<'_>,
+    plan: &HuntPlan<'_>,
+    files: &mut RecordFiles<W, P>,
+    out: &mut O,
+    faults: &mut E,
+) -> Result<Trace, ExitStatus>
+where
+    R: Threads + Sync + Clock + Eprint + AllocGlobal,
+    W: WholeSink,
+    P: OutputSink,
+    O: Sink,
+    E: Sink,
+    requires writes { W.broken files.old.trace ≡ false }
+    requires puts { P.broken files.old.outputs ≡ false }
+    requires prints { O.broken out.old ≡ false }
+    requires reports { E.broken faults.old ≡ false }
+    ensures found { IfOk result (λ recorded. RecordsHunted image.now plan.now recorded
+        (λ bytes. Appends (W.written files.old.trace) (W.written files.new.trace) bytes)
+        (writer_of (O.written out.old) (O.written out.new) (O.broken out.new))) }
+    ensures none { IfErr result (λ answered. TellsNoSeed image.now plan.now answered
+        (writer_of (O.written out.old) (O.written out.new) (O.broken out.new)) ⊎ TellsNoSearch answered
+        (writer_of (E.written faults.old) (E.written faults.new) (E.broken faults.new))) }
+    ensures whole { OnOk result (W.whole files.new.trace ≡ true) }
+    ensures home { W.home files.new.trace ≡ W.home files.old.trace }
+{
+    hunt_run(rt, image, plan, files, out, faults)
+}
+
 // Hunts for a run of a guest, whose trace and outputs go into files at these paths.
 fn hunted_into<R, D, G, O, E>(
     around: &Surroundings<'_, R, D, G>,
@@ -56,7 +88,7 @@ where
     requires writes { O.broken out.old ≡ false }
     requires reports { E.broken faults.old ≡ false }
     ensures found { IfOk result (λ recorded. RecordsHunted image.now plan.now recorded
-        (λ bytes. IsStored D.known (D.knows around.now.folder.now) (D.was_put around.now.folder.now) places.trace.now bytes)
+        (λ bytes. IsStored D.known (D.knows around.now.folder.now) (D.was_put around.now.folder.now) places.entry.trace.now bytes)
         (writer_of (O.written out.old) (O.written out.new) (O.broken out.new))) }
     ensures none { IfErr result (λ answered. TellsNoSeed image.now plan.now answered
         (writer_of (O.written out.old) (O.written out.new) (O.broken out.new)) ⊎ TellsNoSearch answered
@@ -64,7 +96,7 @@ where
 {
     let Surroundings { rt, folder, .. } = *around;
     let mut files = record_files(rt.alloc(), folder, places.trace, places.outputs);
-    hunt_run(rt, image, plan, &mut files, out, faults)
+    hunted_in(rt, image, plan, &mut files, out, faults)
 }
 
 // What is hunted, and what of it is written where.
@@ -86,10 +118,10 @@ fn shrunk<R: Clock + Eprint + AllocGlobal, D: Folder, G, O: Sink, E: Sink>(
 ) -> Result<Shrunk, ExitStatus>
     requires writes { O.broken out.old ≡ false }
     requires reports { E.broken faults.old ≡ false }
-    ensures done { IfOk result (λ shrunk. ShrinksFound hunted.image.now hunted.plan.now found.now shrunk.is_minimal
-        (λ bytes. IsStored D.known (D.knows around.now.folder.now) (D.was_put around.now.folder.now) places.trace.now bytes)
+    ensures done { IfOk result (λ shrunk. ShrinksFound hunted.entry.image.now hunted.entry.plan.now found.now shrunk.is_minimal
+        (λ bytes. IsStored D.known (D.knows around.now.folder.now) (D.was_put around.now.folder.now) places.entry.trace.now bytes)
         (writer_of (O.written out.old) (O.written out.new) (O.broken out.new))) }
-    ensures stopped { IfErr result (λ answered. RefusesFound hunted.image.now hunted.plan.now found.now answered
+    ensures stopped { IfErr result (λ answered. RefusesFound hunted.entry.image.now hunted.entry.plan.now found.now answered
         (writer_of (E.written faults.old) (E.written faults.new) (E.broken faults.new)) ⊎ IsStatusOfNoRecording answered) }
 {
     let Hunted {
@@ -131,7 +163,7 @@ where
     D: Folder,
     O: Sink,
     E: Sink,
-    ensures { EndsFound hunted.image.now hunted.plan.now found.now (λ bytes. IsStored D.known (D.knows around.now.folder.now) (D.was_put around.now.folder.now) places.trace.now bytes) result
+    ensures { EndsFound hunted.entry.image.now hunted.entry.plan.now found.now (λ bytes. IsStored D.known (D.knows around.now.folder.now) (D.was_put around.now.folder.now) places.entry.trace.now bytes) result
         (writer_of (O.written out.old) (O.written out.new) (O.broken out.new)) (writer_of (E.written faults.old) (E.written faults.new) (E.broken faults.new)) }
 {
     if out.failed() || faults.failed() {
@@ -161,9 +193,9 @@ where
     ensures stopped { IfErr found (λ status. result ≡ status) }
     ensures quiet { OnErr found (out.new ≡ out.old) }
     ensures kept { OnErr found (faults.new ≡ faults.old) }
-    ensures done { hunted.arguments.now.shrinks ≡ false → OnOk found ((result ≡ exit.Done) × (out.new ≡ out.old)) }
-    ensures shrunk { hunted.arguments.now.shrinks ≡ true → IfOk found (λ given. EndsFound hunted.image.now hunted.plan.now given
-        (λ bytes. IsStored D.known (D.knows around.now.folder.now) (D.was_put around.now.folder.now) places.trace.now bytes) result
+    ensures done { hunted.entry.arguments.now.shrinks ≡ false → OnOk found ((result ≡ exit.Done) × (out.new ≡ out.old)) }
+    ensures shrunk { hunted.entry.arguments.now.shrinks ≡ true → IfOk found (λ given. EndsFound hunted.entry.image.now hunted.entry.plan.now given
+        (λ bytes. IsStored D.known (D.knows around.now.folder.now) (D.was_put around.now.folder.now) places.entry.trace.now bytes) result
         (writer_of (O.written out.old) (O.written out.new) (O.broken out.new)) (writer_of (E.written faults.old) (E.written faults.new) (E.broken faults.new))) }
 {
     match found {

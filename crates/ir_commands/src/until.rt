@@ -1,9 +1,11 @@
 //! `ir explore --until`: the first outcome that fulfils conditions is recorded.
 
-ghost use Rattle.std.specs.Prelude.{◌≡◌, ◌⊎◌, IfErr, OnOk, false, true};
+ghost use Rattle.std.specs.Prelude.{◌≡◌, ◌⊎◌, ℕ, List, Err, IfErr, OnOk, false, true};
+ghost use Rattle.std.specs.Io.KnownBytes.{Appends};
 ghost use Rattle.std.specs.String.{string_bytes};
+ghost use Rattle.ir_explore.specs.Hang.{IsHangAnswer};
 ghost use Rattle.ir_files.specs.Given.{IsStored};
-ghost use Rattle.ir_files.specs.Writers.{writer_of};
+ghost use Rattle.ir_files.specs.Writers.{Took, writer_of};
 ghost use Rattle.ir_commands.specs.Searching.{RecordsHang, RecordsOutcome, SearchFinds, SearchesFile, SearchMisses, TellsNoSearch, TellsVain};
 
 use crate::conditions::conditions_of;
@@ -14,8 +16,8 @@ use crate::recording::{Places, RecordingPaths, beside_of, loses_input, record_fi
 use crate::surroundings::Surroundings;
 use ir_arguments::UntilArguments;
 use ir_explore::{HangPlan, UntilPlan, explore_hang, explore_until};
-use ir_files::{ExitStatus, Folder};
-use ir_record_command::ParsedImage;
+use ir_files::{ExitStatus, Folder, OutputSink, WholeSink};
+use ir_record_command::{ParsedImage, RecordFiles};
 use ir_search::Observer;
 use ir_stream::Sink;
 use ir_trace::Trace;
@@ -36,6 +38,68 @@ fn paths(arguments: &UntilArguments) -> RecordingPaths<'_>
     }
 }
 
+// Looks for an outcome of a guest, whose trace and outputs go into these files.
+fn outcome_in<R, G, W, P, O, E>(
+    rt: &R,
+    plan: &UntilPlan<'_, '_, '_, G>,
+    files: &mut RecordFiles<W, P>,
+    out: &mut O,
+    faults: &mut E,
+) -> Result<Trace, ExitStatus>
+where
+    R: Clock + AllocGlobal,
+    G: Observer,
+    W: WholeSink,
+    P: OutputSink,
+    O: Sink,
+    E: Sink,
+    requires writes { W.broken files.old.trace ≡ false }
+    requires puts { P.broken files.old.outputs ≡ false }
+    requires prints { O.broken out.old ≡ false }
+    requires reports { E.broken faults.old ≡ false }
+    ensures found { OnOk result (RecordsOutcome plan.now.image.now plan.now.explore plan.now.conditions.now
+        (λ bytes. Appends (W.written files.old.trace) (W.written files.new.trace) bytes)
+        (writer_of (O.written out.old) (O.written out.new) (O.broken out.new))) }
+    ensures none { IfErr result (λ answered. TellsVain false plan.now.image.now plan.now.explore plan.now.conditions.now answered
+        (writer_of (O.written out.old) (O.written out.new) (O.broken out.new)) ⊎ TellsNoSearch answered
+        (writer_of (E.written faults.old) (E.written faults.new) (E.broken faults.new))) }
+    ensures whole { OnOk result (W.whole files.new.trace ≡ true) }
+    ensures home { W.home files.new.trace ≡ W.home files.old.trace }
+{
+    explore_until(rt, plan, files, out, faults)
+}
+
+// Looks for a run of a guest that hangs, whose trace and outputs go into these files.
+fn hang_in<R, G, W, P, O, E>(
+    rt: &R,
+    plan: &HangPlan<'_, '_, '_, G>,
+    files: &mut RecordFiles<W, P>,
+    out: &mut O,
+    faults: &mut E,
+) -> Result<Trace, ExitStatus>
+where
+    R: Clock + AllocGlobal,
+    G: Observer,
+    W: WholeSink,
+    P: OutputSink,
+    O: Sink,
+    E: Sink,
+    requires writes { W.broken files.old.trace ≡ false }
+    requires puts { P.broken files.old.outputs ≡ false }
+    requires prints { O.broken out.old ≡ false }
+    requires reports { E.broken faults.old ≡ false }
+    ensures found { OnOk result (RecordsHang plan.now.image.now plan.now.explore
+        (λ bytes. Appends (W.written files.old.trace) (W.written files.new.trace) bytes)
+        (writer_of (O.written out.old) (O.written out.new) (O.broken out.new))) }
+    ensures none { IfErr result (λ answered. ((text : List ℕ) × IsHangAnswer plan.now.image.now plan.now.explore (Err answered) text
+        × Took (writer_of (O.written out.old) (O.written out.new) (O.broken out.new)) text) ⊎ TellsNoSearch answered
+        (writer_of (E.written faults.old) (E.written faults.new) (E.broken faults.new))) }
+    ensures whole { OnOk result (W.whole files.new.trace ≡ true) }
+    ensures home { W.home files.new.trace ≡ W.home files.old.trace }
+{
+    explore_hang(rt, plan, files, out, faults)
+}
+
 // Looks for an outcome of a guest, whose trace and outputs go into files at these paths.
 fn found_into<R, D, G, O, E>(
     around: &Surroundings<'_, R, D, G>,
@@ -53,7 +117,7 @@ where
     requires writes { O.broken out.old ≡ false }
     requires reports { E.broken faults.old ≡ false }
     ensures found { OnOk result (RecordsOutcome plan.now.image.now plan.now.explore plan.now.conditions.now
-        (λ bytes. IsStored D.known (D.knows around.now.folder.now) (D.was_put around.now.folder.now) places.trace.now bytes)
+        (λ bytes. IsStored D.known (D.knows around.now.folder.now) (D.was_put around.now.folder.now) places.entry.trace.now bytes)
         (writer_of (O.written out.old) (O.written out.new) (O.broken out.new))) }
     ensures none { IfErr result (λ answered. TellsVain false plan.now.image.now plan.now.explore plan.now.conditions.now answered
         (writer_of (O.written out.old) (O.written out.new) (O.broken out.new)) ⊎ TellsNoSearch answered
@@ -61,7 +125,7 @@ where
 {
     let Surroundings { rt, folder, .. } = *around;
     let mut files = record_files(rt.alloc(), folder, places.trace, places.outputs);
-    explore_until(rt, plan, &mut files, out, faults)
+    outcome_in(rt, plan, &mut files, out, faults)
 }
 
 // Looks for a run of a guest that hangs, whose trace and outputs go into files at these paths.
@@ -81,7 +145,7 @@ where
     requires writes { O.broken out.old ≡ false }
     requires reports { E.broken faults.old ≡ false }
     ensures found { OnOk result (RecordsHang plan.now.image.now plan.now.explore
-        (λ bytes. IsStored D.known (D.knows around.now.folder.now) (D.was_put around.now.folder.now) places.trace.now bytes)
+        (λ bytes. IsStored D.known (D.knows around.now.folder.now) (D.was_put around.now.folder.now) places.entry.trace.now bytes)
         (writer_of (O.written out.old) (O.written out.new) (O.broken out.new))) }
     ensures none { IfErr result (λ answered. TellsVain true plan.now.image.now plan.now.explore plan.now.conditions.now answered
         (writer_of (O.written out.old) (O.written out.new) (O.broken out.new)) ⊎ TellsNoSearch answered
@@ -94,7 +158,7 @@ where
         explore: plan.explore.within(plan.explore.most()),
         observer: plan.observer,
     };
-    explore_hang(rt, &hang, &mut files, out, faults)
+    hang_in(rt, &hang, &mut files, out, faults)
 }
 
 // The trace of a run with the outcome that is looked for, or of one that hangs; its files are written. If there is none, the exit status.

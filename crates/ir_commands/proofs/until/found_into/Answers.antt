@@ -1,28 +1,21 @@
-use Rattle.std.proofs.lemmas.Result.{IfErr-weaker}
 use Rattle.ir_trace.specs.Encoding.{encoding}
-use Rattle.ir_commands.proofs.Searched.{both_on_ok, search_tells_none}
+use Rattle.ir_commands.proofs.Searched.{on_both}
 use Rattle.ir_commands.proofs.Stored.{stored_in_place}
 use Rattle.ir_commands.proofs.until.found_into.Goals as goal
 
 pub returns-clause-found : goal.returns-clause-found
 returns-clause-found g c =
     let files = c.record_files-files.result in
-    let after = c.explore_until.new.files in
-    both_on_ok c.explore_until.result (λ whole recorded done. record {
-      list = done.1;
-      text = done.0;
-      recorded = recorded;
-      printed = done.2;
-      finding = done.3;
+    let after = c.outcome_in.new.files in
+    on_both c.outcome_in.result (λ whole found. record {
+      list = found.list;
+      text = found.text;
+      recorded = found.recorded;
+      printed = found.printed;
+      finding = found.finding;
       trace = stored_in_place g.D.Folder.known g.D.Folder.knows g.D.Folder.was_put (λ m. m.file) c.args.around.now.folder.now files.trace.folder.now
-          after.trace.folder.now c.args.places.trace.now files.trace.place.now after.trace.place.now files.trace.made after.trace.made
-          (encoding recorded) c.record_files-files.ensures.folder c.record_files-files.ensures.place
-          c.explore_until.ensures.homes.0 c.record_files-files.ensures.empty (after.trace.put whole) done.4;
-      lines = done.6;
-    }) c.explore_until.ensures.whole c.explore_until.ensures.found
-
-pub returns-clause-none : goal.returns-clause-none
-returns-clause-none g c =
-    let plan = c.args.plan.now in
-    IfErr-weaker c.explore_until.result _ _ (λ answered h. search_tells_none _ answered plan.image.now plan.explore plan.conditions.now _ _ _ h)
-    c.explore_until.ensures.stopped
+          after.trace.folder.now c.args.places.entry.trace.now files.trace.place.now after.trace.place.now files.trace.made after.trace.made
+          (encoding found.recorded) c.record_files-files.ensures.folder c.record_files-files.ensures.place
+          c.outcome_in.ensures.home c.record_files-files.ensures.empty (after.trace.put whole) found.trace;
+      lines = found.lines;
+    }) c.outcome_in.ensures.whole c.outcome_in.ensures.found
