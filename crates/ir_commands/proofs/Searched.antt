@@ -8,7 +8,9 @@ use Rattle.ir_explore.specs.Plan.{ExplorePlan}
 use Rattle.ir_explore.specs.Until.{StopsUntil, recording}
 use Rattle.ir_explore.specs.declared.fault.ExploreFault.{ExploreFault}
 use Rattle.ir_explore.specs.declared.fault.ExploreFault.TheVariants as fault
+use Rattle.ir_arguments.specs.declared.explore.UntilArguments.{UntilArguments}
 use Rattle.ir_arguments.specs.declared.hunt.HuntArguments.{HuntArguments}
+use Rattle.ir_arguments.specs.declared.shrink.ShrinkArguments.{ShrinkArguments}
 use Rattle.ir_files.specs.Writers.{Took, Writer, writer_of}
 use Rattle.ir_files.specs.declared.exit_status.ExitStatus.{ExitStatus}
 use Rattle.ir_files.specs.declared.exit_status.ExitStatus.TheVariants as status
@@ -27,7 +29,8 @@ use Rattle.ir_shrink.specs.declared.refusal.Refusal.TheVariants as refused
 use Rattle.ir_trace.specs.Recorded.{Recorded}
 use Rattle.ir_commands.specs.Files.{TellsFault}
 use Rattle.ir_commands.specs.Printing.{Paths}
-use Rattle.ir_commands.specs.Searching.{AsksHunt, EndsFound, HuntsFile, RecordsHang, RecordsHunted, RefusesGiven, TellsNoSearch, TellsNoSeed, TellsVain}
+use Rattle.ir_commands.specs.Searching.{AsksHunt, AsksSearch, AsksShrink, EndsFound, HuntsFile, IsShrinkPlanOfHunt, IsStatusOfNoShrinking, RecordsHang, RecordsHunted}
+use Rattle.ir_commands.specs.Searching.{RecordsShrunkRun, RefusesFound, RefusesGiven, SearchFinds, SearchMisses, SearchesFile, ShrinkRefuses, TellsNoSearch, TellsNoSeed, TellsVain}
 use Rattle.ir_commands.specs.Writing.{IsStatusOfNoRecording, Storing}
 use Rattle.ir_commands.proofs.Stored.{reported_is_told}
 
@@ -96,10 +99,11 @@ pub with_plan : {image : List ℕ} {plan other : ExplorePlan} {is_kept : List �
     → RecordsHang image plan is_kept out → RecordsHang image other is_kept out
 with_plan {image} {plan} {other} {is_kept} {out} same found = subst (λ p. RecordsHang image p is_kept out) same found
 
-pub hang_vain : {image : List ℕ} {plan other : ExplorePlan} {answered : ExitStatus} {out reports : Writer} {conditions : List Condition} → plan ≡ other
+pub hang_vain : {image : List ℕ} {plan other : ExplorePlan} {answered : ExitStatus} {out reports : Writer} → plan ≡ other
     → ((text : List ℕ) × IsHangAnswer image plan (Err answered) text × Took out text) ⊎ TellsNoSearch answered reports
-    → TellsVain true image other conditions answered out ⊎ TellsNoSearch answered reports
-hang_vain {image} {plan} {other} {answered} {out} same (inl h) = inl (subst (λ p. (text : List ℕ) × IsHangAnswer image p (Err answered) text × Took out text) same h)
+    → ((text : List ℕ) × IsHangAnswer image other (Err answered) text × Took out text) ⊎ TellsNoSearch answered reports
+hang_vain {image} {plan} {other} {answered} {out} same (inl h) =
+    inl (h.0, subst (λ (p : ExplorePlan). IsHangAnswer image p (Err answered) h.0) same h.1, h.2)
 hang_vain same (inr h) = inr h
 
 -- what a hunt comes to, by what it found and what was made of that
@@ -167,3 +171,53 @@ shrink_stops d answered image plan given old new reports (inl h) =
     inl (record { refusal = h.0; refuses = h.2.0; status = h.1; told = refusal_is_told h.0 plan reports h.2.4 })
 shrink_stops d answered image plan given old new reports (inr (before, after, list, is_minimal, is, inl f)) = inr (fault_is_no_recording Lines f.0)
 shrink_stops d answered image plan given old new reports (inr (before, after, list, is_minimal, is, inr s)) = inr (fault_is_no_recording s.0 s.2)
+
+-- there is no run that is looked for, or nothing was searched
+pub search_misses : {at : Paths} {arguments : UntilArguments} {image : List ℕ} {plan : ExplorePlan} {conditions : List Condition} {hang : Bool} {told faults : Writer}
+    (answered : ExitStatus) (out : Writer) → AsksSearch at arguments image plan conditions → hang ≡ arguments.hang → told ≡ faults
+    → TellsVain hang image plan conditions answered out ⊎ TellsNoSearch answered told → SearchMisses at arguments answered out ⊎ TellsNoSearch answered faults
+search_misses {at} {arguments} {image} {plan} {conditions} answered out asked is same (inl h) = inl (record {
+  image = image;
+  plan = plan;
+  conditions = conditions;
+  asked = asked;
+  vain = subst (λ b. TellsVain b image plan conditions answered out) is h;
+})
+search_misses answered out asked is same (inr h) = inr (subst (λ w. TellsNoSearch answered w) same h)
+
+-- what a search comes to, by what it found
+pub search_comes_to : {T : Type 0} (at : Paths) (stored : Storing) (arguments : UntilArguments) (answered : ExitStatus) (out told faults : Writer)
+    (r : Result T ExitStatus) → OnOk r (SearchFinds at stored arguments out) → IfErr r (λ e. SearchMisses at arguments e out ⊎ TellsNoSearch e told)
+    → OnOk r (answered ≡ status.Done) → IfErr r (λ e. answered ≡ e) → OnErr r (told ≡ faults) → SearchesFile at stored arguments answered out faults
+search_comes_to at stored arguments answered out told faults (Ok x) found none done stopped kept = inl (done, found)
+search_comes_to at stored arguments answered out told faults (Err e) found (inl none) done stopped kept =
+    inr (inl (subst (λ a. SearchMisses at arguments a out) (sym stopped) none))
+search_comes_to at stored arguments answered out told faults (Err e) found (inr none) done stopped kept =
+    inr (inr (subst (λ a. TellsNoSearch a faults) (sym stopped) (subst (λ w. TellsNoSearch e w) kept none)))
+
+-- a run that is shrunk is so wherever its trace is
+pub shrunk_at : {image : List ℕ} {given : Recorded} {plan : ShrinkPlan} {is_minimal : Bool} {place other : List ℕ} {out last : Writer} (stored : Storing)
+    → place ≡ other → out ≡ last → RecordsShrunkRun image given plan is_minimal (stored place) out → RecordsShrunkRun image given plan is_minimal (stored other) last
+shrunk_at {image} {given} {plan} {is_minimal} {place} {other} {out} {last} stored here same h =
+    subst (λ w. RecordsShrunkRun image given plan is_minimal (stored other) w) same
+    (subst (λ p. RecordsShrunkRun image given plan is_minimal (stored p) out) here h)
+
+-- a run isn't shrunk
+pub shrink_refuses : {at : Paths} {arguments : ShrinkArguments} {image : List ℕ} {given : Recorded} {plan : ShrinkPlan} {told faults : Writer} (answered : ExitStatus)
+    → AsksShrink at arguments image given plan → told ≡ faults → RefusesGiven image given plan answered told ⊎ IsStatusOfNoRecording answered
+    → ShrinkRefuses at arguments answered faults ⊎ IsStatusOfNoShrinking answered
+shrink_refuses {at} {arguments} {image} {given} {plan} answered asked same (inl h) = inl (record {
+  image = image;
+  given = given;
+  plan = plan;
+  asked = asked;
+  why = subst (λ w. RefusesGiven image given plan answered w) same h;
+})
+shrink_refuses answered asked same (inr h) = inr (inl h)
+
+-- the same of a run that was found
+pub found_refuses : {image : List ℕ} {hunt : HuntPlan} {given : Recorded} {plan : ShrinkPlan} {answered : ExitStatus} {faults : Writer}
+    → IsShrinkPlanOfHunt hunt given plan → RefusesGiven image given plan answered faults ⊎ IsStatusOfNoRecording answered
+    → RefusesFound image hunt given answered faults ⊎ IsStatusOfNoRecording answered
+found_refuses {image} {hunt} {given} {plan} is_plan (inl h) = inl (record { plan = plan; is_plan = is_plan; why = h })
+found_refuses is_plan (inr h) = inr h

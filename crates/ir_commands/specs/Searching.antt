@@ -15,6 +15,7 @@ use Rattle.ir_hunt.specs.Hunted.{IsFinding, IsNoneIn}
 use Rattle.ir_hunt.specs.Lines.{found_line, none_lines}
 use Rattle.ir_hunt.specs.Stopping.{none_status}
 use Rattle.ir_hunt.specs.declared.plan.HuntPlan.{HuntPlan}
+use Rattle.ir_record_command.specs.Plan.{Plan}
 use Rattle.ir_record_command.specs.Recording.{recording_lines}
 use Rattle.ir_schedule.specs.Conditions.{as_condition}
 use Rattle.ir_schedule.specs.declared.condition.Condition.{Condition}
@@ -36,9 +37,19 @@ TellsNoSearch answered faults = IsStatusOfNoRecording answered × TellsFault fau
 
 -- ---- `ir hunt`
 
+-- how the runs of a hunt go but for their order, over these bytes
+abbrev pub hunt_plan_asked : HuntArguments → List ℕ → Plan
+hunt_plan_asked arguments input = record {
+  order = None;
+  budget = arguments.options.budget;
+  random = arguments.options.random;
+  input = input;
+  profile = arguments.options.profile;
+}
+
 -- a guest that reads these bytes is hunted in as the arguments say
 pub record IsHuntPlanOf (arguments : HuntArguments) (input : List ℕ) (plan : HuntPlan) : Type 0 where
-  pub how : plan.record ≡ record { order = None; budget = arguments.options.budget; random = arguments.options.random; input = input; profile = arguments.options.profile }
+  pub how : plan.record ≡ hunt_plan_asked arguments input
   pub way : plan.way ≡ arguments.way
   pub seeds : plan.seeds ≡ arguments.seeds
   pub conditions : AreWritten arguments.until.items plan.conditions.now
@@ -141,9 +152,13 @@ SearchesFile at stored arguments answered out faults = ((answered ≡ status.Don
 
 -- ---- `ir shrink`
 
+-- how the runs go that a run with this trace is shrunk to, but for their order, with these random words and over these bytes
+abbrev pub plan_like : Recorded → ℕ → List ℕ → Plan
+plan_like given random input = record { order = None; budget = given.budget; random = random; input = input; profile = given.profile }
+
 -- a run with this trace is shrunk as the arguments say
 pub record IsShrinkPlanOf (arguments : ShrinkArguments) (given : Recorded) (input : List ℕ) (plan : ShrinkPlan) : Type 0 where
-  pub how : plan.record ≡ record { order = None; budget = given.budget; random = arguments.random; input = input; profile = given.profile }
+  pub how : plan.record ≡ plan_like given arguments.random input
   pub conditions : AreWritten arguments.until.items plan.conditions.now
   pub stale : plan.stale ≡ arguments.stale
   pub seconds : plan.seconds ≡ arguments.seconds
@@ -210,7 +225,7 @@ ShrinksFile at stored arguments answered out faults = ((is_minimal : Bool) × (a
 
 -- a run that was found is shrunk as the hunt looked for it
 pub record IsShrinkPlanOfHunt (hunt : HuntPlan) (given : Recorded) (plan : ShrinkPlan) : Type 0 where
-  pub how : plan.record ≡ record { order = None; budget = given.budget; random = hunt.record.random; input = hunt.record.input; profile = given.profile }
+  pub how : plan.record ≡ plan_like given hunt.record.random hunt.record.input
   pub conditions : plan.conditions.now ≡ hunt.conditions.now
   pub stale : plan.stale ≡ hunt.stale
   pub seconds : plan.seconds ≡ hunt.seconds

@@ -1,6 +1,6 @@
 //! `ir shrink`: a recorded run is shrunk to one with fewer context switches.
 
-ghost use Rattle.std.specs.Prelude.{◌≡◌, ◌⊎◌, None, Ok, IfErr, IfOk, OnOk, false};
+ghost use Rattle.std.specs.Prelude.{◌≡◌, ◌⊎◌, None, Ok, IfErr, IfOk, OnOk, false, true};
 ghost use Rattle.std.specs.Io.KnownBytes.{Appends};
 ghost use Rattle.std.specs.String.{string_bytes};
 ghost use Rattle.ir_files.specs.Given.{IsStored};

@@ -13,7 +13,7 @@ returns-clause-found g c =
       printed = found.printed;
       finding = found.finding;
       trace = stored_in_place g.D.Folder.known g.D.Folder.knows g.D.Folder.was_put (λ m. m.file) c.args.around.now.folder.now files.trace.folder.now
-          after.trace.folder.now c.args.places.entry.trace.now files.trace.place.now after.trace.place.now files.trace.made after.trace.made
+          after.trace.folder.now c.args.places.trace.now files.trace.place.now after.trace.place.now files.trace.made after.trace.made
           (encoding recorded) c.record_files-files.ensures.folder c.record_files-files.ensures.place
           c.hunted_in.ensures.home c.record_files-files.ensures.empty (after.trace.put whole) found.trace;
       lines = found.lines;

@@ -14,7 +14,7 @@ returns-clause-done g c =
       printed = done.printed;
       shrinking = done.shrinking;
       trace = stored_in_place g.D.Folder.known g.D.Folder.knows g.D.Folder.was_put (λ m. m.file) c.args.around.now.folder.now files.trace.folder.now
-          after.trace.folder.now c.args.places.entry.trace.now files.trace.place.now after.trace.place.now files.trace.made after.trace.made
+          after.trace.folder.now c.args.places.trace.now files.trace.place.now after.trace.place.now files.trace.made after.trace.made
           (encoding done.recorded) c.record_files-files.ensures.folder c.record_files-files.ensures.place
           c.shrunk_in.ensures.home c.record_files-files.ensures.empty (after.trace.put whole) done.trace;
       lines = done.lines;

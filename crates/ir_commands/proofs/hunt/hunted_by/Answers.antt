@@ -1,0 +1,52 @@
+use Rattle.std.proofs.Common.{◌∙◌, List, ℕ, ap, refl, subst, sym}
+use Rattle.ir_files.specs.Given.{IsStored}
+use Rattle.ir_files.specs.Writers.{writer_of}
+use Rattle.ir_hunt.specs.declared.plan.HuntPlan.{HuntPlan}
+use Rattle.ir_commands.specs.Conditions.{AreWritten}
+use Rattle.ir_commands.specs.Exploring.{IsInput}
+use Rattle.ir_commands.specs.Files.{IsImageIn}
+use Rattle.ir_commands.specs.Searching.{AsksHunt, HuntsFile, hunt_plan_asked}
+use Rattle.ir_commands.proofs.Searched.{hunt_comes_to}
+use Rattle.ir_commands.proofs.hunt.hunted_by.Goals as goal
+
+pub returns-clause-done : goal.returns-clause-done
+returns-clause-done g c =
+    let folder = c.args.around.now.folder.now in
+    let at = g.D.Folder.bytes_at folder in
+    let stored = λ (place bytes : List ℕ). IsStored g.D.Folder.known (g.D.Folder.knows folder) (g.D.Folder.was_put folder) place bytes in
+    let arguments = c.args.arguments.now in
+    let image = c.new-image.result in
+    let plan : HuntPlan = record {
+      «record» = c.plan.result;
+      way = arguments.way;
+      seeds = arguments.seeds;
+      conditions = c.as_slice-4.result;
+      stale = arguments.stale;
+      jobs = arguments.jobs;
+      seconds = arguments.seconds;
+      is_shown = c.args.explains;
+    } in
+    let asked : AsksHunt at arguments image plan = record {
+      input = c.in_ok-outputs.input.items;
+      is_image = subst (λ p. IsImageIn (at p) image) c.paths-paths.ensures.image
+          (subst (λ z. IsImageIn (at c.paths-paths.result.image.now) z) (sym (c.new-image.ensures ∙ c.as_slice.ensures.value)) c.in_ok-image.ensures.bytes);
+      is_input = subst (λ f. IsInput at f c.in_ok-outputs.input.items) c.paths-paths.ensures.input c.in_ok-outputs.ensures.input;
+      is_plan = record {
+        how = c.plan.ensures ∙ ap (hunt_plan_asked arguments) c.as_slice-3.ensures.value;
+        way = refl;
+        seeds = refl;
+        conditions = subst (λ z. AreWritten arguments.until.items z) (sym c.as_slice-4.ensures.value)
+            (subst (λ t. AreWritten t c.in_ok-conditions.conditions.items) c.as_slice-2.ensures.value c.in_ok-conditions.ensures.read);
+        stale = refl;
+        seconds = refl;
+      };
+    } in
+    let kept = c.in_ok-outputs.ensures.kept ∙ c.in_ok-conditions.ensures.kept ∙ c.in_ok-image.ensures.kept ∙ c.if-loses_input.ensures.kept refl in
+    subst (λ f. HuntsFile at stored arguments c.ended.result
+    (writer_of (g.O.Sink.written c.args.out.now) (g.O.Sink.written c.ended.new.out) (g.O.Sink.broken c.ended.new.out))
+    (writer_of (g.E.Sink.written f) (g.E.Sink.written c.ended.new.faults) (g.E.Sink.broken c.ended.new.faults))) kept
+    (hunt_comes_to g.O.Sink.written g.O.Sink.broken g.E.Sink.written g.E.Sink.broken at stored arguments image plan
+    c.args.out.now c.hunted_into-found.new.out c.ended.new.out c.beside_of.new.faults c.hunted_into-found.new.faults c.ended.new.faults c.ended.result
+    c.new-places.result.trace.now c.hunted_into-found.result asked (c.new-places.ensures.trace ∙ c.paths-paths.ensures.trace)
+    c.hunted_into-found.ensures.found c.hunted_into-found.ensures.none c.ended.ensures.stopped c.ended.ensures.quiet c.ended.ensures.kept c.ended.ensures.done
+    c.ended.ensures.shrunk)
