@@ -23,6 +23,14 @@ end
 define ir-owatch
 eval "monitor owatch %u", ((unsigned int) &($arg0) - 0x80000000) / 64
 end
+# What would change a recording is refused: by gdb itself where it would write, also in an expression of print.
+python
+for what in "memory", "registers":
+    try:
+        gdb.execute(f"set may-write-{what} off")
+    except gdb.error:
+        pass  # a program is open, so it was sourced before
+end
 # What `ir who`, `ir stale`, `ir why` and `ir events` say of the recording that is open, and the names of its threads.
 python
 import os
@@ -131,6 +139,71 @@ def word_at(text):
     return place // OBJECT_SIZE, place % OBJECT_SIZE // WORD_SIZE
 
 
+def refuse(what):
+    """Refuses a command if a recording is open, and says what can't be done. Of another program gdb may ask it."""
+    try:
+        recording()
+    except gdb.GdbError:
+        return
+    raise gdb.GdbError(f"{what}.")
+
+
+UNCHANGED = "A recording can't be changed: "
+
+
+def in_words(error):
+    """An error of gdb, with the reason if it is that something would be changed."""
+    found = re.match(r"Writing to (memory|registers) is not allowed", str(error))
+    if found:
+        refuse(UNCHANGED + {"memory": "its memory and objects belong to the run", "registers": "its registers belong to the run"}[found[1]])
+    raise gdb.GdbError(str(error)) from error
+
+
+class SetVariable(gdb.Command):
+    """set variable EXPRESSION, as gdb has it: for gdb's own variables, such as $n. Of a recording nothing can be set."""
+
+    def __init__(self):
+        super().__init__("set variable", gdb.COMMAND_DATA, gdb.COMPLETE_EXPRESSION)
+
+    def invoke(self, text, from_tty):
+        if not text:
+            raise gdb.GdbError("Argument required (expression to compute).")
+        try:
+            gdb.parse_and_eval(text)
+        except gdb.error as error:
+            in_words(error)
+
+
+class Call(gdb.Command):
+    """call EXPRESSION, which is print EXPRESSION in a recording: no function of the program can be called."""
+
+    def __init__(self):
+        super().__init__("call", gdb.COMMAND_DATA, gdb.COMPLETE_EXPRESSION)
+
+    def invoke(self, text, from_tty):
+        try:
+            gdb.execute(f"print {text}", from_tty)
+        except gdb.error as error:
+            if "is not allowed" in str(error):
+                refuse(UNCHANGED + "no function of the program can be called, and nothing can be set")
+            in_words(error)
+
+
+class Refuse(gdb.Command):
+    """ir-refuse WORDS: fails with these words if a recording is open."""
+
+    def __init__(self):
+        super().__init__("ir-refuse", gdb.COMMAND_SUPPORT)
+
+    def invoke(self, text, from_tty):
+        refuse(text)
+
+
+SetVariable()
+Call()
+Refuse()
+
+
 class Question(gdb.Command):
     """A command that prints what the program says, and the places of the events that are named."""
 
@@ -232,6 +305,20 @@ def name_created():
         function = gdb.block_for_pc(start)
         if function and function.function:
             name_thread(thread, function.function)
+end
+# jump and return would set registers.
+define hook-jump
+ir-refuse A recording can't be changed: its threads go where they went
+end
+define hook-return
+ir-refuse A recording can't be changed: reverse-finish goes to where this function was called, and finish to where it returns
+end
+# Without this gdb would refuse each move until the watch of a read is deleted.
+define hook-rwatch
+ir-refuse Reads can't be watched: watch stops at changes, and ir-who OBJECT VERSION names who read an object
+end
+define hook-awatch
+ir-refuse Reads can't be watched: watch stops at changes, and ir-who OBJECT VERSION names who read an object
 end
 # ir-names: the threads of an ordinary program that are created by now are named by the functions that they were created with.
 define ir-names

@@ -1,16 +1,20 @@
 #!/usr/bin/env python3
 """Tests of guests from C: sources are compiled, converted by `ir elf`, recorded, hunted in and debugged.
 
-python3 tests/c_guests.py IR [TEST ..]
+python3 tests/c_guests.py IR [--table | TEST ..]
 
 Needs riscv64-unknown-elf-gcc. If it isn't installed nothing is tested, and the status is 0. Runs each test in a folder of its own, or only
-those that are named. The last line is `N passed, M failed`.
+those that are named. The last line is `N passed, M failed`. --table prints the table of docs/guide/c-guests.md on the programs with a fault.
 """
+import json
+import random
 import re
 import shutil
+import struct
 import subprocess
 import sys
 import tempfile
+import time
 from dataclasses import dataclass
 from functools import partial
 from pathlib import Path
@@ -913,6 +917,47 @@ def test_repaired(folder, name):
     wants(f"{name}: all outcomes", (ended.returncode, counted), (5, [f"finished outcomes {faults.FAULTS[name].outcomes} states hangs 0"]))
 
 
+# The table of how far it is from a program to the line of its fault.
+
+
+def timed(words, folder):
+    """The seconds of a command, and what it prints."""
+    start = time.monotonic()
+    ended = subprocess.run(words, cwd=folder, check=False, capture_output=True, text=True, stdin=subprocess.DEVNULL, timeout=1200)
+    wants(" ".join(map(str, words)), ended.returncode, 0)
+    return time.monotonic() - start, ended.stdout
+
+
+def row_of(name):
+    """A row of the table: the search, what is typed in gdb until the fault's line is there, and the seconds of each of the three commands of the shell."""
+    fault = faults.FAULTS[name]
+    line = fault.line(name)
+    typed = ["source examples/ir.gdb", f"target remote | ./ir gdb {name}.elf {name}.trc", *(text.replace("LINE", line) for text in fault.typed)]
+    with tempfile.TemporaryDirectory() as place:
+        folder = Path(place)
+        link_all(folder)
+        compiling, _ = timed(["guest/ir-cc", f"tests/c_guests/faults/{name}.c", "-o", f"{name}.elf"], folder)
+        searching, _ = timed(["./ir", fault.search, f"{name}.elf", f"{name}.trc", "--until", fault.condition], folder)
+        words = [GDB, "-nx", "-q", "-batch", "-ex", "set width 0", f"{name}.elf"]
+        _, shown = timed([*words, *(word for number, text in enumerate(typed) for word in ("-ex", f"echo ({number})\\n", "-ex", text))], folder)
+        there = re.search(rf"{name}\.c:{line}$|^{line}\t", shown, re.M)
+        if not there:
+            raise Wrong(f"{name}: gdb doesn't show line {line}:\n{shown}")
+        after = shown[:there.end()]
+        needed = typed[:1 + int(re.findall(r"^\((\d+)\)$", after, re.M)[-1])]
+        showing, _ = timed([*words, *(word for text in needed for word in ("-ex", text))], folder)
+    condition = f"'{fault.condition}'" if re.search("[ !]", fault.condition) else fault.condition
+    in_gdb = ", ".join(f"`{text}`" for text in needed[2:])
+    return f"| {name}.c | `{fault.search} --until {condition}` | {in_gdb} | 3 + {len(needed)} | {compiling:.1f} | {searching:.1f} | {showing:.1f} |"
+
+
+def print_table():
+    """Prints the table."""
+    print("| Program | Search | In gdb after `source` and `target` | Commands | ir-cc, s | Search, s | gdb, s |\n|---|---|---|---|---|---|---|")
+    for name in faults.FAULTS:
+        print(row_of(name), flush=True)
+
+
 # Lines and names.
 
 
@@ -968,11 +1013,146 @@ def test_bad_names(folder):
         ended = ran(folder, "guest/ir-lines", "bad.elf", "--names")
         wants(f"{name}: what is taken", (ended.returncode, [line for line in ended.stdout.splitlines() if line[:6] == "object"]), (0, ["object 3 count"]))
         wants(f"{name}: {ended.stderr}", (why in ended.stderr, "Traceback" in ended.stderr), (True, False))
-    whole = (folder / "named.elf").read_bytes()
-    for data in (b"", b"no ELF file", whole[:100], whole[:-100], whole[:len(whole) // 2]):
-        (folder / "bad.elf").write_bytes(data)
-        ended = ran(folder, "guest/ir-lines", "bad.elf")
-        wants(f"{len(data)} bytes", (ended.returncode, bool(ended.stderr), "Traceback" in ended.stderr), (1, True, False))
+
+
+def lines_of(folder, data, *more):
+    """What ir-lines makes of the bytes of an ELF file: its status, what it prints, and what it reports. It never fails, and reports a few lines."""
+    (folder / "bad.elf").write_bytes(data)
+    ended = ran(folder, "guest/ir-lines", "bad.elf", *more)
+    reported = ended.stderr.splitlines()
+    wants("what is reported", [line for line in reported if not re.match(r"ir-lines: (\d+ left out|refused \d): ", line)], [])
+    wants("how much is reported", len(reported) < 12 and all(len(line) < 600 for line in reported), True)
+    wants("refused by a number", ended.returncode == 1, any(line.startswith("ir-lines: refused ") for line in reported))
+    return ended.returncode, ended.stdout.splitlines(), ended.stderr
+
+
+def header_of(data, name):
+    """Where the header of a section is."""
+    place, = struct.unpack_from("<I", data, 32)
+    size, count, names = struct.unpack_from("<HHH", data, 46)
+    texts, = struct.unpack_from("<I", data, place + names * size + 16)
+    for header in range(place, place + count * size, size):
+        start = texts + struct.unpack_from("<I", data, header)[0]
+        if data[start:data.index(0, start)].decode() == name:
+            return header
+    raise Wrong(f"there is no section {name}")
+
+
+def with_symbols(data, count):
+    """An ELF file with the last of its symbols again, so often that there are so many."""
+    header, changed = header_of(data, ".symtab"), bytearray(data)
+    at, size = struct.unpack_from("<II", data, header + 16)
+    struct.pack_into("<II", changed, header + 16, len(data), count * 16)
+    return bytes(changed) + data[at:at + size] + data[at + size - 16:at + size] * (count - size // 16)
+
+
+def test_bad_elf(folder):
+    """ir-lines takes what can be read of an ELF file that is cut, changed or large, and says by numbers what it leaves out."""
+    compiled(folder, "peterson", "whole")
+    data = (folder / "whole.elf").read_bytes()
+    status, lines, reported = lines_of(folder, data)
+    wants("the whole file", (status, reported), (0, ""))
+    for name, number in (("", 3), ("no ELF file", 3), ("\x7fELF\x02", 4)):
+        wants(f"{name!r}", lines_of(folder, name.encode())[2].split(":")[1], f" refused {number}")
+    for size in range(5, len(data), len(data) // 25):
+        wants(f"{size} bytes", lines_of(folder, data[:size])[0], 1)
+    chance = random.Random(1)
+    for _ in range(25):
+        changed = bytearray(data)
+        for _ in range(chance.choice((1, 20, 400))):
+            changed[chance.randrange(len(data))] = chance.randrange(256)
+        for more in ((), ("--names",)):
+            lines_of(folder, bytes(changed), *more)
+    for name, changed in (("of another encoding", b"\xff\xfeck"), ("with a line feed", b"a\nck")):
+        _, shown, reported = lines_of(folder, data.replace(b"\0adder\0", b"\0" + changed.ljust(5, b"k") + b"\0"), "--names")
+        wants(name, (shown[0][:8], "1 left out: a symbol " in reported), ("object 0", True))
+    shown = lines_of(folder, data.replace(b"\0adder\0", b"\0<b>&'\0"), "--names")[1]
+    wants("markup", shown[:2], ["thread 0 <b>&'", "thread 1 <b>&'"])
+    version = struct.unpack_from("<I", data, header_of(data, ".debug_info") + 16)[0] + 4
+    status, shown, reported = lines_of(folder, data[:version] + b"\x09\x00" + data[version + 2:])
+    wants("DWARF 9", (status, len(shown) < len(lines), "left out: what addr2line can't read: " in reported), (0, True, True))
+    _, shown, reported = lines_of(folder, with_symbols(data, 12_000_000), "--names")
+    wants("12 million symbols", (shown, reported), (NAMES_OF_PETERSON, "ir-lines: 11900000 left out: symbols after the first 100,000\n"))
+    with open(folder / "large.elf", "wb") as file:
+        file.truncate(200_000_001)
+    for path, number in (("large.elf", 2), ("none.elf", 1), (".", 1), ("/dev/zero", 1)):
+        ended = ran(folder, "guest/ir-lines", path)
+        wants(path, (ended.returncode, ended.stdout, ended.stderr[:19]), (1, "", f"ir-lines: refused {number}"))
+
+
+def test_dwarf(folder):
+    """The versions 4 and 5 of DWARF say the same of the code."""
+    said = []
+    for version in ("-gdwarf-4", "-gdwarf-5"):
+        compiled(folder, "peterson", "versions", version)
+        ended = ran(folder, "guest/ir-lines", "versions.elf")
+        wants(f"{version}: the run", (ended.returncode, ended.stderr), (0, ""))
+        said.append(ended.stdout)
+    wants("the lines", said[0], said[1])
+
+
+def less(event, plain):
+    """An event for other viewers without the names and arguments that ir-where adds."""
+    if event["name"] == "thread_name":
+        return event | {"args": {"name": event["args"]["name"][:len(plain["args"]["name"])]}}
+    added = {"object_name", "thread_name", "word_name", "variable", "line", "function", "called_at", "changed"}
+    return event | {"args": {name: value for name, value in event["args"].items() if name not in added}} if "args" in event else event
+
+
+def events_known(folder, *words):
+    """What the page says of events, by thread and event; and the boxes of the events for other viewers, by thread and event."""
+    page = ran(folder, "guest/ir-where", *words, "--page", "--ir", program())
+    chrome = ran(folder, "guest/ir-where", *words, "--chrome", "--ir", program())
+    wants("page and events", (page.returncode, page.stderr, chrome.returncode, chrome.stderr), (0, "", 0, ""))
+    names = json.loads(re.search(r'id="names">(.*)</script>', page.stdout)[1])
+    run_, plain = json.loads(chrome.stdout), json.loads(run(["view", words[-1], "--image", words[-2], "--chrome"], folder).stdout)
+    wants("what else the events have", [less(it, was) for it, was in zip(run_["traceEvents"], plain["traceEvents"])], plain["traceEvents"])
+    wants("beside the events", (run_ | {"traceEvents": 0}, len(run_["traceEvents"])), (plain | {"traceEvents": 0}, len(plain["traceEvents"])))
+    wants("the threads", [it["args"]["name"] for it in run_["traceEvents"] if it["name"] == "thread_name"][0].split(), ["thread", "0", names["threads"]["0"]])
+    return names["events"], {f"{it['tid'] // 64}.{it['args']['event']}": it["args"] for it in run_["traceEvents"] if it["ph"] in "Xi" and it["cat"] != "end"}
+
+
+def test_where(folder):
+    """Events have their line, the lines of the calls that led there, and the words that they changed: in lines, in the page and for other viewers."""
+    compiled(folder, "peterson", "peterson")
+    run(["hunt", "peterson.elf", "peterson.trc", "--until", "!word 3 0 2"], folder)
+    text = (faults.FOLDER / "peterson.c").read_text().splitlines()
+    line, calls = int(faults.FAULTS["peterson"].line("peterson")) - 1, next(n for n, it in enumerate(text, 1) if it == "    add();")
+    events, boxes = events_known(folder, "peterson.elf", "peterson.trc")
+    told = f"peterson.c:{line} in add,\ncalled at peterson.c:{calls} in adder_body,\nthe-count 0 to 1"
+    wants("the writes of the count", sorted(it for it in events.values() if "the-count" in it), [told])
+    (key, box), = ((key, it) for key, it in boxes.items() if any(change.get("name") for change in it.get("changed", ())))
+    known = {"object_name": "count", "thread_name": "adder", "variable": "count", "line": f"peterson.c:{line}", "function": "add",
+             "called_at": [f"peterson.c:{calls} adder_body"], "changed": [{"word": 0, "name": "the-count", "was": 0, "is": 1}]}
+    wants("its box", (events[key], {name: box[name] for name in known}), (told, known))
+    stale, = (it for it in boxes.values() if "stale" in it)
+    wants("the stale write", (stale["word_name"], stale["line"], "changed" in stale), ("the-count", f"peterson.c:{line}", False))
+    said = ran(folder, "guest/ir-where", "peterson.elf", "peterson.trc", "--callers", "--ir", program()).stdout.splitlines()
+    wants("the lines", (len(said), all(", called at peterson.c:" in it for it in said)), (len(events), True))
+    compiled(folder, "cache", "cache")
+    run(["hunt", "cache.elf", "cache.trc", "--until", "fault"], folder)
+    events, boxes = events_known(folder, "cache.elf", "cache.trc")
+    wants("an ordinary program", [it for it in events.values() if re.fullmatch(r"cached at cache.c:\d+ in look_up,\ncalled at cache.c:\d+ in get,\ncalled at .*,\ncached 2 to 1", it)] != [], True)
+    wants("its words", {change["name"] for it in boxes.values() for change in it.get("changed", ()) if "name" in change} >= {"cached", "value", "lock"}, True)
+
+
+def test_other_image(folder):
+    """Names and lines of a program that isn't the recorded one are refused: an old image, or an ELF file that was compiled anew."""
+    compiled(folder, "peterson", "old")
+    wants("ir elf", run("elf old.elf old.img", folder).returncode, 0)
+    run(["hunt", "old.img", "old.trc", "--until", "!word 3 0 2"], folder)
+    compiled(folder, "peterson", "new", "-O2")
+    for words, why in ((["new.elf", "old.img", "old.trc"], "old.img isn't the image of new.elf"), (["new.elf", "old.trc"], "")):
+        ended = ran(folder, "guest/ir-where", *words, "--ir", program())
+        wants(" ".join(words), (ended.returncode != 0, ended.stdout, why in ended.stderr and bool(ended.stderr), "Traceback" in ended.stderr), (True, "", True, False))
+    for image in ("old.img", "old.elf"):
+        wants(image, ran(folder, "guest/ir-where", "old.elf", image, "old.trc", "--ir", program()).returncode, 0)
+    (folder / "odd.elf").write_bytes((folder / "old.elf").read_bytes().replace(b"\0add\0", b"\0<>>\0"))
+    said = [ran(folder, "guest/ir-where", name, "old.trc", "--ir", program()).stdout for name in ("old.elf", "odd.elf")]
+    wants("a name like a mark", (said[0].count("\n"), said[1].count("\n")), (14, 14))
+    wants("a name like a mark is in the events", b" <<>>+" in run("events odd.elf old.trc", folder).stdout, True)
+    ended = subprocess.run([sys.executable, "guest/ir-where", "old.elf", "--note", "--ir", program()], cwd=folder, check=False, capture_output=True, input=b"\xff\n")
+    wants("what is no text", (ended.returncode, ended.stdout, ended.stderr), (0, b"\xff\n", b""))
 
 
 def noted(folder, typed, *words):
@@ -987,7 +1167,10 @@ def test_noted(folder):
     """ir-where names threads, objects, words and lines in what `ir hunt`, `ir who`, `ir stale` and `ir explore` print."""
     compiled(folder, "peterson", "peterson")
     hunted = run(["hunt", "peterson.elf", "peterson.trc", "--until", "!word 3 0 2"], folder).stdout.decode()
-    wants("ir hunt", noted(folder, hunted, "peterson.elf"), ["thread 0 adder", "thread 1 adder"])
+    notes = noted(folder, hunted, "peterson.elf")
+    turns = re.findall(r"(\d)x(\d+)", hunted.splitlines()[0].split()[-1])
+    wants("an order", notes[0], "order " + ", then ".join(f"thread {thread} adder {count} steps" for thread, count in turns))
+    wants("ir hunt", notes[1:], ["thread 0 adder", "thread 1 adder"])
     said = run("who peterson.trc 3 --word 0 --image peterson.elf", folder).stdout.decode()
     notes = noted(folder, said, "peterson.elf", "peterson.trc")
     wants("ir who", notes[:2], ["object 3 count", "object 3 word 0 the-count"])
@@ -996,8 +1179,24 @@ def test_noted(folder):
     said = run("stale peterson.trc --image peterson.elf", folder).stdout.decode()
     notes = noted(folder, said, "peterson.elf", "peterson.trc")
     wants("ir stale", "object 3 word 0 the-count" in notes, True)
-    said = "outcome 1 switches 1 order 1x97,0x97\nthread 1 end 1 code 0 out 0\nobject 3 words 00000002 00000000 00000000\n"
-    wants("ir explore", noted(folder, said, "peterson.elf"), ["thread 1 adder", "object 3 count the-count=00000002"])
+    wants("ir record", run("record peterson.elf other.trc --order 0x111,1x111", folder).returncode, 0)
+    said = run("diff other.trc peterson.trc", folder).stdout.decode().splitlines()
+    for line in said:
+        notes = noted(folder, f"{line}\n", "peterson.elf", "other.trc")
+        about = [note for note in notes if re.match(r"thread \d event \d", note)]
+        wants(line, bool(about), bool(re.search(r"thread \d (differs )?event \d", line)) and line[:2] != "2 ")
+    wants("ir diff", {line[:2] for line in said} >= {"1 ", "2 "}, True)
+    said = "hang switches 2 order 0x10,1!,0x1\n"
+    wants("a short order", noted(folder, said, "peterson.elf"), ["order thread 0 adder 10 steps, then thread 1 adder 1 step, its tries refused, then thread 0 adder 1 step"])
+    said = "outcome 1 switches 1 order " + ",".join(["1x97", "0x97"] * 8) + "\nthread 1 end 1 code 0 out 0\nobject 3 words 00000002 00000000 00000000\n"
+    notes = noted(folder, said, "peterson.elf")
+    wants("a long order", (notes[0].count("thread"), notes[0].endswith(", and 4 turns more")), (12, True))
+    wants("ir explore", notes[1:], ["thread 1 adder", "object 3 count the-count=00000002"])
+    bytes_ = b"-40\n\x1b[2J" + b"x" * 300
+    parts = [bytes_[at:at + 32].hex() for at in range(0, len(bytes_), 32)]
+    said = f"thread 0 end 1 code 0 out {len(bytes_)}\n" + "".join(f"{part}\n" for part in parts) + "thread 1 end 1 code 0 out 2\n410a\nobject 3 words fffffff6 00000000\n4141\n"
+    shown = "'-40\\n\\x1b[2J" + "x" * 192 + "' .."
+    wants("what is printed", noted(folder, said, "peterson.elf"), ["thread 0 adder", f"prints {shown}", "thread 1 adder", "prints 'A\\n'", "object 3 count the-count=fffffff6 (-10)"])
 
 
 def test_page(folder):
@@ -1026,16 +1225,22 @@ def tests():
     all_ |= {f"story-{name}": partial(test_story, name=name) for name in STORIES}
     all_ |= {f"fault-{name}": partial(test_fault, name=name) for name in faults.FAULTS}
     all_ |= {f"repaired-{name}": partial(test_repaired, name=name) for name in faults.FAULTS}
-    all_ |= {"lines": test_lines, "names": test_names, "bad-names": test_bad_names, "noted": test_noted}
+    all_ |= {"lines": test_lines, "names": test_names, "bad-names": test_bad_names, "bad-elf": test_bad_elf, "dwarf": test_dwarf,
+             "noted": test_noted, "where": test_where, "other-image": test_other_image}
     return all_ | {f"mended-{name}": partial(test_mended, name=name) for name in MENDED}
+
+
+def link_all(folder):
+    """Links what the tests and the pages use into a folder."""
+    for linked in ("guest", "examples", "docs", "tests"):
+        (folder / linked).symlink_to(TOP / linked)
+    (folder / "ir").symlink_to(program())
 
 
 def passes(name, test):
     """Whether a test in a folder of its own passes; prints a line."""
     with tempfile.TemporaryDirectory() as folder:
-        for linked in ("guest", "examples", "docs", "tests"):
-            (Path(folder) / linked).symlink_to(TOP / linked)
-        (Path(folder) / "ir").symlink_to(program())
+        link_all(Path(folder))
         try:
             test(Path(folder))
         except (Wrong, subprocess.SubprocessError, OSError) as why:
@@ -1047,13 +1252,16 @@ def passes(name, test):
 
 def main():
     all_ = tests()
-    names = sys.argv[2:] or list(all_)
+    names = [name for name in sys.argv[2:] if name != "--table"] or list(all_)
     if len(sys.argv) < 2 or any(name not in all_ for name in names):
         sys.exit(__doc__ + "\nThe tests are " + ", ".join(all_) + ".")
     if not shutil.which(TOOLS + "gcc"):
         print(f"{TOOLS}gcc isn't installed, so guests from C aren't tested")
         return finish(0, 0)
     use(sys.argv[1])
+    if "--table" in sys.argv[2:]:
+        print_table()
+        return 0
     passed = sum(passes(name, all_[name]) for name in names)
     return finish(passed, len(names) - passed)
 

@@ -7,17 +7,20 @@ Records guests of examples/ and larger ones that this file has, opens the page o
 it is given. Looks whether the browser reports an error, whether each key and each click does what the page's help says, whether contrast is at
 least 4.5 for text and 3 for lines, and whether the data is digits alone. In windows of three sizes: whether All has all boxes and ends in sight, also
 after the size changes, whether nothing crosses the words at the ends, and whether versions of six digits can be read. With names put into the page as
-`guest/ir-where --page` puts them, whether each is shown, and as text. Wants `chromium`, or another browser that CHROMIUM names.
+`guest/ir-where --page` puts them, whether each is shown, and as text. If riscv64-unknown-elf-gcc is installed also the page that `guest/ir-where`
+makes of a guest from C: whether each event has its line, and whether what is copied is what a session and gdb take. Wants `chromium`, or another
+browser that CHROMIUM names.
 """
 import base64
 import json
 import os
 import re
+import shutil
 import subprocess
 import tempfile
 from pathlib import Path
 
-from lib import parser_of_program
+from lib import TOP, parser_of_program
 from view_guests import ending_badly, guests, many, record
 
 DATA = re.compile(r'<script type="application/json" id="run">(.*?)</script>', re.DOTALL)
@@ -401,6 +404,39 @@ def check_names(browser, path, page, data):
     assert browser.value("document.querySelectorAll('img').length") == markup == 0
 
 
+def ran(*words):
+    """What a command prints."""
+    return subprocess.run([str(word) for word in words], check=True, stdout=subprocess.PIPE).stdout.decode()
+
+
+def check_where(browser, program, folder):
+    """The page of a guest from C: each event has its line, the call that led there and the words that it changed, and commands to copy. A name with markup is text."""
+    if not shutil.which("riscv64-unknown-elf-gcc"):
+        print("peterson: riscv64-unknown-elf-gcc isn't installed, so no page of a guest from C is opened")
+        return
+    elf, trace, path = folder / "peterson.elf", folder / "peterson.trc", folder / "peterson.html"
+    ran(TOP / "guest" / "ir-cc", TOP / "tests" / "c_guests" / "faults" / "peterson.c", "-o", elf)
+    elf.write_bytes(elf.read_bytes().replace(b"\0adder\0", b"\0<b>&'\0"))
+    ran(program, "hunt", elf, trace, "--until", "!word 3 0 2")
+    path.write_text(ran(TOP / "guest" / "ir-where", elf, trace, "--page", "--ir", program), encoding="ascii")
+    browser.open(path.as_uri())
+    browser.value(SETTLED)
+    for thread, event, count, *_ in json.loads(DATA.search(path.read_text(encoding="ascii"))[1])["boxes"]:
+        assert count == 1 and browser.value(f"find({thread}, {event})")
+        told = browser.value("el('what').textContent")
+        assert f"thread {thread} <b>&' " in told and re.search(r"peterson\.c:\d+ in (lock|add|unlock),\scalled at peterson\.c:\d+ in adder_body", told), told
+        steps = browser.value("[...el('cmds').querySelectorAll('code')].map(c => c.textContent)")
+        copied = browser.value("[...el('cmds').querySelectorAll('button')].map(b => b.dataset.copy)")
+        assert steps and copied == [word for step in steps for word in (step, f"ir-{step}")], copied
+        x, y = browser.value(f"{MIDDLE}(chosen)")
+        browser.mouse("mouseMoved", x, y)
+        assert max(map(len, browser.value("el('tip').textContent").splitlines())) < 90, browser.value("el('tip').textContent")
+    assert browser.value("document.querySelectorAll('b').length") == 0
+    browser.value("find(1, 5)")
+    assert "the-count 0 to 1" in browser.value("el('what').textContent")
+    print("peterson: events have lines, calls and changed words, and what is copied is for a session and for gdb")
+
+
 def with_long_versions(page, data):
     """The page with versions that have six digits."""
     changed = json.loads(json.dumps(data))
@@ -461,6 +497,8 @@ def main():
                         check_versions(browser, path.as_uri())
                     assert not browser.errors, browser.errors
                     print(f"{name}{form}: {len(data['boxes'])} boxes, least contrast {least[0]:.1f} for text and {least[1]:.1f} for lines")
+            check_where(browser, Path(program).resolve(), folder)
+            assert not browser.errors, browser.errors
             browser.close()
         finally:
             browser.process.kill()

@@ -61,9 +61,9 @@ FAULTS = {
         ("continue", "bt"),
         ("received signal SIGABRT", r"checked \(.*\) at .*trap.c:LINE$", r"#1 .*advance \(\) at .*trap.c", r"#2 .*closer_body \(\) at .*trap.c"), 1),
     "stack": Fault(
-        "hunt", "end 0 7", (7, 0), "volatile ir_word page[256];",
+        "hunt", "end 0 7", (7, 0), "page[0] = node;",
         ("continue", "info threads", *["up", "print page[0]"] * 4, "bt -2"),
-        ("received signal SIGSEGV", r"ended: bad store\)", "= 3$", "= 2$", "= 1$", "= 3$", r"walker_body \(\) at .*stack.c"), 1),
+        ("received signal SIGSEGV", r"length \(node=\d\) at .*stack.c:LINE$", r"ended: bad store\)", "= 3$", "= 2$", "= 1$", "= 3$", r"walker_body \(\) at .*stack.c"), 1),
 }
 
 
@@ -77,12 +77,14 @@ GOOD = record(3, ITSELF, b"count")
 
 # What is wrong with names: the bytes of the section .ir.names, and what is reported of them.
 BAD_NAMES = {
-    "cut-short": (GOOD + record(2, ITSELF, b"turn")[:20], "the last one is left out"),
-    "not-utf-8": (record(2, ITSELF, b"\xff\xfe") + GOOD, "isn't in UTF-8"),
-    "blank": (record(2, ITSELF, b"a b") + GOOD, "is no name"),
-    "empty": (record(2, ITSELF, b"") + GOOD, "is no name"),
-    "no-object": (record(4, ITSELF, b"four") + GOOD, "four is of word 4294967295 of object 4, and there is none"),
-    "no-word": (record(0, 8, b"eight") + GOOD, "eight is of word 8 of object 0, and there is none"),
-    "twice": (GOOD + record(3, ITSELF, b"other"), "other is called count already"),
-    "much": (b"\xff" * 400 + GOOD, "isn't in UTF-8"),
+    "cut-short": (GOOD + record(2, ITSELF, b"turn")[:20], "1 left out: the end of .ir.names: there are 60 bytes of 60, and a name takes 40"),
+    "not-utf-8": (record(2, ITSELF, b"\xff\xfe") + GOOD, "1 left out: a name of .ir.names that isn't in UTF-8: b'\\xff\\xfe'"),
+    "blank": (record(2, ITSELF, b"a b") + GOOD, "1 left out: a name of .ir.names with blanks or control characters: b'a b'"),
+    "escape": (record(2, ITSELF, b"\x1b[2J") + GOOD, "1 left out: a name of .ir.names with blanks or control characters: b'\\x1b[2J'"),
+    "empty": (record(2, ITSELF, b"") + GOOD, "1 left out: a name of .ir.names that is empty"),
+    "no-object": (record(4, ITSELF, b"four") + GOOD, "1 left out: a name of .ir.names for what isn't there: 'object 4'"),
+    "no-word": (record(0, 8, b"eight") + GOOD, "1 left out: a name of .ir.names for what isn't there: 'object 0 word 8'"),
+    "twice": (GOOD + record(3, ITSELF, b"other"), "1 left out: a second name of .ir.names: b'other'"),
+    "much": (b"\xff" * 400 + GOOD, "10 left out: a name of .ir.names"),
+    "many": (GOOD + record(3, ITSELF, b"x") * 200_000, "100001 left out: names of .ir.names after the first 100,000"),
 }
