@@ -1,8 +1,13 @@
 //! The arguments of `ir asm`.
 
+ghost use Rattle.std.specs.Prelude.{◌≡◌, IfOk, codes};
+ghost use Rattle.ir_arguments.specs.Asking.{assembly_asked};
+ghost use Rattle.ir_arguments.specs.Values.{rows_in};
+ghost use Rattle.ir_arguments.specs.Views.{request_of};
+
 use crate::asked::{Asked, Make};
 use crate::subcommands::Row;
-use crate::values::{EXPLAIN, IMAGE, MAP, file_arg, given_text, text_of};
+use crate::values::{EXPLAIN, IMAGE, MAP, file_arg, given_text, has_flag, text_of};
 use clap::{Arg, ArgAction, ArgMatches, Command};
 use std::alloc::{AllocError, Global};
 
@@ -64,7 +69,9 @@ Exit status: 0 assembled, 1 a file that can't be read or written, 2 bad argument
 ";
 
 /// What the help says of it, beside its arguments.
-pub fn row<'a>() -> Row<'a> {
+pub fn row<'a>() -> Row<'a>
+    ensures { result.name.now ≡ codes "asm" }
+{
     Row {
         name: "asm",
         about: "Assembles a guest's source into an image",
@@ -108,11 +115,13 @@ pub fn with_arguments<'a>(alloc: Global, command: Command<'a>) -> Result<Command
 }
 
 /// What its arguments ask for.
-pub fn asked(alloc: Global, matches: &ArgMatches<'_>) -> Result<Asked, AllocError> {
+pub fn asked(alloc: Global, matches: &ArgMatches<'_>) -> Result<Asked, AllocError>
+    ensures { IfOk result (λ asked. request_of asked ≡ assembly_asked (rows_in matches.now)) }
+{
     Ok(Asked::Make(Make::Source(AssembleArguments {
         source: text_of(alloc, matches, SOURCE)?,
         image: text_of(alloc, matches, IMAGE)?,
         map: given_text(alloc, matches, MAP)?,
-        explain: matches.get_flag(EXPLAIN),
+        explain: has_flag(matches, EXPLAIN),
     })))
 }

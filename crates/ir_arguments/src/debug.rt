@@ -1,5 +1,10 @@
 //! The arguments of `ir debug`.
 
+ghost use Rattle.std.specs.Prelude.{◌≡◌, IfOk, codes};
+ghost use Rattle.ir_arguments.specs.Asking.{debug_asked};
+ghost use Rattle.ir_arguments.specs.Values.{rows_in};
+ghost use Rattle.ir_arguments.specs.Views.{request_of};
+
 use crate::asked::Asked;
 use crate::subcommands::Row;
 use crate::values::{IMAGE, TRACE, file_arg, image_arg, text_of};
@@ -55,7 +60,9 @@ Exit status: 0 done, 1 a fault, 2 bad arguments, 3 a refused image or trace, 4 a
 ";
 
 /// What the help says of it, beside its arguments.
-pub fn row<'a>() -> Row<'a> {
+pub fn row<'a>() -> Row<'a>
+    ensures { result.name.now ≡ codes "debug" }
+{
     Row {
         name: "debug",
         about: "Debugs a recorded run, forwards and backwards",
@@ -80,7 +87,9 @@ pub fn with_arguments<'a>(alloc: Global, command: Command<'a>) -> Result<Command
 }
 
 /// What its arguments ask for.
-pub fn asked(alloc: Global, matches: &ArgMatches<'_>) -> Result<Asked, AllocError> {
+pub fn asked(alloc: Global, matches: &ArgMatches<'_>) -> Result<Asked, AllocError>
+    ensures { IfOk result (λ asked. request_of asked ≡ debug_asked (rows_in matches.now)) }
+{
     Ok(Asked::Debug(DebugArguments {
         image: text_of(alloc, matches, IMAGE)?,
         trace: text_of(alloc, matches, TRACE)?,

@@ -1,5 +1,10 @@
 //! The arguments of `ir diff`.
 
+ghost use Rattle.std.specs.Prelude.{◌≡◌, IfOk, codes};
+ghost use Rattle.ir_arguments.specs.Asking.{difference_asked};
+ghost use Rattle.ir_arguments.specs.Values.{rows_in};
+ghost use Rattle.ir_arguments.specs.Views.{request_of};
+
 use crate::asked::{Asked, Print};
 use crate::subcommands::Row;
 use crate::values::{file_arg, text_of};
@@ -26,7 +31,9 @@ trace, 4 an incoherent trace or headers that differ.
 ";
 
 /// What the help says of it, beside its arguments.
-pub fn row<'a>() -> Row<'a> {
+pub fn row<'a>() -> Row<'a>
+    ensures { result.name.now ≡ codes "diff" }
+{
     Row {
         name: "diff",
         about: "Prints what two recordings have in common, and where they part",
@@ -61,7 +68,9 @@ pub fn with_arguments<'a>(alloc: Global, command: Command<'a>) -> Result<Command
 }
 
 /// What its arguments ask for.
-pub fn asked(alloc: Global, matches: &ArgMatches<'_>) -> Result<Asked, AllocError> {
+pub fn asked(alloc: Global, matches: &ArgMatches<'_>) -> Result<Asked, AllocError>
+    ensures { IfOk result (λ asked. request_of asked ≡ difference_asked (rows_in matches.now)) }
+{
     Ok(Asked::Print(Print::Diff(DiffArguments {
         first: text_of(alloc, matches, FIRST)?,
         second: text_of(alloc, matches, SECOND)?,

@@ -1,8 +1,13 @@
 //! The arguments of `ir elf`.
 
+ghost use Rattle.std.specs.Prelude.{◌≡◌, IfOk, codes};
+ghost use Rattle.ir_arguments.specs.Asking.{conversion_asked};
+ghost use Rattle.ir_arguments.specs.Values.{rows_in};
+ghost use Rattle.ir_arguments.specs.Views.{request_of};
+
 use crate::asked::{Asked, Make};
 use crate::subcommands::Row;
-use crate::values::{EXPLAIN, IMAGE, file_arg, text_of};
+use crate::values::{EXPLAIN, IMAGE, file_arg, has_flag, text_of};
 use clap::{Arg, ArgAction, ArgMatches, Command};
 use std::alloc::{AllocError, Global};
 
@@ -36,7 +41,9 @@ Exit status: 0 converted, 1 a file that can't be read or written, 2 bad argument
 ";
 
 /// What the help says of it, beside its arguments.
-pub fn row<'a>() -> Row<'a> {
+pub fn row<'a>() -> Row<'a>
+    ensures { result.name.now ≡ codes "elf" }
+{
     Row {
         name: "elf",
         about: "Makes the image of a guest that a C compiler and linker made",
@@ -73,10 +80,12 @@ pub fn with_arguments<'a>(alloc: Global, command: Command<'a>) -> Result<Command
 }
 
 /// What its arguments ask for.
-pub fn asked(alloc: Global, matches: &ArgMatches<'_>) -> Result<Asked, AllocError> {
+pub fn asked(alloc: Global, matches: &ArgMatches<'_>) -> Result<Asked, AllocError>
+    ensures { IfOk result (λ asked. request_of asked ≡ conversion_asked (rows_in matches.now)) }
+{
     Ok(Asked::Make(Make::Elf(ElfArguments {
         elf: text_of(alloc, matches, ELF)?,
         image: text_of(alloc, matches, IMAGE)?,
-        explain: matches.get_flag(EXPLAIN),
+        explain: has_flag(matches, EXPLAIN),
     })))
 }

@@ -1,5 +1,10 @@
 //! The arguments of `ir events`.
 
+ghost use Rattle.std.specs.Prelude.{◌≡◌, IfOk, codes};
+ghost use Rattle.ir_arguments.specs.Asking.{events_asked};
+ghost use Rattle.ir_arguments.specs.Values.{rows_in};
+ghost use Rattle.ir_arguments.specs.Views.{request_of};
+
 use crate::asked::{Asked, Print};
 use crate::subcommands::Row;
 use crate::values::{IMAGE, MAP, TRACE, file_arg, given_text, image_arg, names_arg, text_of};
@@ -19,7 +24,9 @@ image or trace, or a line of MAP that is no symbol, 4 a trace that doesn't fit.
 ";
 
 /// What the help says of it, beside its arguments.
-pub fn row<'a>() -> Row<'a> {
+pub fn row<'a>() -> Row<'a>
+    ensures { result.name.now ≡ codes "events" }
+{
     Row {
         name: "events",
         about: "Prints each event of a recorded run with its position and address",
@@ -47,7 +54,9 @@ pub fn with_arguments<'a>(alloc: Global, command: Command<'a>) -> Result<Command
 }
 
 /// What its arguments ask for.
-pub fn asked(alloc: Global, matches: &ArgMatches<'_>) -> Result<Asked, AllocError> {
+pub fn asked(alloc: Global, matches: &ArgMatches<'_>) -> Result<Asked, AllocError>
+    ensures { IfOk result (λ asked. request_of asked ≡ events_asked (rows_in matches.now)) }
+{
     Ok(Asked::Print(Print::Events(EventsArguments {
         image: text_of(alloc, matches, IMAGE)?,
         trace: text_of(alloc, matches, TRACE)?,

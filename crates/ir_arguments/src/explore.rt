@@ -1,18 +1,17 @@
 //! The arguments of `ir explore`.
 
-ghost use Rattle.std.specs.Prelude.{◌≤◌, IfOk};
+ghost use Rattle.std.specs.Prelude.{◌≡◌, ◌≤◌, codes, option_map, IfOk};
+ghost use Rattle.std.specs.Result.{result_ok};
+ghost use Rattle.ir_record_command.specs.Numerals.{number_within};
+ghost use Rattle.ir_arguments.specs.Asking.{seconds_in};
+ghost use Rattle.ir_arguments.specs.Exploring.{outcomes_in, reach_in, switches_given};
+ghost use Rattle.ir_arguments.specs.Values.{rows_in, given, text_for};
 
-use crate::asked::{Asked, Explored};
 use crate::condition_text::ConditionText;
-use crate::conditions::{hang_by, outcome_conditions_of};
-use crate::recording::{
-    INPUT, OUTPUT, input_arg, output_arg, profile_arg, profile_in, random_arg, random_in,
-};
+use crate::recording::{input_arg, output_arg, profile_arg, random_arg};
 use crate::subcommands::Row;
-use crate::values::{IMAGE, TRACE, UNTIL, given_text, image_arg, text_of};
-use crate::within::{
-    ClassesArguments, ONLY, WITHIN, WithinArguments, counted_of, only_arg, other_of, within_arg,
-};
+use crate::values::{TRACE, UNTIL, given, image_arg, text_for};
+use crate::within::{only_arg, within_arg};
 use clap::{Arg, ArgAction, ArgMatches, Command};
 use ir_record_command::number_within;
 use ir_thread::{MOST_BUDGET, Profile};
@@ -79,7 +78,9 @@ finished, and no run hangs, 6 covered or stopped. With OTHER: 0 within, 5 outsid
 ";
 
 /// What the help says of it, beside its arguments.
-pub fn row<'a>() -> Row<'a> {
+pub fn row<'a>() -> Row<'a>
+    ensures { result.name.now ≡ codes "explore" }
+{
     Row {
         name: "explore",
         about: "Prints each different outcome of a guest, with an order that leads to it",
@@ -241,9 +242,10 @@ fn number_in_option(
     least: u64,
     most: u64,
 ) -> Result<Result<u64, String>, AllocError>
-    ensures { IfOk result (λ read. IfOk read (λ number. (least ≤ number) × (number ≤ most))) }
+    ensures value { IfOk result (λ read. result_ok read ≡ number_within least most (text_for (rows_in matches.now) option.now)) }
+    ensures within { IfOk result (λ read. IfOk read (λ number. (least ≤ number) × (number ≤ most))) }
 {
-    let value = matches.get_str(option).unwrap_or_default();
+    let value = text_for(matches, option);
     match number_within(least, most, value) {
         Some(number) => Ok(Ok(number)),
         None => Ok(Err(format!(in alloc;
@@ -253,11 +255,10 @@ fn number_in_option(
 }
 
 // The most switches that are asked for, if any are.
-fn switches_of(
-    alloc: Global,
-    matches: &ArgMatches<'_>,
-) -> Result<Result<usize, String>, AllocError> {
-    if matches.get_str(SWITCHES).is_none() {
+fn switches_of(alloc: Global, matches: &ArgMatches<'_>) -> Result<Result<usize, String>, AllocError>
+    ensures { IfOk result (λ read. result_ok read ≡ switches_given (given (rows_in matches.now) (codes "switches"))) }
+{
+    if given(matches, SWITCHES).is_none() {
         return Ok(Ok(usize::MAX));
     }
     match number_in_option(alloc, matches, SWITCHES, 0, MOST_SWITCHES)? {
@@ -270,8 +271,10 @@ fn switches_of(
 fn seconds_of(
     alloc: Global,
     matches: &ArgMatches<'_>,
-) -> Result<Result<Option<u32>, String>, AllocError> {
-    if matches.get_str(SECONDS).is_none() {
+) -> Result<Result<Option<u32>, String>, AllocError>
+    ensures { IfOk result (λ read. result_ok read ≡ seconds_in (rows_in matches.now)) }
+{
+    if given(matches, SECONDS).is_none() {
         return Ok(Ok(None));
     }
     match number_in_option(alloc, matches, SECONDS, 1, MOST_SECONDS)? {
@@ -284,8 +287,10 @@ fn seconds_of(
 fn outcomes_of(
     alloc: Global,
     matches: &ArgMatches<'_>,
-) -> Result<Result<Option<usize>, String>, AllocError> {
-    if matches.get_str(MAX).is_none() {
+) -> Result<Result<Option<usize>, String>, AllocError>
+    ensures { IfOk result (λ read. result_ok read ≡ outcomes_in (rows_in matches.now)) }
+{
+    if given(matches, MAX).is_none() {
         return Ok(Ok(None));
     }
     match number_in_option(alloc, matches, MAX, 1, MOST_OUTCOMES)? {
@@ -294,8 +299,14 @@ fn outcomes_of(
     }
 }
 
-// How far a guest is explored, or what is wrong with an option.
-fn reach_of(alloc: Global, matches: &ArgMatches<'_>) -> Result<Result<Reach, String>, AllocError> {
+/// How far a guest is explored, or what is wrong with an option.
+#[tactic(auto, unfolding(crate::specs::Exploring::reach_in))]
+pub fn reach_of(
+    alloc: Global,
+    matches: &ArgMatches<'_>,
+) -> Result<Result<Reach, String>, AllocError>
+    ensures { IfOk result (λ read. option_map (λ r. (r.states, r.private, r.switches, r.seconds, r.outcomes)) (result_ok read) ≡ reach_in (rows_in matches.now)) }
+{
     let states = match number_in_option(alloc, matches, STATES, 1, MOST_STATES)? {
         Ok(states) => states,
         Err(why) => return Ok(Err(why)),
@@ -323,102 +334,4 @@ fn reach_of(alloc: Global, matches: &ArgMatches<'_>) -> Result<Result<Reach, Str
         seconds,
         outcomes,
     }))
-}
-
-// Which guest is explored, how far, and what answers it, or what is wrong with an option.
-fn arguments_of(
-    alloc: Global,
-    matches: &ArgMatches<'_>,
-) -> Result<Result<ExploreArguments, String>, AllocError> {
-    let reach = match reach_of(alloc, matches)? {
-        Ok(reach) => reach,
-        Err(why) => return Ok(Err(why)),
-    };
-    let random = match random_in(alloc, matches)? {
-        Ok(random) => random,
-        Err(why) => return Ok(Err(why)),
-    };
-    let profile = match profile_in(alloc, matches)? {
-        Ok(profile) => profile,
-        Err(why) => return Ok(Err(why)),
-    };
-    Ok(Ok(ExploreArguments {
-        image: text_of(alloc, matches, IMAGE)?,
-        reach,
-        profile,
-        random,
-        input: given_text(alloc, matches, INPUT)?,
-    }))
-}
-
-// The conditions that an outcome has to fulfil, if no hang is looked for, or what is wrong with one.
-fn conditions_besides(
-    alloc: Global,
-    matches: &ArgMatches<'_>,
-    hang: bool,
-) -> Result<Result<Vec<ConditionText>, String>, AllocError> {
-    if hang {
-        return Ok(Ok(Vec::new(alloc)));
-    }
-    outcome_conditions_of(alloc, matches)
-}
-
-// The comparison that is asked for, or what is wrong with what counts.
-fn within_asked(
-    alloc: Global,
-    matches: &ArgMatches<'_>,
-    explore: ExploreArguments,
-) -> Result<Asked, AllocError> {
-    match counted_of(alloc, matches)? {
-        Ok(counted) => Ok(Asked::Explore(Explored::Within(WithinArguments {
-            explore,
-            other: other_of(alloc, matches)?,
-            counted,
-        }))),
-        Err(why) => Ok(Asked::Nothing(why)),
-    }
-}
-
-// The outcomes by classes, or what is wrong with what counts.
-fn classes_asked(
-    alloc: Global,
-    matches: &ArgMatches<'_>,
-    explore: ExploreArguments,
-) -> Result<Asked, AllocError> {
-    match counted_of(alloc, matches)? {
-        Ok(counted) => Ok(Asked::Explore(Explored::Classes(ClassesArguments { explore, counted }))),
-        Err(why) => Ok(Asked::Nothing(why)),
-    }
-}
-
-/// What its arguments ask for.
-pub fn asked(alloc: Global, matches: &ArgMatches<'_>) -> Result<Asked, AllocError> {
-    let explore = match arguments_of(alloc, matches)? {
-        Ok(explore) => explore,
-        Err(why) => return Ok(Asked::Nothing(why)),
-    };
-    if matches.get_str(WITHIN).is_some() {
-        return within_asked(alloc, matches, explore);
-    }
-    if matches.get_str(ONLY).is_some() {
-        return classes_asked(alloc, matches, explore);
-    }
-    let hang = match hang_by(alloc, matches)? {
-        Ok(hang) => hang,
-        Err(why) => return Ok(Asked::Nothing(why)),
-    };
-    let until = match conditions_besides(alloc, matches, hang)? {
-        Ok(until) => until,
-        Err(why) => return Ok(Asked::Nothing(why)),
-    };
-    match given_text(alloc, matches, TRACE)? {
-        Some(trace) => Ok(Asked::Until(UntilArguments {
-            explore,
-            trace,
-            until,
-            hang,
-            output: given_text(alloc, matches, OUTPUT)?,
-        })),
-        None => Ok(Asked::Explore(Explored::Outcomes(explore))),
-    }
 }

@@ -1,12 +1,19 @@
 //! The arguments of `ir hunt`.
 
+ghost use Rattle.std.specs.Prelude.{◌≡◌, codes, option_map, IfOk};
+ghost use Rattle.std.specs.Result.{result_ok};
+ghost use Rattle.ir_arguments.specs.Asking.{bounds_in, hunt_asked, jobs_given, seconds_in, wanted_in};
+ghost use Rattle.ir_arguments.specs.Values.{rows_in, given};
+ghost use Rattle.ir_arguments.specs.Views.{request_of};
+
 use crate::asked::Asked;
 use crate::condition_text::ConditionText;
 use crate::conditions::{conditions_of, stale_by};
-use crate::recording::{RecordingOptions, options_of, with_options};
+use crate::options::options_of;
+use crate::recording::{RecordingOptions, with_options};
 use crate::seeds::{by_arg, seeds_by, way_by};
 use crate::subcommands::Row;
-use crate::values::{IMAGE, TRACE, UNTIL, file_arg, image_arg, text_of};
+use crate::values::{IMAGE, TRACE, UNTIL, file_arg, given, has_flag, image_arg, text_for, text_of};
 use clap::{Arg, ArgAction, ArgMatches, Command};
 use ir_record_command::number_within;
 use ir_schedule::{Seeds, Way};
@@ -59,7 +66,9 @@ that were followed, and some were left out because their runs have too many turn
 ";
 
 /// What the help says of it, beside its arguments.
-pub fn row<'a>() -> Row<'a> {
+pub fn row<'a>() -> Row<'a>
+    ensures { result.name.now ≡ codes "hunt" }
+{
     Row {
         name: "hunt",
         about: "Records the first of many seeds' orders that fulfils conditions",
@@ -153,8 +162,10 @@ pub fn with_arguments<'a>(alloc: Global, command: Command<'a>) -> Result<Command
 }
 
 // The most threads that are asked for, or what is wrong with their number.
-fn jobs_by(alloc: Global, matches: &ArgMatches<'_>) -> Result<Result<usize, String>, AllocError> {
-    let Some(text) = matches.get_str(JOBS) else {
+fn jobs_by(alloc: Global, matches: &ArgMatches<'_>) -> Result<Result<usize, String>, AllocError>
+    ensures { IfOk result (λ read. result_ok read ≡ jobs_given (given (rows_in matches.now) (codes "jobs"))) }
+{
+    let Some(text) = given(matches, JOBS) else {
         return Ok(Ok(usize::MAX));
     };
     match number_within(1, MOST_JOBS, text) {
@@ -169,8 +180,10 @@ fn jobs_by(alloc: Global, matches: &ArgMatches<'_>) -> Result<Result<usize, Stri
 fn seconds_by(
     alloc: Global,
     matches: &ArgMatches<'_>,
-) -> Result<Result<Option<u32>, String>, AllocError> {
-    let Some(text) = matches.get_str(SECONDS) else {
+) -> Result<Result<Option<u32>, String>, AllocError>
+    ensures { IfOk result (λ read. result_ok read ≡ seconds_in (rows_in matches.now)) }
+{
+    let Some(text) = given(matches, SECONDS) else {
         return Ok(Ok(None));
     };
     match number_within(1, MOST_SECONDS, text) {
@@ -185,7 +198,9 @@ fn seconds_by(
 fn bounds_by(
     alloc: Global,
     matches: &ArgMatches<'_>,
-) -> Result<Result<(usize, Option<u32>), String>, AllocError> {
+) -> Result<Result<(usize, Option<u32>), String>, AllocError>
+    ensures { IfOk result (λ read. result_ok read ≡ bounds_in (rows_in matches.now)) }
+{
     let jobs = match jobs_by(alloc, matches)? {
         Ok(jobs) => jobs,
         Err(why) => return Ok(Err(why)),
@@ -200,7 +215,9 @@ fn bounds_by(
 fn wanted_by(
     alloc: Global,
     matches: &ArgMatches<'_>,
-) -> Result<Result<(Vec<ConditionText>, Option<bool>), String>, AllocError> {
+) -> Result<Result<(Vec<ConditionText>, Option<bool>), String>, AllocError>
+    ensures { IfOk result (λ read. option_map (λ w. (w.0.items, w.1)) (result_ok read) ≡ wanted_in (rows_in matches.now)) }
+{
     let until = match conditions_of(alloc, matches)? {
         Ok(until) => until,
         Err(why) => return Ok(Err(why)),
@@ -212,12 +229,15 @@ fn wanted_by(
 }
 
 /// What its arguments ask for.
-pub fn asked(alloc: Global, matches: &ArgMatches<'_>) -> Result<Asked, AllocError> {
+#[tactic(auto, unfolding(crate::specs::Asking::hunt_in))]
+pub fn asked(alloc: Global, matches: &ArgMatches<'_>) -> Result<Asked, AllocError>
+    ensures { IfOk result (λ asked. request_of asked ≡ hunt_asked (rows_in matches.now)) }
+{
     let options = match options_of(alloc, matches)? {
         Ok(options) => options,
         Err(why) => return Ok(Asked::Nothing(why)),
     };
-    let seeds = match seeds_by(alloc, SEEDS, matches.get_str(SEEDS).unwrap_or_default())? {
+    let seeds = match seeds_by(alloc, SEEDS, text_for(matches, SEEDS))? {
         Ok(seeds) => seeds,
         Err(why) => return Ok(Asked::Nothing(why)),
     };
@@ -242,7 +262,7 @@ pub fn asked(alloc: Global, matches: &ArgMatches<'_>) -> Result<Asked, AllocErro
         stale,
         jobs,
         seconds,
-        shrinks: matches.get_flag(SHRINK),
+        shrinks: has_flag(matches, SHRINK),
         options,
     }))
 }

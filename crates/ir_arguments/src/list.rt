@@ -1,5 +1,10 @@
 //! The arguments of `ir list`.
 
+ghost use Rattle.std.specs.Prelude.{◌≡◌, IfOk, codes};
+ghost use Rattle.ir_arguments.specs.Asking.{code_asked};
+ghost use Rattle.ir_arguments.specs.Values.{rows_in};
+ghost use Rattle.ir_arguments.specs.Views.{request_of};
+
 use crate::asked::{Asked, Print};
 use crate::subcommands::Row;
 use crate::values::{IMAGE, MAP, given_text, image_arg, names_arg, text_of};
@@ -18,7 +23,9 @@ image, or a line of MAP that is no symbol.
 ";
 
 /// What the help says of it, beside its arguments.
-pub fn row<'a>() -> Row<'a> {
+pub fn row<'a>() -> Row<'a>
+    ensures { result.name.now ≡ codes "list" }
+{
     Row {
         name: "list",
         about: "Prints the code of an image as text",
@@ -41,7 +48,9 @@ pub fn with_arguments<'a>(alloc: Global, command: Command<'a>) -> Result<Command
 }
 
 /// What its arguments ask for.
-pub fn asked(alloc: Global, matches: &ArgMatches<'_>) -> Result<Asked, AllocError> {
+pub fn asked(alloc: Global, matches: &ArgMatches<'_>) -> Result<Asked, AllocError>
+    ensures { IfOk result (λ asked. request_of asked ≡ code_asked (rows_in matches.now)) }
+{
     Ok(Asked::Print(Print::Code(ListArguments {
         image: text_of(alloc, matches, IMAGE)?,
         map: given_text(alloc, matches, MAP)?,

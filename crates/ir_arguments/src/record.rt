@@ -1,12 +1,17 @@
 //! The arguments of `ir record`.
 
-ghost use Rattle.std.specs.Prelude.{◌≡◌, option_map};
+ghost use Rattle.std.specs.Prelude.{◌≡◌, Some, option_map, IfOk, codes};
+ghost use Rattle.std.specs.Result.{result_ok};
+ghost use Rattle.ir_arguments.specs.Asking.{chaos_by, chaos_in, recording_asked};
+ghost use Rattle.ir_arguments.specs.Values.{rows_in};
+ghost use Rattle.ir_arguments.specs.Views.{request_of};
 
 use crate::asked::Asked;
-use crate::recording::{RecordingOptions, no_number, options_of, with_options};
+use crate::options::{no_number, options_of};
+use crate::recording::{RecordingOptions, with_options};
 use crate::seeds::{by_arg, way_by};
 use crate::subcommands::Row;
-use crate::values::{IMAGE, TRACE, file_arg, given_text, image_arg, text_of};
+use crate::values::{IMAGE, TRACE, file_arg, given, given_text, has_flag, image_arg, text_of};
 use clap::{Arg, ArgAction, ArgMatches, Command};
 use ir_record_command::{RecordPlan, number_within};
 use ir_schedule::Way;
@@ -66,7 +71,9 @@ with --status 5 if it is recorded, and a thread doesn't end by END with code 0:
 ";
 
 /// What the help says of it, beside its arguments.
-pub fn row<'a>() -> Row<'a> {
+pub fn row<'a>() -> Row<'a>
+    ensures { result.name.now ≡ codes "record" }
+{
     Row {
         name: "record",
         about: "Records a guest, and prints a line for each thread",
@@ -162,26 +169,42 @@ pub fn with_arguments<'a>(alloc: Global, command: Command<'a>) -> Result<Command
     with_options(alloc, command)?.arg(status_arg(alloc))
 }
 
-// The seed that gives the order and how, if it is given, or else what is wrong with it.
-fn chaos_of(
+// The seed that a text is and this way, or else what is wrong with the text.
+fn chaos_by(
     alloc: Global,
-    matches: &ArgMatches<'_>,
-) -> Result<Result<Option<Chaos>, String>, AllocError> {
-    let way = match way_by(alloc, matches)? {
-        Ok(way) => way,
-        Err(why) => return Ok(Err(why)),
-    };
-    let Some(text) = matches.get_str(CHAOS) else {
-        return Ok(Ok(None));
-    };
+    text: &str,
+    way: Way,
+) -> Result<Result<Option<Chaos>, String>, AllocError>
+    ensures { IfOk result (λ read. result_ok read ≡ option_map (λ chaos. Some chaos) (chaos_by way text.now)) }
+{
     match number_within(0, u64::MAX, text) {
         Some(seed) => Ok(Ok(Some(Chaos { seed, way }))),
         None => Ok(Err(no_number(alloc, CHAOS, text, u64::MAX)?)),
     }
 }
 
+// The seed that gives the order and how, if it is given, or else what is wrong with it.
+fn chaos_of(
+    alloc: Global,
+    matches: &ArgMatches<'_>,
+) -> Result<Result<Option<Chaos>, String>, AllocError>
+    ensures { IfOk result (λ read. result_ok read ≡ chaos_in (rows_in matches.now)) }
+{
+    let way = match way_by(alloc, matches)? {
+        Ok(way) => way,
+        Err(why) => return Ok(Err(why)),
+    };
+    match given(matches, CHAOS) {
+        Some(text) => chaos_by(alloc, text, way),
+        None => Ok(Ok(None)),
+    }
+}
+
 /// What its arguments ask for.
-pub fn asked(alloc: Global, matches: &ArgMatches<'_>) -> Result<Asked, AllocError> {
+#[tactic(auto, unfolding(crate::specs::Asking::recording_in))]
+pub fn asked(alloc: Global, matches: &ArgMatches<'_>) -> Result<Asked, AllocError>
+    ensures { IfOk result (λ asked. request_of asked ≡ recording_asked (rows_in matches.now)) }
+{
     let options = match options_of(alloc, matches)? {
         Ok(options) => options,
         Err(why) => return Ok(Asked::Nothing(why)),
@@ -197,6 +220,6 @@ pub fn asked(alloc: Global, matches: &ArgMatches<'_>) -> Result<Asked, AllocErro
         order_file: given_text(alloc, matches, ORDER_FILE)?,
         chaos,
         options,
-        status: matches.get_flag(STATUS),
+        status: has_flag(matches, STATUS),
     }))
 }

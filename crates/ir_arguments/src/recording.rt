@@ -3,17 +3,19 @@
 ghost use Rattle.std.specs.Prelude.{◌≡◌, ◌≤◌, option_map};
 ghost use Rattle.ir_thread.specs.State.{most_budget};
 
-use crate::values::given_text;
-use clap::{Arg, ArgMatches, Command};
-use ir_record_command::{RecordPlan, number_within};
-use ir_thread::{MOST_BUDGET, Profile};
+use clap::{Arg, Command};
+use ir_record_command::RecordPlan;
+use ir_thread::Profile;
 use std::alloc::{AllocError, Global};
 
-const BUDGET: &str = "budget";
+/// The option that bounds the steps of each thread.
+pub const BUDGET: &str = "budget";
 
-const RANDOM: &str = "random";
+/// The option that says where random words start.
+pub const RANDOM: &str = "random";
 
-const PROFILE: &str = "profile";
+/// The option that says which system calls there are.
+pub const PROFILE: &str = "profile";
 
 /// The option that names the file that guests read.
 pub const INPUT: &str = "input";
@@ -105,78 +107,4 @@ pub fn with_options<'a>(alloc: Global, command: Command<'a>) -> Result<Command<'
         .arg(profile_arg(alloc))?
         .arg(input_arg(alloc))?
         .arg(output_arg(alloc))
-}
-
-/// That the value of an option is no number up to the most.
-pub fn no_number(
-    alloc: Global,
-    option: &str,
-    value: &str,
-    most: u64,
-) -> Result<String, AllocError> {
-    format!(in alloc; "--{option}: '{value}' is no number up to {most}")
-}
-
-// The profile that the value of the option names.
-fn profile_of(value: &str) -> Option<Profile> {
-    match value {
-        "1" => Some(Profile::One),
-        "2" => Some(Profile::Two),
-        _ => None,
-    }
-}
-
-// That the value of the option names no profile.
-fn no_profile(alloc: Global, option: &str, value: &str) -> Result<String, AllocError> {
-    format!(in alloc; "--{option}: '{value}' is neither 1 nor 2")
-}
-
-/// The profile that its option names, or else what is wrong with it.
-pub fn profile_in(
-    alloc: Global,
-    matches: &ArgMatches<'_>,
-) -> Result<Result<Profile, String>, AllocError> {
-    let profile = matches.get_str(PROFILE).unwrap_or_default();
-    match profile_of(profile) {
-        Some(calls) => Ok(Ok(calls)),
-        None => Ok(Err(no_profile(alloc, PROFILE, profile)?)),
-    }
-}
-
-/// Where random words start, or else what is wrong with the option.
-pub fn random_in(
-    alloc: Global,
-    matches: &ArgMatches<'_>,
-) -> Result<Result<u64, String>, AllocError> {
-    let random = matches.get_str(RANDOM).unwrap_or_default();
-    match number_within(0, u64::MAX, random) {
-        Some(start) => Ok(Ok(start)),
-        None => Ok(Err(no_number(alloc, RANDOM, random, u64::MAX)?)),
-    }
-}
-
-/// The values of these options, or else what is wrong with one.
-pub fn options_of(
-    alloc: Global,
-    matches: &ArgMatches<'_>,
-) -> Result<Result<RecordingOptions, String>, AllocError> {
-    let budget = matches.get_str(BUDGET).unwrap_or_default();
-    let Some(most) = number_within(0, MOST_BUDGET, budget) else {
-        return Ok(Err(no_number(alloc, BUDGET, budget, MOST_BUDGET)?));
-    };
-    let start = match random_in(alloc, matches)? {
-        Ok(start) => start,
-        Err(why) => return Ok(Err(why)),
-    };
-    let calls = match profile_in(alloc, matches)? {
-        Ok(calls) => calls,
-        Err(why) => return Ok(Err(why)),
-    };
-    Ok(Ok(RecordingOptions {
-        budget: most,
-        random: start,
-        profile: calls,
-        input: given_text(alloc, matches, INPUT)?,
-        output: given_text(alloc, matches, OUTPUT)?,
-    }))
 }

@@ -1,11 +1,18 @@
 //! The arguments of `ir shrink`.
 
+ghost use Rattle.std.specs.Prelude.{◌≡◌, IfOk, codes};
+ghost use Rattle.std.specs.Result.{result_ok};
+ghost use Rattle.ir_arguments.specs.Asking.{seconds_in, shrinking_asked};
+ghost use Rattle.ir_arguments.specs.Values.{rows_in};
+ghost use Rattle.ir_arguments.specs.Views.{request_of};
+
 use crate::asked::Asked;
 use crate::condition_text::ConditionText;
 use crate::conditions::{conditions_of, stale_by};
-use crate::recording::{INPUT, OUTPUT, input_arg, output_arg, random_arg, random_in};
+use crate::options::random_in;
+use crate::recording::{INPUT, OUTPUT, input_arg, output_arg, random_arg};
 use crate::subcommands::Row;
-use crate::values::{IMAGE, TRACE, UNTIL, file_arg, given_text, image_arg, text_of};
+use crate::values::{IMAGE, TRACE, UNTIL, file_arg, given, given_text, image_arg, text_of};
 use clap::{Arg, ArgAction, ArgMatches, Command};
 use ir_record_command::number_within;
 use std::alloc::{AllocError, Global};
@@ -40,7 +47,9 @@ and a line says which, 6 the time was over: OUT is the best run so far.
 ";
 
 /// What the help says of it, beside its arguments.
-pub fn row<'a>() -> Row<'a> {
+pub fn row<'a>() -> Row<'a>
+    ensures { result.name.now ≡ codes "shrink" }
+{
     Row {
         name: "shrink",
         about: "Records a run with fewer context switches that fulfils the same conditions",
@@ -111,8 +120,10 @@ pub fn with_arguments<'a>(alloc: Global, command: Command<'a>) -> Result<Command
 fn seconds_by(
     alloc: Global,
     matches: &ArgMatches<'_>,
-) -> Result<Result<Option<u32>, String>, AllocError> {
-    let Some(text) = matches.get_str(SECONDS) else {
+) -> Result<Result<Option<u32>, String>, AllocError>
+    ensures { IfOk result (λ read. result_ok read ≡ seconds_in (rows_in matches.now)) }
+{
+    let Some(text) = given(matches, SECONDS) else {
         return Ok(Ok(None));
     };
     match number_within(1, MOST_SECONDS, text) {
@@ -124,7 +135,10 @@ fn seconds_by(
 }
 
 /// What its arguments ask for.
-pub fn asked(alloc: Global, matches: &ArgMatches<'_>) -> Result<Asked, AllocError> {
+#[tactic(auto, unfolding(crate::specs::Asking::shrinking_in))]
+pub fn asked(alloc: Global, matches: &ArgMatches<'_>) -> Result<Asked, AllocError>
+    ensures { IfOk result (λ asked. request_of asked ≡ shrinking_asked (rows_in matches.now)) }
+{
     let until = match conditions_of(alloc, matches)? {
         Ok(until) => until,
         Err(why) => return Ok(Asked::Nothing(why)),

@@ -1,5 +1,10 @@
 //! The arguments of `ir stale`.
 
+ghost use Rattle.std.specs.Prelude.{◌≡◌, IfOk, codes};
+ghost use Rattle.ir_arguments.specs.Asking.{stale_asked};
+ghost use Rattle.ir_arguments.specs.Values.{rows_in};
+ghost use Rattle.ir_arguments.specs.Views.{request_of};
+
 use crate::asked::{Asked, Print};
 use crate::subcommands::Row;
 use crate::values::{FROM_IMAGE, TRACE, file_arg, from_image_arg, given_text, text_of};
@@ -30,7 +35,9 @@ written, 2 bad arguments, 3 a refused image or trace, 4 an incoherent trace, or 
 ";
 
 /// What the help says of it, beside its arguments.
-pub fn row<'a>() -> Row<'a> {
+pub fn row<'a>() -> Row<'a>
+    ensures { result.name.now ≡ codes "stale" }
+{
     Row {
         name: "stale",
         about: "Prints the writes that may rest on a read that was written over",
@@ -58,7 +65,9 @@ pub fn with_arguments<'a>(alloc: Global, command: Command<'a>) -> Result<Command
 }
 
 /// What its arguments ask for.
-pub fn asked(alloc: Global, matches: &ArgMatches<'_>) -> Result<Asked, AllocError> {
+pub fn asked(alloc: Global, matches: &ArgMatches<'_>) -> Result<Asked, AllocError>
+    ensures { IfOk result (λ asked. request_of asked ≡ stale_asked (rows_in matches.now)) }
+{
     Ok(Asked::Print(Print::Stale(StaleArguments {
         trace: text_of(alloc, matches, TRACE)?,
         image: given_text(alloc, matches, FROM_IMAGE)?,

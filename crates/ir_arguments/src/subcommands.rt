@@ -1,9 +1,14 @@
 //! The subcommands, in one table.
 
+ghost use Rattle.std.specs.Prelude.{◌≡◌, find, IfOk};
+ghost use Rattle.ir_arguments.specs.Subcommands.{asked_by, is_named, name_of, subcommand_named};
+ghost use Rattle.ir_arguments.specs.Values.{rows_in};
+ghost use Rattle.ir_arguments.specs.Views.{request_of};
+
 use crate::asked::Asked;
 use crate::{
-    assemble, debug, diff, elf, events, explore, gdb, hunt, list, record, shrink, stale, trace,
-    view, who, why,
+    assemble, debug, diff, elf, events, explore, exploring, gdb, hunt, list, record, shrink, stale,
+    trace, view, who, why,
 };
 use clap::{ArgMatches, Command};
 use std::alloc::{AllocError, Global};
@@ -59,7 +64,9 @@ pub struct Row<'a> {
 
 impl Subcommand {
     /// Its name, what it does, and what follows its help.
-    pub fn row<'a>(self) -> Row<'a> {
+    pub fn row<'a>(self) -> Row<'a>
+        ensures { result.name.now ≡ name_of self }
+    {
         match self {
             Subcommand::Assemble => assemble::row(),
             Subcommand::Elf => elf::row(),
@@ -107,7 +114,9 @@ impl Subcommand {
     }
 
     /// What its arguments ask for.
-    pub fn asked(self, alloc: Global, matches: &ArgMatches<'_>) -> Result<Asked, AllocError> {
+    pub fn asked(self, alloc: Global, matches: &ArgMatches<'_>) -> Result<Asked, AllocError>
+        ensures { IfOk result (λ asked. request_of asked ≡ asked_by self (rows_in matches.now)) }
+    {
         match self {
             Subcommand::Assemble => assemble::asked(alloc, matches),
             Subcommand::Elf => elf::asked(alloc, matches),
@@ -115,7 +124,7 @@ impl Subcommand {
             Subcommand::Record => record::asked(alloc, matches),
             Subcommand::Hunt => hunt::asked(alloc, matches),
             Subcommand::Shrink => shrink::asked(alloc, matches),
-            Subcommand::Explore => explore::asked(alloc, matches),
+            Subcommand::Explore => exploring::asked(alloc, matches),
             Subcommand::Debug => debug::asked(alloc, matches),
             Subcommand::Gdb => gdb::asked(alloc, matches),
             Subcommand::Trace => trace::asked(alloc, matches),
@@ -127,4 +136,24 @@ impl Subcommand {
             Subcommand::View => view::asked(alloc, matches),
         }
     }
+}
+
+// The first of these subcommands that has the name.
+#[tactic(auto, using(crate::proofs::Names::found_here, crate::proofs::Names::found_later, crate::proofs::Names::found_nowhere))]
+fn first_named(subcommands: &[Subcommand], name: &str) -> Option<Subcommand>
+    ensures { result ≡ find (is_named name.now) subcommands.now }
+{
+    'subcommands: for &subcommand in subcommands {
+        if subcommand.row().name == name {
+            return Some(subcommand);
+        }
+    }
+    None
+}
+
+/// The subcommand of this name, if there is one.
+pub fn subcommand_named(name: &str) -> Option<Subcommand>
+    ensures { result ≡ subcommand_named name.now }
+{
+    first_named(SUBCOMMANDS.as_slice(), name)
 }

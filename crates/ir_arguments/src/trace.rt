@@ -1,5 +1,10 @@
 //! The arguments of `ir trace`.
 
+ghost use Rattle.std.specs.Prelude.{◌≡◌, IfOk, codes};
+ghost use Rattle.ir_arguments.specs.Asking.{trace_asked};
+ghost use Rattle.ir_arguments.specs.Values.{rows_in};
+ghost use Rattle.ir_arguments.specs.Views.{request_of};
+
 use crate::asked::{Asked, Print};
 use crate::subcommands::Row;
 use crate::values::{TRACE, file_arg, text_of};
@@ -23,7 +28,9 @@ Exit status: 0 printed, 1 a file that can't be read or standard output that can'
 ";
 
 /// What the help says of it, beside its arguments.
-pub fn row<'a>() -> Row<'a> {
+pub fn row<'a>() -> Row<'a>
+    ensures { result.name.now ≡ codes "trace" }
+{
     Row {
         name: "trace",
         about: "Prints a trace in lines",
@@ -44,7 +51,9 @@ pub fn with_arguments<'a>(alloc: Global, command: Command<'a>) -> Result<Command
 }
 
 /// What its arguments ask for.
-pub fn asked(alloc: Global, matches: &ArgMatches<'_>) -> Result<Asked, AllocError> {
+pub fn asked(alloc: Global, matches: &ArgMatches<'_>) -> Result<Asked, AllocError>
+    ensures { IfOk result (λ asked. request_of asked ≡ trace_asked (rows_in matches.now)) }
+{
     Ok(Asked::Print(Print::Trace(TraceArguments {
         trace: text_of(alloc, matches, TRACE)?,
     })))

@@ -1,9 +1,19 @@
 //! The arguments of `ir view`.
 
+ghost use Rattle.std.specs.Prelude.{◌≡◌, codes, map, IfOk};
+ghost use Rattle.std.specs.Result.{result_ok};
+ghost use Rattle.ir_arguments.specs.Reading.{large_number};
+ghost use Rattle.ir_arguments.specs.Asking.{picture_asked, part_in, part_of_texts};
+ghost use Rattle.ir_arguments.specs.Values.{rows_in, text_for};
+ghost use Rattle.ir_arguments.specs.Views.{request_of};
+
 use crate::asked::{Asked, Print};
-use crate::recording::no_number;
+use crate::options::no_number;
 use crate::subcommands::Row;
-use crate::values::{FROM_IMAGE, TRACE, file_arg, from_image_arg, given_text, number_in, text_of};
+use crate::values::{
+    FROM_IMAGE, TRACE, file_arg, from_image_arg, given_text, has_flag, number_in, text_for,
+    text_of, texts_for,
+};
 use clap::{Arg, ArgAction, ArgMatches, Command};
 use ir_record_command::number_within;
 use std::alloc::{AllocError, Global};
@@ -29,7 +39,9 @@ boxes.
 ";
 
 /// What the help says of it, beside its arguments.
-pub fn row<'a>() -> Row<'a> {
+pub fn row<'a>() -> Row<'a>
+    ensures { result.name.now ≡ codes "view" }
+{
     Row {
         name: "view",
         about: "Prints a picture of a trace as an HTML page",
@@ -118,24 +130,25 @@ pub fn with_arguments<'a>(alloc: Global, command: Command<'a>) -> Result<Command
 }
 
 // How far the part goes, or else what is wrong with the number.
-fn span_of(alloc: Global, matches: &ArgMatches<'_>) -> Result<Result<u64, String>, AllocError> {
-    let text = matches.get_str(SPAN).unwrap_or_default();
+fn span_of(alloc: Global, matches: &ArgMatches<'_>) -> Result<Result<u64, String>, AllocError>
+    ensures { IfOk result (λ read. result_ok read ≡ large_number (text_for (rows_in matches.now) (codes "span"))) }
+{
+    let text = text_for(matches, SPAN);
     match number_within(0, u64::MAX, text) {
         Some(span) => Ok(Ok(span)),
         None => Ok(Err(no_number(alloc, SPAN, text, u64::MAX)?)),
     }
 }
 
-// The part that is asked for, if one is, or else what is wrong with it.
-fn part_of(
+// The part around the event that two texts give, or else what is wrong with them.
+fn part_around(
     alloc: Global,
-    matches: &ArgMatches<'_>,
-) -> Result<Result<Option<Part>, String>, AllocError> {
-    let span = match span_of(alloc, matches)? {
-        Ok(span) => span,
-        Err(why) => return Ok(Err(why)),
-    };
-    let Some([thread, event]) = matches.get_strs(AROUND) else {
+    span: u64,
+    texts: &[&str],
+) -> Result<Result<Option<Part>, String>, AllocError>
+    ensures { IfOk result (λ read. result_ok read ≡ part_of_texts span (map (λ s. s.now) texts.now)) }
+{
+    let [thread, event] = texts else {
         return Ok(Ok(None));
     };
     let thread = match number_in(alloc, "--around", thread)? {
@@ -152,16 +165,32 @@ fn part_of(
     }
 }
 
+// The part that is asked for, if one is, or else what is wrong with it.
+fn part_of(
+    alloc: Global,
+    matches: &ArgMatches<'_>,
+) -> Result<Result<Option<Part>, String>, AllocError>
+    ensures { IfOk result (λ read. result_ok read ≡ part_in (rows_in matches.now)) }
+{
+    match span_of(alloc, matches)? {
+        Ok(span) => part_around(alloc, span, texts_for(matches, AROUND)),
+        Err(why) => Ok(Err(why)),
+    }
+}
+
 /// What its arguments ask for.
-pub fn asked(alloc: Global, matches: &ArgMatches<'_>) -> Result<Asked, AllocError> {
+#[tactic(auto, unfolding(crate::specs::Asking::picture_in))]
+pub fn asked(alloc: Global, matches: &ArgMatches<'_>) -> Result<Asked, AllocError>
+    ensures { IfOk result (λ asked. request_of asked ≡ picture_asked (rows_in matches.now)) }
+{
     let part = match part_of(alloc, matches)? {
         Ok(part) => part,
         Err(why) => return Ok(Asked::Nothing(why)),
     };
     Ok(Asked::Print(Print::View(ViewArguments {
         trace: text_of(alloc, matches, TRACE)?,
-        json: matches.get_flag(JSON),
-        chrome: matches.get_flag(CHROME),
+        json: has_flag(matches, JSON),
+        chrome: has_flag(matches, CHROME),
         part,
         image: given_text(alloc, matches, FROM_IMAGE)?,
     })))

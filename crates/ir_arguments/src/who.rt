@@ -1,8 +1,16 @@
 //! The arguments of `ir who`.
 
+ghost use Rattle.std.specs.Prelude.{◌≡◌, IfOk, codes};
+ghost use Rattle.ir_arguments.specs.Asking.{versions_asked};
+ghost use Rattle.ir_arguments.specs.Values.{rows_in};
+ghost use Rattle.ir_arguments.specs.Views.{request_of};
+
 use crate::asked::{Asked, Print};
 use crate::subcommands::Row;
-use crate::values::{FROM_IMAGE, TRACE, file_arg, from_image_arg, given_text, number_in, text_of};
+use crate::values::{
+    FROM_IMAGE, TRACE, file_arg, from_image_arg, given_number, given_text, number_in, text_for,
+    text_of,
+};
 use clap::{Arg, ArgMatches, Command};
 use std::alloc::{AllocError, Global};
 
@@ -26,7 +34,9 @@ version or a word that isn't there, 3 a refused image or trace, 4 an incoherent 
 ";
 
 /// What the help says of it, beside its arguments.
-pub fn row<'a>() -> Row<'a> {
+pub fn row<'a>() -> Row<'a>
+    ensures { result.name.now ≡ codes "who" }
+{
     Row {
         name: "who",
         about: "Prints who made and who read the versions of an object",
@@ -85,23 +95,12 @@ pub fn with_arguments<'a>(alloc: Global, command: Command<'a>) -> Result<Command
         )
 }
 
-// The number of an argument, if it is given, or else what is wrong with it.
-fn given_number(
-    alloc: Global,
-    matches: &ArgMatches<'_>,
-    argument: &str,
-    name: &str,
-) -> Result<Result<Option<u32>, String>, AllocError> {
-    let Some(text) = matches.get_str(argument) else {
-        return Ok(Ok(None));
-    };
-    Ok(number_in(alloc, name, text)?.map(Some))
-}
-
 /// What its arguments ask for.
-pub fn asked(alloc: Global, matches: &ArgMatches<'_>) -> Result<Asked, AllocError> {
-    let text = matches.get_str(OBJECT).unwrap_or_default();
-    let object = match number_in(alloc, OBJECT, text)? {
+#[tactic(auto, unfolding(crate::specs::Asking::versions_in))]
+pub fn asked(alloc: Global, matches: &ArgMatches<'_>) -> Result<Asked, AllocError>
+    ensures { IfOk result (λ asked. request_of asked ≡ versions_asked (rows_in matches.now)) }
+{
+    let object = match number_in(alloc, OBJECT, text_for(matches, OBJECT))? {
         Ok(object) => object,
         Err(why) => return Ok(Asked::Nothing(why)),
     };

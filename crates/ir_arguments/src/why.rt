@@ -1,9 +1,17 @@
 //! The arguments of `ir why`.
 
+ghost use Rattle.std.specs.Prelude.{◌≡◌, codes, option_map, IfOk};
+ghost use Rattle.std.specs.Result.{result_ok};
+ghost use Rattle.ir_arguments.specs.Reading.{if_given, large_numbers, small_number};
+ghost use Rattle.ir_arguments.specs.Asking.{reasons_asked};
+ghost use Rattle.ir_arguments.specs.Values.{rows_in, given, text_for};
+ghost use Rattle.ir_arguments.specs.Views.{request_of};
+
 use crate::asked::{Asked, Print};
 use crate::subcommands::Row;
 use crate::values::{
-    FROM_IMAGE, TRACE, file_arg, from_image_arg, given_text, number_in, numbers_in, text_of,
+    FROM_IMAGE, TRACE, file_arg, from_image_arg, given, given_text, number_in, numbers_in,
+    text_for, text_of,
 };
 use clap::{Arg, ArgMatches, Command};
 use std::alloc::{AllocError, Global};
@@ -32,7 +40,9 @@ or a trace of no run of the image.
 ";
 
 /// What the help says of it, beside its arguments.
-pub fn row<'a>() -> Row<'a> {
+pub fn row<'a>() -> Row<'a>
+    ensures { result.name.now ≡ codes "why" }
+{
     Row {
         name: "why",
         about: "Prints what an event needs, and the chain of waits that led to it",
@@ -109,12 +119,33 @@ fn number_of(
     matches: &ArgMatches<'_>,
     argument: &str,
     name: &str,
-) -> Result<Result<u32, String>, AllocError> {
-    number_in(alloc, name, matches.get_str(argument).unwrap_or_default())
+) -> Result<Result<u32, String>, AllocError>
+    ensures { IfOk result (λ read. result_ok read ≡ small_number (text_for (rows_in matches.now) argument.now)) }
+{
+    number_in(alloc, name, text_for(matches, argument))
+}
+
+// The positions of a cut, if they are given, or else what is wrong with them.
+fn positions_of(
+    alloc: Global,
+    matches: &ArgMatches<'_>,
+) -> Result<Result<Option<Vec<u64>>, String>, AllocError>
+    ensures { IfOk result (λ read. option_map (option_map (λ v. v.items)) (result_ok read) ≡ if_given large_numbers (given (rows_in matches.now) (codes "at"))) }
+{
+    let Some(text) = given(matches, AT) else {
+        return Ok(Ok(None));
+    };
+    match numbers_in(alloc, "--at", text)? {
+        Ok(positions) => Ok(Ok(Some(positions))),
+        Err(why) => Ok(Err(why)),
+    }
 }
 
 /// What its arguments ask for.
-pub fn asked(alloc: Global, matches: &ArgMatches<'_>) -> Result<Asked, AllocError> {
+#[tactic(auto, unfolding(crate::specs::Asking::reasons_in))]
+pub fn asked(alloc: Global, matches: &ArgMatches<'_>) -> Result<Asked, AllocError>
+    ensures { IfOk result (λ asked. request_of asked ≡ reasons_asked (rows_in matches.now)) }
+{
     let thread = match number_of(alloc, matches, THREAD, THREAD)? {
         Ok(thread) => thread,
         Err(why) => return Ok(Asked::Nothing(why)),
@@ -127,12 +158,9 @@ pub fn asked(alloc: Global, matches: &ArgMatches<'_>) -> Result<Asked, AllocErro
         Ok(lines) => lines,
         Err(why) => return Ok(Asked::Nothing(why)),
     };
-    let at = match matches.get_str(AT) {
-        None => None,
-        Some(text) => match numbers_in(alloc, "--at", text)? {
-            Ok(positions) => Some(positions),
-            Err(why) => return Ok(Asked::Nothing(why)),
-        },
+    let at = match positions_of(alloc, matches)? {
+        Ok(at) => at,
+        Err(why) => return Ok(Asked::Nothing(why)),
     };
     Ok(Asked::Print(Print::Why(WhyArguments {
         trace: text_of(alloc, matches, TRACE)?,

@@ -1,0 +1,9 @@
+pub mod Asking
+pub mod Conditions
+pub mod Exploring
+pub mod Parsing
+pub mod Reading
+pub mod Requests
+pub mod Subcommands
+pub mod Values
+pub mod Views
