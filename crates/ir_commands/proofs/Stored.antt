@@ -22,16 +22,19 @@ use Rattle.ir_trace.specs.Recorded.{Recorded}
 use Rattle.ir_commands.specs.Files.{TellsFault}
 
 -- a file that was made for a place of a folder, and is put where it was made for, is stored there
-pub stored_in_place : {D File : Type 0} (knows : D → Bool) (was_put : D → List ℕ → List ℕ → Bool) (known : File → KnownFile) (folder first last : D)
-    (place one other : List ℕ) (old made : Option File) (bytes : List ℕ) → first ≡ folder → one ≡ place → ◌≡◌ {A = D × List ℕ} (last, other) (first, one)
-    → given_bytes (knows first) known old ≡ fresh (knows folder) → is_put (was_put last) known made other ≡ true
-    → Appends (given_bytes (knows first) known old) (given_bytes (knows last) known made) bytes → IsStored (knows folder) (was_put folder) place bytes
-stored_in_place {D} {File} knows was_put known folder first last place one other old made bytes of at home empty put grown =
+pub stored_in_place : {D Made File : Type 0} (known : File → KnownFile) (knows : D → Bool) (was_put : D → List ℕ → List ℕ → Bool) (file : Made → File)
+    (folder first last : D) (place one other : List ℕ) (old made : Option Made) (bytes : List ℕ) → first ≡ folder → one ≡ place
+    → ◌≡◌ {A = D × List ℕ} (last, other) (first, one)
+    → given_bytes (knows first) (λ m. known (file m)) old ≡ fresh (knows folder) → is_put (was_put last) (λ m. known (file m)) made other ≡ true
+    → Appends (given_bytes (knows first) (λ m. known (file m)) old) (given_bytes (knows last) (λ m. known (file m)) made) bytes
+    → IsStored known (knows folder) (was_put folder) place bytes
+stored_in_place {D} {Made} {File} known knows was_put file folder first last place one other old made bytes of at home empty put grown =
     let same : last ≡ folder = ap (λ (h : D × List ℕ). h.0) home ∙ of in
     let there : other ≡ place = ap (λ (h : D × List ℕ). h.1) home ∙ at in
-    put_file_is_stored (knows folder) (was_put folder) known made place bytes (given_bytes (knows first) known old) empty
-    (subst (λ z. is_put (was_put folder) known made z ≡ true) there (subst (λ (d : D). is_put (was_put d) known made other ≡ true) same put))
-    (subst (λ (d : D). Appends (given_bytes (knows first) known old) (given_bytes (knows d) known made) bytes) same grown)
+    let by : Made → KnownFile = λ m. known (file m) in
+    put_file_is_stored known (knows folder) (was_put folder) file made place bytes (given_bytes (knows first) by old) empty
+    (subst (λ z. is_put (was_put folder) by made z ≡ true) there (subst (λ (d : D). is_put (was_put d) by made other ≡ true) same put))
+    (subst (λ (d : D). Appends (given_bytes (knows first) by old) (given_bytes (knows d) by made) bytes) same grown)
 
 -- the status where a file is told of that an ELF file was to be made into
 pub told_is_one : {result own : ExitStatus} → (result ≡ own) ⊎ (result ≡ status.Failed)

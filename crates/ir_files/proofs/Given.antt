@@ -29,9 +29,9 @@ output_has_last items text known all paths old new file thread path some short s
     (text path, slice_get-map text (items paths) thread ∙ ap (option_map text) found, (file, e, t, at))
 
 -- a file that was put in its place with all that it was given is stored there
-pub put_file_is_stored : {File : Type 0} (knows : Bool) (was_put : List ℕ → List ℕ → Bool) (known : File → KnownFile) (made : Option File) (place bytes : List ℕ)
-    (old : Option (List ℕ)) → old ≡ fresh knows → is_put was_put known made place ≡ true → Appends old (given_bytes knows known made) bytes
-    → IsStored knows was_put place bytes
-put_file_is_stored knows was_put known None place bytes old e put p = absurd (true≢false (sym put))
-put_file_is_stored knows was_put known (Some m) place bytes old e put p =
-    record { file = known m; stands = put; has = new_file_has_given knows (known m) old bytes e p }
+pub put_file_is_stored : {Made File : Type 0} (known : File → KnownFile) (knows : Bool) (was_put : List ℕ → List ℕ → Bool) (file : Made → File) (made : Option Made)
+    (place bytes : List ℕ) (old : Option (List ℕ)) → old ≡ fresh knows → is_put was_put (λ m. known (file m)) made place ≡ true
+    → Appends old (given_bytes knows (λ m. known (file m)) made) bytes → IsStored known knows was_put place bytes
+put_file_is_stored known knows was_put file None place bytes old e put p = absurd (true≢false (sym put))
+put_file_is_stored known knows was_put file (Some m) place bytes old e put p =
+    record { file = file m; stands = put; has = new_file_has_given knows (known (file m)) old bytes e p }

@@ -49,8 +49,8 @@ abbrev pub is_put : {File : Type 0} → (List ℕ → List ℕ → Bool) → (Fi
 is_put was_put known None place = false
 is_put was_put known (Some file) place = stands_at was_put (known file) place
 
--- a file stands at a place and was given these bytes and no others, as far as it is known where files stand and what they are given
-pub record IsStored (knows : Bool) (was_put : List ℕ → List ℕ → Bool) (place bytes : List ℕ) : Type 0 where
-  pub file : KnownFile
-  pub stands : stands_at was_put file place ≡ true
-  pub has : Has knows file bytes
+-- a file that was opened stands at a place and was given these bytes and no others, as far as it is known where files stand and what they are given
+pub record IsStored {File : Type 0} (known : File → KnownFile) (knows : Bool) (was_put : List ℕ → List ℕ → Bool) (place bytes : List ℕ) : Type 0 where
+  pub file : File
+  pub stands : stands_at was_put (known file) place ≡ true
+  pub has : Has knows (known file) bytes
