@@ -16,7 +16,7 @@ use Rattle.ir_arguments.specs.declared.subcommands.Subcommand.{Subcommand}
 use Rattle.ir_arguments.specs.Subcommands.{is_named, name_of}
 use Rattle.ir_arguments.specs.Values.{Rows, rows_in}
 
-drop_begins : (xs : List Subcommand) (i : ℕ) (x : Subcommand) → i < length xs → x ≡ get_or xs i x → drop i xs ≡ x ∷ drop (i + 1) xs
+pub drop_begins : {X : Type 0} (xs : List X) (i : ℕ) (x : X) → i < length xs → x ≡ get_or xs i x → drop i xs ≡ x ∷ drop (i + 1) xs
 drop_begins [] i x l is = absurd (omega (arith, l))
 drop_begins (y ∷ xs) zero x l is = ap (λ z. z ∷ xs) (sym is)
 drop_begins (y ∷ xs) (suc i) x l is = drop_begins xs i x (omega (arith, l)) is

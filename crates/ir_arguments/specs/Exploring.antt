@@ -56,15 +56,18 @@ switches_given (Some text) = number_within 0 1000000 text
 abbrev pub outcomes_in : Rows → Option (Option ℕ)
 outcomes_in rows = if_given (number_within 1 100000000) (given rows (codes "max"))
 
+-- the most seconds and outcomes, if they are bounded
+abbrev pub ends_in : Rows → Option (Option ℕ × Option ℕ)
+ends_in rows = seconds_in rows >>= λ seconds. outcomes_in rows >>= λ outcomes. Some (seconds, outcomes)
+
 -- how far a guest is explored: the most states, steps of a thread and switches, and the most seconds and outcomes, if they are bounded
 unfoldable pub reach_in : Rows → Option (ℕ × ℕ × ℕ × Option ℕ × Option ℕ)
 reach_in rows = do
   states ← number_within 1 100000000 (text_for rows (codes "states"))
   private ← number_within 1 1000000000000 (text_for rows (codes "private"))
   switches ← switches_given (given rows (codes "switches"))
-  seconds ← seconds_in rows
-  outcomes ← outcomes_in rows
-  Some (states, private, switches, seconds, outcomes)
+  ends ← ends_in rows
+  Some (states, private, switches, ends.0, ends.1)
 
 -- which guest is explored, how far, and what answers it
 unfoldable pub exploration_in : Rows → Option Exploration

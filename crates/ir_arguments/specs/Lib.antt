@@ -1,6 +1,8 @@
 pub mod Asking
+pub mod Bonds
 pub mod Conditions
 pub mod Exploring
+pub mod Parser
 pub mod Parsing
 pub mod Reading
 pub mod Requests

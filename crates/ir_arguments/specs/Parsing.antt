@@ -1,10 +1,9 @@
 -- What a command line asks for.
-use Rattle.std.specs.Prelude.{◌≡◌, ◌⊎◌, true, List}
-use Rattle.clap.specs.Words.{App, HasMatchesOf, Text, kind_of, subcommand_rows_of, takes}
-use Rattle.clap.specs.declared.error.Error.{Error}
+use Rattle.std.specs.Prelude.{◌≡◌, ◌⊎◌, List, []}
+use Rattle.clap.specs.Words.{IsAmong, Text, fault_of, subcommand_of}
 use Rattle.clap.specs.declared.error.kind.ErrorKind.{ErrorKind}
 use Rattle.clap.specs.declared.error.kind.ErrorKind.TheVariants as kind
-use Rattle.clap.specs.declared.parser.matches.ArgMatches.{ArgMatches}
+use Rattle.ir_arguments.specs.Parser.{ir_app}
 use Rattle.ir_arguments.specs.Requests.{Request, Help, NoMemory, Nothing}
 use Rattle.ir_arguments.specs.Subcommands.{request_by}
 
@@ -19,18 +18,16 @@ request_at_fault _ = Nothing
 abbrev pub IsOrNoMemory : Request → Request → Type 0
 IsOrNoMemory wanted asked = (asked ≡ wanted) ⊎ (asked ≡ NoMemory)
 
--- clap's matches on these words for such a command ask for it
-pub record IsOfMatches (app : App) (words : List Text) (asked : Request) : Type 0 where
-  pub matches : ArgMatches
-  pub are_matches : HasMatchesOf app words matches
-  pub is_asked : IsOrNoMemory (request_by (subcommand_rows_of matches)) asked
+-- clap takes the words, and the subcommand that they name asks for it by its rows
+abbrev pub IsOfMatches : List Text → Request → Type 0
+IsOfMatches words asked = (fault_of ir_app words ≡ []) × (asked ≡ request_by (subcommand_of ir_app words))
 
--- clap's fault on these words for such a command asks for it
-pub record IsOfFault (app : App) (words : List Text) (asked : Request) : Type 0 where
-  pub fault : Error
-  pub is_fault : takes app words ≡ true → kind_of fault ≡ kind.OutOfMemory
-  pub is_asked : IsOrNoMemory (request_at_fault (kind_of fault)) asked
+-- clap doesn't take the words, and its fault asks for it
+pub record IsOfFault (words : List Text) (asked : Request) : Type 0 where
+  pub fault : ErrorKind
+  pub is_fault : IsAmong fault (fault_of ir_app words)
+  pub is_asked : asked ≡ request_at_fault fault
 
--- what the words ask for, of which the first is the program's name
-abbrev pub IsAskedBy : App → List Text → Request → Type 0
-IsAskedBy app words asked = IsOfMatches app words asked ⊎ IsOfFault app words asked
+-- what the words ask for, of which the first is the program's name, unless memory ran out
+abbrev pub IsAskedBy : List Text → Request → Type 0
+IsAskedBy words asked = (asked ≡ NoMemory) ⊎ (IsOfMatches words asked ⊎ IsOfFault words asked)

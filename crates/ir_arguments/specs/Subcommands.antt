@@ -1,5 +1,5 @@
 -- The subcommands by their names, and what each asks for.
-use Rattle.std.specs.Prelude.{ℕ, Bool, List, [], ◌∷◌, codes, find, Option, Some, None}
+use Rattle.std.specs.Prelude.{ℕ, Bool, List, [], ◌∷◌, codes, find, Option, Some, None, if◌then◌else◌}
 use Rattle.std.specs.Option.{option_map_or}
 use Rattle.std.specs.Str.{bytes_eq}
 use Rattle.clap.specs.Words.{Text}
@@ -9,7 +9,8 @@ use Rattle.ir_arguments.specs.Asking.{assembly_asked, conversion_asked, code_ask
 use Rattle.ir_arguments.specs.Asking.{gdb_asked, trace_asked, events_asked, stale_asked, versions_asked, reasons_asked, difference_asked}
 use Rattle.ir_arguments.specs.Asking.{picture_asked}
 use Rattle.ir_arguments.specs.Exploring.{exploring_asked}
-use Rattle.ir_arguments.specs.Requests.{Request, Session}
+use Rattle.ir_arguments.specs.Bonds.{may_be_given}
+use Rattle.ir_arguments.specs.Requests.{Nothing, Request, Session}
 use Rattle.ir_arguments.specs.Values.{Rows}
 
 -- the name by which a command line names it
@@ -63,7 +64,11 @@ is_named name s = bytes_eq (name_of s) name
 abbrev pub subcommand_named : Text → Option Subcommand
 subcommand_named name = find (is_named name) subcommands
 
+-- what its arguments ask for, if they may be given together
+abbrev pub asked_if_given : Subcommand → Rows → Request
+asked_if_given s rows = if may_be_given s rows then asked_by s rows else Nothing
+
 -- what the subcommand asks for that clap's matches have, by its name and its rows; without one a session
 abbrev pub request_by : Option (Text × Rows) → Request
 request_by None = Session
-request_by (Some used) = option_map_or (λ s. asked_by s used.1) (subcommand_named used.0) Session
+request_by (Some used) = option_map_or (λ s. asked_if_given s used.1) (subcommand_named used.0) Session

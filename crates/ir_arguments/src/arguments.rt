@@ -1,16 +1,16 @@
 //! The command-line arguments.
 
-ghost use Rattle.std.specs.Prelude.{◌≡◌, ◌≢◌, ◌⊎◌, map, option_map, IfOk};
+ghost use Rattle.std.specs.Prelude.{◌≡◌, ◌≢◌, codes, map, option_map, IfOk};
 ghost use Rattle.std.specs.String.{string_bytes};
-ghost use Rattle.clap.specs.Words.{App, kind_of, subcommand_rows_of};
+ghost use Rattle.clap.specs.Words.{kind_of, subcommand_rows_of};
+ghost use Rattle.ir_arguments.specs.Parser.{app_in, bare_app, ir_app, with_version};
 ghost use Rattle.ir_arguments.specs.Parsing.{IsAskedBy, IsOrNoMemory, request_at_fault};
-ghost use Rattle.ir_arguments.specs.Requests.{NoMemory};
 ghost use Rattle.ir_arguments.specs.Subcommands.{request_by};
 ghost use Rattle.ir_arguments.specs.Values.{rows_in};
 ghost use Rattle.ir_arguments.specs.Views.{request_of};
 
 use crate::asked::Asked;
-use crate::subcommands::{SUBCOMMANDS, subcommand_named};
+use crate::subcommands::{SUBCOMMANDS, subcommand_named, with_subcommands};
 use clap::error::ErrorKind;
 use clap::{ArgMatches, Command, Error};
 use std::alloc::{AllocError, Global};
@@ -44,15 +44,22 @@ some run hangs, 141 nobody reads standard output any more.
 // So many edits make a word another one.
 const OTHER_WORD: usize = 3;
 
-// The parser of all arguments.
-fn command<'a>(alloc: Global) -> Result<Command<'a>, AllocError> {
-    let mut command = Command::new(alloc, "ir")
+// The program without its subcommands.
+fn bare_program<'a>(alloc: Global) -> Command<'a>
+    ensures { app_in result ≡ with_version (bare_app (codes "ir")) }
+{
+    Command::new(alloc, "ir")
         .version(VERSION)
         .about(ABOUT)
-        .after_help(AFTER);
-    for subcommand in &SUBCOMMANDS {
-        command = command.subcommand(subcommand.command(alloc)?)?;
-    }
+        .after_help(AFTER)
+}
+
+// The parser of all arguments.
+#[tactic(auto, using(crate::proofs::Apps::bin_name_kept))]
+fn command<'a>(alloc: Global) -> Result<Command<'a>, AllocError>
+    ensures { IfOk result (λ c. app_in c ≡ ir_app) }
+{
+    let command = with_subcommands(alloc, bare_program(alloc), SUBCOMMANDS.as_slice())?;
     command.bin_name("ir")
 }
 
@@ -161,7 +168,7 @@ fn by_matches(alloc: Global, matches: &ArgMatches<'_>) -> Asked
 
 /// What the arguments ask for, of which the first is the program's name.
 pub fn parsed(alloc: Global, arguments: &[String]) -> Asked
-    ensures { (request_of result ≡ NoMemory) ⊎ ((app : App) × IsAskedBy app (map string_bytes arguments.now) (request_of result)) }
+    ensures { IsAskedBy (map string_bytes arguments.now) (request_of result) }
 {
     let Ok(command) = command(alloc) else {
         return Asked::NoMem;

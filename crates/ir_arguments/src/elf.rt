@@ -4,11 +4,14 @@ ghost use Rattle.std.specs.Prelude.{◌≡◌, IfOk, codes};
 ghost use Rattle.ir_arguments.specs.Asking.{conversion_asked};
 ghost use Rattle.ir_arguments.specs.Values.{rows_in};
 ghost use Rattle.ir_arguments.specs.Views.{request_of};
+ghost use Rattle.ir_arguments.specs.Parser.{IsArgument, and_rules, app_in, flag, rules_of};
+ghost use Rattle.ir_arguments.specs.declared.subcommands.Subcommand.TheVariants as sub;
 
 use crate::asked::{Asked, Make};
+use crate::forms::{flag_arg, with_arg};
 use crate::subcommands::Row;
 use crate::values::{EXPLAIN, IMAGE, file_arg, has_flag, text_of};
-use clap::{Arg, ArgAction, ArgMatches, Command};
+use clap::{Arg, ArgMatches, Command};
 use std::alloc::{AllocError, Global};
 
 const ELF: &str = "ELF";
@@ -62,21 +65,26 @@ pub struct ElfArguments {
     pub explain: bool,
 }
 
-fn explain_arg<'a>(alloc: Global) -> Arg<'a> {
-    Arg::new(alloc, EXPLAIN)
-        .long(EXPLAIN)
-        .action(ArgAction::SetTrue)
-        .help(
-            "Explains a refusal, or tells how many bytes of variables each thread has for itself, as is done at a terminal",
-        )
+fn explain_arg<'a>(alloc: Global) -> Arg<'a>
+    ensures { IsArgument result (flag (codes "explain")) }
+{
+    flag_arg(
+        alloc,
+        EXPLAIN,
+        "Explains a refusal, or tells how many bytes of variables each thread has for itself, as is done at a terminal",
+    )
 }
 
 /// The command with its arguments.
-pub fn with_arguments<'a>(alloc: Global, command: Command<'a>) -> Result<Command<'a>, AllocError> {
-    command
-        .arg(file_arg(alloc, ELF, "The file with the program"))?
-        .arg(file_arg(alloc, IMAGE, "The file that the image is written to"))?
-        .arg(explain_arg(alloc))
+pub fn with_arguments<'a>(alloc: Global, command: Command<'a>) -> Result<Command<'a>, AllocError>
+    ensures { IfOk result (λ c. app_in c ≡ and_rules (app_in command.entry) (rules_of sub.Elf)) }
+{
+    let command = with_arg(command, file_arg(alloc, ELF, "The file with the program"))?;
+    let command = with_arg(
+        command,
+        file_arg(alloc, IMAGE, "The file that the image is written to"),
+    )?;
+    with_arg(command, explain_arg(alloc))
 }
 
 /// What its arguments ask for.

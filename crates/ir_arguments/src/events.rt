@@ -4,8 +4,11 @@ ghost use Rattle.std.specs.Prelude.{◌≡◌, IfOk, codes};
 ghost use Rattle.ir_arguments.specs.Asking.{events_asked};
 ghost use Rattle.ir_arguments.specs.Values.{rows_in};
 ghost use Rattle.ir_arguments.specs.Views.{request_of};
+ghost use Rattle.ir_arguments.specs.Parser.{and_rules, app_in, rules_of};
+ghost use Rattle.ir_arguments.specs.declared.subcommands.Subcommand.TheVariants as sub;
 
 use crate::asked::{Asked, Print};
+use crate::forms::with_arg;
 use crate::subcommands::Row;
 use crate::values::{IMAGE, MAP, TRACE, file_arg, given_text, image_arg, names_arg, text_of};
 use clap::{ArgMatches, Command};
@@ -46,11 +49,12 @@ pub struct EventsArguments {
 }
 
 /// The command with its arguments.
-pub fn with_arguments<'a>(alloc: Global, command: Command<'a>) -> Result<Command<'a>, AllocError> {
-    command
-        .arg(image_arg(alloc))?
-        .arg(file_arg(alloc, TRACE, "The file with the trace"))?
-        .arg(names_arg(alloc))
+pub fn with_arguments<'a>(alloc: Global, command: Command<'a>) -> Result<Command<'a>, AllocError>
+    ensures { IfOk result (λ c. app_in c ≡ and_rules (app_in command.entry) (rules_of sub.Events)) }
+{
+    let command = with_arg(command, image_arg(alloc))?;
+    let command = with_arg(command, file_arg(alloc, TRACE, "The file with the trace"))?;
+    with_arg(command, names_arg(alloc))
 }
 
 /// What its arguments ask for.

@@ -5,16 +5,19 @@ ghost use Rattle.std.specs.Result.{result_ok};
 ghost use Rattle.ir_arguments.specs.Asking.{bounds_in, hunt_asked, jobs_given, seconds_in, wanted_in};
 ghost use Rattle.ir_arguments.specs.Values.{rows_in, given};
 ghost use Rattle.ir_arguments.specs.Views.{request_of};
+ghost use Rattle.ir_arguments.specs.Parser.{IsArgument, and_rules, app_in, flag, needed_repeated, option, option_or, rules_of};
+ghost use Rattle.ir_arguments.specs.declared.subcommands.Subcommand.TheVariants as sub;
 
 use crate::asked::Asked;
 use crate::condition_text::ConditionText;
 use crate::conditions::{conditions_of, stale_by};
+use crate::forms::{flag_arg, needed_repeated_arg, option_arg, option_or_arg, with_arg};
 use crate::options::options_of;
 use crate::recording::{RecordingOptions, with_options};
 use crate::seeds::{by_arg, seeds_by, way_by};
 use crate::subcommands::Row;
 use crate::values::{IMAGE, TRACE, UNTIL, file_arg, given, has_flag, image_arg, text_for, text_of};
-use clap::{Arg, ArgAction, ArgMatches, Command};
+use clap::{Arg, ArgMatches, Command};
 use ir_record_command::number_within;
 use ir_schedule::{Seeds, Way};
 use std::alloc::{AllocError, Global};
@@ -101,63 +104,76 @@ pub struct HuntArguments {
     pub options: RecordingOptions,
 }
 
-fn seeds_arg<'a>(alloc: Global) -> Arg<'a> {
-    Arg::new(alloc, SEEDS)
-        .long(SEEDS)
-        .value_name("SEEDS")
-        .default_value("0+10000")
-        .help("The seeds that are tried: A..B, from A to B, or A+N, N from A on")
+fn seeds_arg<'a>(alloc: Global) -> Arg<'a>
+    ensures { IsArgument result (option_or (codes "seeds") (codes "0+10000")) }
+{
+    option_or_arg(
+        alloc,
+        SEEDS,
+        "SEEDS",
+        "0+10000",
+        "The seeds that are tried: A..B, from A to B, or A+N, N from A on",
+    )
 }
 
-fn until_arg<'a>(alloc: Global) -> Arg<'a> {
-    Arg::new(alloc, UNTIL)
-        .long(UNTIL)
-        .value_name("COND")
-        .required(true)
-        .action(ArgAction::Append)
-        .help("What has to hold of a run; given more than once, all of it")
+fn until_arg<'a>(alloc: Global) -> Arg<'a>
+    ensures { IsArgument result (needed_repeated (codes "until")) }
+{
+    needed_repeated_arg(
+        alloc,
+        UNTIL,
+        "COND",
+        "What has to hold of a run; given more than once, all of it",
+    )
 }
 
-fn jobs_arg<'a>(alloc: Global) -> Arg<'a> {
-    Arg::new(alloc, JOBS)
-        .long(JOBS)
-        .value_name("N")
-        .allow_negative_numbers(true)
-        .help(
-            "The most seeds that are run at once, from 1 to 64; without it as many as there are processors",
-        )
+fn jobs_arg<'a>(alloc: Global) -> Arg<'a>
+    ensures { IsArgument result (option (codes "jobs")) }
+{
+    option_arg(
+        alloc,
+        JOBS,
+        "N",
+        "The most seeds that are run at once, from 1 to 64; without it as many as there are processors",
+    )
 }
 
-fn seconds_arg<'a>(alloc: Global) -> Arg<'a> {
-    Arg::new(alloc, SECONDS)
-        .long(SECONDS)
-        .value_name("N")
-        .allow_negative_numbers(true)
-        .help(
-            "The seconds after which no further seeds are begun, from 1 to 1000000; without it all seeds are tried",
-        )
+fn seconds_arg<'a>(alloc: Global) -> Arg<'a>
+    ensures { IsArgument result (option (codes "seconds")) }
+{
+    option_arg(
+        alloc,
+        SECONDS,
+        "N",
+        "The seconds after which no further seeds are begun, from 1 to 1000000; without it all seeds are tried",
+    )
 }
 
-fn shrink_arg<'a>(alloc: Global) -> Arg<'a> {
-    Arg::new(alloc, SHRINK)
-        .long(SHRINK)
-        .action(ArgAction::SetTrue)
-        .help(
-            "Then shrinks what was found, as `ir shrink` does: TRACE is of the run with fewer context switches",
-        )
+fn shrink_arg<'a>(alloc: Global) -> Arg<'a>
+    ensures { IsArgument result (flag (codes "shrink")) }
+{
+    flag_arg(
+        alloc,
+        SHRINK,
+        "Then shrinks what was found, as `ir shrink` does: TRACE is of the run with fewer context switches",
+    )
 }
 
 /// The command with its arguments.
-pub fn with_arguments<'a>(alloc: Global, command: Command<'a>) -> Result<Command<'a>, AllocError> {
-    let command = command
-        .arg(image_arg(alloc))?
-        .arg(file_arg(alloc, TRACE, "The file that the trace is written to"))?
-        .arg(seeds_arg(alloc))?
-        .arg(until_arg(alloc))?
-        .arg(by_arg(alloc))?
-        .arg(jobs_arg(alloc))?
-        .arg(seconds_arg(alloc))?
-        .arg(shrink_arg(alloc))?;
+pub fn with_arguments<'a>(alloc: Global, command: Command<'a>) -> Result<Command<'a>, AllocError>
+    ensures { IfOk result (λ c. app_in c ≡ and_rules (app_in command.entry) (rules_of sub.Hunt)) }
+{
+    let command = with_arg(command, image_arg(alloc))?;
+    let command = with_arg(
+        command,
+        file_arg(alloc, TRACE, "The file that the trace is written to"),
+    )?;
+    let command = with_arg(command, seeds_arg(alloc))?;
+    let command = with_arg(command, until_arg(alloc))?;
+    let command = with_arg(command, by_arg(alloc))?;
+    let command = with_arg(command, jobs_arg(alloc))?;
+    let command = with_arg(command, seconds_arg(alloc))?;
+    let command = with_arg(command, shrink_arg(alloc))?;
     with_options(alloc, command)
 }
 

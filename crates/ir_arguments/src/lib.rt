@@ -4,6 +4,7 @@
 mod arguments;
 mod asked;
 mod assemble;
+mod bonds;
 mod condition_text;
 mod conditions;
 mod debug;
@@ -12,6 +13,7 @@ mod elf;
 mod events;
 mod explore;
 mod exploring;
+mod forms;
 mod gdb;
 mod hunt;
 mod list;

@@ -1,11 +1,15 @@
 //! The subcommands, in one table.
 
 ghost use Rattle.std.specs.Prelude.{◌≡◌, find, IfOk};
-ghost use Rattle.ir_arguments.specs.Subcommands.{asked_by, is_named, name_of, subcommand_named};
+ghost use Rattle.std.specs.Option.{is_none};
+ghost use Rattle.ir_arguments.specs.Bonds.{may_be_given};
+ghost use Rattle.ir_arguments.specs.Parser.{and_rules, app_in, bare_app, rules_of, with_subcommands};
+ghost use Rattle.ir_arguments.specs.Subcommands.{asked_by, asked_if_given, is_named, name_of, subcommand_named};
 ghost use Rattle.ir_arguments.specs.Values.{rows_in};
 ghost use Rattle.ir_arguments.specs.Views.{request_of};
 
 use crate::asked::Asked;
+use crate::bonds::broken;
 use crate::{
     assemble, debug, diff, elf, events, explore, exploring, gdb, hunt, list, record, shrink, stale,
     trace, view, who, why,
@@ -62,6 +66,15 @@ pub struct Row<'a> {
     pub after: &'a str,
 }
 
+// A subcommand without its arguments.
+fn bare_command<'a>(alloc: Global, row: Row<'a>) -> Command<'a>
+    ensures { app_in result ≡ bare_app row.entry.name.now }
+{
+    Command::new(alloc, row.name)
+        .about(row.about)
+        .after_help(row.after)
+}
+
 impl Subcommand {
     /// Its name, what it does, and what follows its help.
     pub fn row<'a>(self) -> Row<'a>
@@ -88,11 +101,10 @@ impl Subcommand {
     }
 
     /// The parser of its arguments.
-    pub fn command<'a>(self, alloc: Global) -> Result<Command<'a>, AllocError> {
-        let row = self.row();
-        let command = Command::new(alloc, row.name)
-            .about(row.about)
-            .after_help(row.after);
+    pub fn command<'a>(self, alloc: Global) -> Result<Command<'a>, AllocError>
+        ensures { IfOk result (λ c. app_in c ≡ and_rules (bare_app (name_of self)) (rules_of self)) }
+    {
+        let command = bare_command(alloc, self.row());
         match self {
             Subcommand::Assemble => assemble::with_arguments(alloc, command),
             Subcommand::Elf => elf::with_arguments(alloc, command),
@@ -113,8 +125,42 @@ impl Subcommand {
         }
     }
 
-    /// What its arguments ask for.
+    // Why its arguments may not be given together, if they may not.
+    fn broken(self, alloc: Global, matches: &ArgMatches<'_>) -> Result<Option<String>, AllocError>
+        ensures { IfOk result (λ why. is_none why ≡ may_be_given self (rows_in matches.now)) }
+    {
+        match self {
+            Subcommand::Record => broken(alloc, matches, record::BONDS.as_slice()),
+            Subcommand::Explore => broken(alloc, matches, explore::BONDS.as_slice()),
+            Subcommand::Who => broken(alloc, matches, who::BONDS.as_slice()),
+            Subcommand::Why => broken(alloc, matches, why::BONDS.as_slice()),
+            Subcommand::View => broken(alloc, matches, view::BONDS.as_slice()),
+            Subcommand::Assemble => Ok(None),
+            Subcommand::Elf => Ok(None),
+            Subcommand::List => Ok(None),
+            Subcommand::Hunt => Ok(None),
+            Subcommand::Shrink => Ok(None),
+            Subcommand::Debug => Ok(None),
+            Subcommand::Gdb => Ok(None),
+            Subcommand::Trace => Ok(None),
+            Subcommand::Events => Ok(None),
+            Subcommand::Stale => Ok(None),
+            Subcommand::Diff => Ok(None),
+        }
+    }
+
+    /// What its arguments ask for, if they may be given together.
     pub fn asked(self, alloc: Global, matches: &ArgMatches<'_>) -> Result<Asked, AllocError>
+        ensures { IfOk result (λ asked. request_of asked ≡ asked_if_given self (rows_in matches.now)) }
+    {
+        match self.broken(alloc, matches)? {
+            Some(why) => Ok(Asked::Nothing(why)),
+            None => self.asked_so(alloc, matches),
+        }
+    }
+
+    // What its arguments ask for.
+    fn asked_so(self, alloc: Global, matches: &ArgMatches<'_>) -> Result<Asked, AllocError>
         ensures { IfOk result (λ asked. request_of asked ≡ asked_by self (rows_in matches.now)) }
     {
         match self {
@@ -136,6 +182,25 @@ impl Subcommand {
             Subcommand::View => view::asked(alloc, matches),
         }
     }
+}
+
+/// The command with these subcommands too.
+///
+/// # Errors
+/// Out of memory.
+#[tactic(auto, using(crate::proofs::Apps::subcommand_added, crate::proofs::Apps::subcommands_at_end))]
+pub fn with_subcommands<'a>(
+    alloc: Global,
+    command: Command<'a>,
+    subcommands: &[Subcommand],
+) -> Result<Command<'a>, AllocError>
+    ensures { IfOk result (λ c. app_in c ≡ with_subcommands (app_in command.entry) subcommands.now) }
+{
+    let mut command = command;
+    'subcommands: for &subcommand in subcommands {
+        command = command.subcommand(subcommand.command(alloc)?)?;
+    }
+    Ok(command)
 }
 
 // The first of these subcommands that has the name.

@@ -4,8 +4,11 @@ ghost use Rattle.std.specs.Prelude.{◌≡◌, IfOk, codes};
 ghost use Rattle.ir_arguments.specs.Asking.{trace_asked};
 ghost use Rattle.ir_arguments.specs.Values.{rows_in};
 ghost use Rattle.ir_arguments.specs.Views.{request_of};
+ghost use Rattle.ir_arguments.specs.Parser.{and_rules, app_in, rules_of};
+ghost use Rattle.ir_arguments.specs.declared.subcommands.Subcommand.TheVariants as sub;
 
 use crate::asked::{Asked, Print};
+use crate::forms::with_arg;
 use crate::subcommands::Row;
 use crate::values::{TRACE, file_arg, text_of};
 use clap::{ArgMatches, Command};
@@ -46,8 +49,10 @@ pub struct TraceArguments {
 }
 
 /// The command with its arguments.
-pub fn with_arguments<'a>(alloc: Global, command: Command<'a>) -> Result<Command<'a>, AllocError> {
-    command.arg(file_arg(alloc, TRACE, "The file with the trace"))
+pub fn with_arguments<'a>(alloc: Global, command: Command<'a>) -> Result<Command<'a>, AllocError>
+    ensures { IfOk result (λ c. app_in c ≡ and_rules (app_in command.entry) (rules_of sub.Trace)) }
+{
+    with_arg(command, file_arg(alloc, TRACE, "The file with the trace"))
 }
 
 /// What its arguments ask for.

@@ -1,11 +1,13 @@
 //! Arguments that more than one subcommand has, and how their values are read.
 
-ghost use Rattle.std.specs.Prelude.{◌≡◌, map, option_map, IfOk};
+ghost use Rattle.std.specs.Prelude.{◌≡◌, codes, map, option_map, IfOk};
 ghost use Rattle.std.specs.String.{string_bytes};
 ghost use Rattle.std.specs.Result.{result_ok};
+ghost use Rattle.ir_arguments.specs.Parser.{IsArgument, image_rule, needed_place, option};
 ghost use Rattle.ir_arguments.specs.Reading.{if_given, large_numbers, small_number};
 ghost use Rattle.ir_arguments.specs.Values.{rows_in, given, text_for, texts_for, has_flag};
 
+use crate::forms::option_arg;
 use crate::texts::first_part;
 use clap::{Arg, ArgMatches};
 use ir_record_command::number_within;
@@ -30,12 +32,17 @@ pub const UNTIL: &str = "until";
 pub const EXPLAIN: &str = "explain";
 
 /// A file that has to be named.
-pub fn file_arg<'a>(alloc: Global, name: &'a str, help: &'a str) -> Arg<'a> {
+#[tactic(auto, using(crate::proofs::Rules::needed_place_made))]
+pub fn file_arg<'a>(alloc: Global, name: &'a str, help: &'a str) -> Arg<'a>
+    ensures { IsArgument result (needed_place name.now) }
+{
     Arg::new(alloc, name).required(true).help(help)
 }
 
 /// The file of an image, which has to be named.
-pub fn image_arg<'a>(alloc: Global) -> Arg<'a> {
+pub fn image_arg<'a>(alloc: Global) -> Arg<'a>
+    ensures { IsArgument result image_rule }
+{
     file_arg(
         alloc,
         IMAGE,
@@ -44,11 +51,10 @@ pub fn image_arg<'a>(alloc: Global) -> Arg<'a> {
 }
 
 /// The option that names the file of an image.
-pub fn from_image_arg<'a>(alloc: Global, help: &'a str) -> Arg<'a> {
-    Arg::new(alloc, FROM_IMAGE)
-        .long(FROM_IMAGE)
-        .value_name("IMAGE")
-        .help(help)
+pub fn from_image_arg<'a>(alloc: Global, help: &'a str) -> Arg<'a>
+    ensures { IsArgument result (option (codes "image")) }
+{
+    option_arg(alloc, FROM_IMAGE, "IMAGE", help)
 }
 
 /// The text that is given for an argument, if one is.
@@ -109,8 +115,13 @@ pub fn given_text(
 }
 
 /// The option that names the file with the names of addresses.
-pub fn names_arg<'a>(alloc: Global) -> Arg<'a> {
-    Arg::new(alloc, MAP).long(MAP).value_name("MAP").help(
+pub fn names_arg<'a>(alloc: Global) -> Arg<'a>
+    ensures { IsArgument result (option (codes "map")) }
+{
+    option_arg(
+        alloc,
+        MAP,
+        "MAP",
         "The file with the names of addresses, as `nm -n` prints them",
     )
 }

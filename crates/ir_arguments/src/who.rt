@@ -4,8 +4,12 @@ ghost use Rattle.std.specs.Prelude.{◌≡◌, IfOk, codes};
 ghost use Rattle.ir_arguments.specs.Asking.{versions_asked};
 ghost use Rattle.ir_arguments.specs.Values.{rows_in};
 ghost use Rattle.ir_arguments.specs.Views.{request_of};
+ghost use Rattle.ir_arguments.specs.Parser.{IsArgument, and_rules, app_in, option, rules_of};
+ghost use Rattle.ir_arguments.specs.declared.subcommands.Subcommand.TheVariants as sub;
 
 use crate::asked::{Asked, Print};
+use crate::bonds::{Bond, Named};
+use crate::forms::{option_arg, place_arg, with_arg};
 use crate::subcommands::Row;
 use crate::values::{
     FROM_IMAGE, TRACE, file_arg, from_image_arg, given_number, given_text, number_in, text_for,
@@ -68,31 +72,61 @@ pub struct WhoArguments {
     pub image: Option<String>,
 }
 
-fn word_arg<'a>(alloc: Global) -> Arg<'a> {
-    Arg::new(alloc, WORD)
-        .long(WORD)
-        .value_name("K")
-        .allow_negative_numbers(true)
-        .help("The number of a word of the object: only the versions that change it")
+fn word_arg<'a>(alloc: Global) -> Arg<'a>
+    ensures { IsArgument result (option (codes "word")) }
+{
+    option_arg(
+        alloc,
+        WORD,
+        "K",
+        "The number of a word of the object: only the versions that change it",
+    )
 }
 
+// The arguments of which not all may be given together, as messages show them.
+const THE_WORD: Named<'static> = Named {
+    id: WORD,
+    shown: "--word <K>",
+};
+
+const THE_VERSION: Named<'static> = Named {
+    id: VERSION_NUMBER,
+    shown: "[V]",
+};
+
+const THE_IMAGE: Named<'static> = Named {
+    id: FROM_IMAGE,
+    shown: "--image <IMAGE>",
+};
+
+/// Which arguments exclude each other, and which need others.
+pub const BONDS: [Bond<'static>; 2] = [
+    Bond::Excludes(THE_WORD, THE_VERSION),
+    Bond::Needs(THE_WORD, THE_IMAGE),
+];
+
 /// The command with its arguments.
-pub fn with_arguments<'a>(alloc: Global, command: Command<'a>) -> Result<Command<'a>, AllocError> {
-    command
-        .arg(file_arg(alloc, TRACE, "The file with the trace"))?
-        .arg(file_arg(alloc, OBJECT, "The number of the object"))?
-        .arg(Arg::new(alloc, VERSION_NUMBER).help(
+pub fn with_arguments<'a>(alloc: Global, command: Command<'a>) -> Result<Command<'a>, AllocError>
+    ensures { IfOk result (λ c. app_in c ≡ and_rules (app_in command.entry) (rules_of sub.Who)) }
+{
+    let command = with_arg(command, file_arg(alloc, TRACE, "The file with the trace"))?;
+    let command = with_arg(command, file_arg(alloc, OBJECT, "The number of the object"))?;
+    let command = with_arg(
+        command,
+        place_arg(
+            alloc,
+            VERSION_NUMBER,
             "The number of the version; without it all versions are printed",
-        ))?
-        .arg(from_image_arg(
+        ),
+    )?;
+    let command = with_arg(
+        command,
+        from_image_arg(
             alloc,
             "The file with the image, or an ELF file of the guest: the steps of the events",
-        ))?
-        .arg(
-            word_arg(alloc)
-                .requires_arg(FROM_IMAGE)?
-                .conflicts_with(VERSION_NUMBER)?,
-        )
+        ),
+    )?;
+    with_arg(command, word_arg(alloc))
 }
 
 /// What its arguments ask for.

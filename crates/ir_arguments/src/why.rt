@@ -6,8 +6,12 @@ ghost use Rattle.ir_arguments.specs.Reading.{if_given, large_numbers, small_numb
 ghost use Rattle.ir_arguments.specs.Asking.{reasons_asked};
 ghost use Rattle.ir_arguments.specs.Values.{rows_in, given, text_for};
 ghost use Rattle.ir_arguments.specs.Views.{request_of};
+ghost use Rattle.ir_arguments.specs.Parser.{IsArgument, and_rules, app_in, option, option_or, rules_of};
+ghost use Rattle.ir_arguments.specs.declared.subcommands.Subcommand.TheVariants as sub;
 
 use crate::asked::{Asked, Print};
+use crate::bonds::{Bond, Named};
+use crate::forms::{option_arg, option_or_arg, with_arg};
 use crate::subcommands::Row;
 use crate::values::{
     FROM_IMAGE, TRACE, file_arg, from_image_arg, given, given_text, number_in, numbers_in,
@@ -77,40 +81,64 @@ pub struct WhyArguments {
     pub at: Option<Vec<u64>>,
 }
 
-fn lines_arg<'a>(alloc: Global) -> Arg<'a> {
-    Arg::new(alloc, LINES)
-        .long(LINES)
-        .value_name("N")
-        .default_value("20")
-        .help("The most lines of the chain of waits")
+fn lines_arg<'a>(alloc: Global) -> Arg<'a>
+    ensures { IsArgument result (option_or (codes "lines") (codes "20")) }
+{
+    option_or_arg(
+        alloc,
+        LINES,
+        "N",
+        "20",
+        "The most lines of the chain of waits",
+    )
 }
 
-fn at_arg<'a>(alloc: Global) -> Arg<'a> {
-    Arg::new(alloc, AT)
-        .long(AT)
-        .value_name("P0,P1,..")
-        .allow_negative_numbers(true)
-        .help(
-            "The positions of a consistent cut, a position for each thread: tells if what is needed has been left there",
-        )
+fn at_arg<'a>(alloc: Global) -> Arg<'a>
+    ensures { IsArgument result (option (codes "at")) }
+{
+    option_arg(
+        alloc,
+        AT,
+        "P0,P1,..",
+        "The positions of a consistent cut, a position for each thread: tells if what is needed has been left there",
+    )
 }
+
+/// Which arguments need others.
+pub const BONDS: [Bond<'static>; 1] = [Bond::Needs(
+    Named {
+        id: AT,
+        shown: "--at <P0,P1,..>",
+    },
+    Named {
+        id: FROM_IMAGE,
+        shown: "--image <IMAGE>",
+    },
+)];
 
 /// The command with its arguments.
-pub fn with_arguments<'a>(alloc: Global, command: Command<'a>) -> Result<Command<'a>, AllocError> {
-    command
-        .arg(file_arg(alloc, TRACE, "The file with the trace"))?
-        .arg(file_arg(alloc, THREAD, "The number of the thread"))?
-        .arg(file_arg(
+pub fn with_arguments<'a>(alloc: Global, command: Command<'a>) -> Result<Command<'a>, AllocError>
+    ensures { IfOk result (λ c. app_in c ≡ and_rules (app_in command.entry) (rules_of sub.Why)) }
+{
+    let command = with_arg(command, file_arg(alloc, TRACE, "The file with the trace"))?;
+    let command = with_arg(command, file_arg(alloc, THREAD, "The number of the thread"))?;
+    let command = with_arg(
+        command,
+        file_arg(
             alloc,
             EVENT,
             "The number of the event in the thread's log, from 0",
-        ))?
-        .arg(lines_arg(alloc))?
-        .arg(from_image_arg(
+        ),
+    )?;
+    let command = with_arg(command, lines_arg(alloc))?;
+    let command = with_arg(
+        command,
+        from_image_arg(
             alloc,
             "The file with the image, or an ELF file of the guest: the steps of the events and of the leaves, the least cut that has the event, and waits of threads that held an object",
-        ))?
-        .arg(at_arg(alloc).requires_arg(FROM_IMAGE)?)
+        ),
+    )?;
+    with_arg(command, at_arg(alloc))
 }
 
 // The number of an argument, or else what is wrong with it.

@@ -6,10 +6,12 @@ ghost use Rattle.std.specs.String.{string_bytes};
 ghost use Rattle.ir_arguments.specs.Exploring.{parts_given, parts_listed, parts_of, with_part};
 ghost use Rattle.ir_arguments.specs.Values.{rows_in, given, text_for};
 ghost use Rattle.ir_arguments.specs.Views.{parts_view, taken_view};
+ghost use Rattle.ir_arguments.specs.Parser.{IsArgument, option};
 
 use crate::explore::ExploreArguments;
+use crate::forms::option_arg;
 use crate::texts::first_part;
-use crate::values::{given, text_of};
+use crate::values::{UNTIL, given, text_of};
 use clap::{Arg, ArgMatches};
 use ir_record_command::number_within;
 use std::alloc::{AllocError, Global};
@@ -54,17 +56,24 @@ pub struct ClassesArguments {
     pub counted: Counted,
 }
 
-pub fn within_arg<'a>(alloc: Global) -> Arg<'a> {
-    Arg::new(alloc, WITHIN)
-        .long(WITHIN)
-        .value_name("OTHER")
-        .help(
-            "The file with the image of another guest, or its ELF file: print the outcomes that it doesn't have",
-        )
+pub fn within_arg<'a>(alloc: Global) -> Arg<'a>
+    ensures { IsArgument result (option (codes "within")) }
+{
+    option_arg(
+        alloc,
+        WITHIN,
+        "OTHER",
+        "The file with the image of another guest, or its ELF file: print the outcomes that it doesn't have",
+    )
 }
 
-pub fn only_arg<'a>(alloc: Global) -> Arg<'a> {
-    Arg::new(alloc, ONLY).long(ONLY).value_name("PARTS").help(
+pub fn only_arg<'a>(alloc: Global) -> Arg<'a>
+    ensures { IsArgument result (option (codes "only")) }
+{
+    option_arg(
+        alloc,
+        ONLY,
+        "PARTS",
         "What of outcomes counts, with commas between: out, codes, objects, or the number of an object",
     )
 }

@@ -28,8 +28,12 @@ const WRONG: [(&str, &str); 11] = [
         "--budget: 'x' is no number up to 1000000000000",
     ),
     (
-        "ir record a.img a.trc --budget -1",
+        "ir record a.img a.trc --budget=-1",
         "--budget: '-1' is no number up to 1000000000000",
+    ),
+    (
+        "ir record a.img a.trc --budget -1",
+        "unexpected argument '-1' found",
     ),
     (
         "ir record a.img a.trc --random 1x",
@@ -40,7 +44,7 @@ const WRONG: [(&str, &str); 11] = [
         "--profile: '3' is neither 1 nor 2",
     ),
     (
-        "ir record a.img a.trc --profile -1",
+        "ir record a.img a.trc --profile=-1",
         "--profile: '-1' is neither 1 nor 2",
     ),
     (
@@ -71,7 +75,7 @@ fn wrong_arguments_are_named(rt: HostRuntime) -> Result<(), Fail> {
 
 #[test]
 fn a_list_may_begin_with_a_hyphen(rt: HostRuntime) -> Result<(), Fail> {
-    match asked(&rt, "ir record a.img a.trc --order -1")? {
+    match asked(&rt, "ir record a.img a.trc --order=-1")? {
         Asked::Record(arguments) => {
             assert_eq!(rt;
                 arguments.order.as_ref().map(|list| list.as_str()),
