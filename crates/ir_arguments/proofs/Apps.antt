@@ -1,11 +1,13 @@
 -- What a parse reads of commands that are made step by step.
 use Rattle.std.proofs.Common.{◌≡◌, ◌<◌, ◌≤◌, ℕ, zero, suc, ◌+◌, Bool, true, false, List, [], ◌∷◌, ◌++◌, length, drop, get_or, Option, Some, None}
 use Rattle.std.proofs.Common.{refl, sym, ap, ◌∙◌, arith, append-nil, append_assoc}
+use Rattle.std.specs.Prelude.{Err, IfOk, Ok, Result, codes}
 use Rattle.std.specs.Borrow.{Bor}
 use Rattle.std.proofs.lemmas.List.{drop_all}
-use Rattle.clap.specs.Words.{AddsSubcommand, App, Rule, Shape, Text, app_of, fields_of, is_simple_and_free, new_app, shape_of, with_subcommand}
+use Rattle.clap.specs.Words.{AddsSubcommand, App, Rule, Shape, Text, app_of, is_simple_and_free, new_app, shape_of, with_subcommand}
 use Rattle.clap.specs.Simple.{app_of_fields, new_shape}
 use Rattle.clap.specs.declared.builder.command.Command.{Command}
+use Rattle.clap.specs.declared.builder.command.Command.TheViews.{out-Command as fields_of}
 use Rattle.clap.proofs.SimpleLemmas.{is_false}
 use Rattle.clap.proofs.WalkLemmas.{both}
 use Rattle.ir_arguments.specs.declared.subcommands.Subcommand.{Subcommand}
@@ -63,6 +65,15 @@ subcommand_added old sub new s xs i app l is adds e h =
 pub subcommands_at_end : (c : Command) (xs : List Subcommand) (i : ℕ) (app : App) → length xs ≤ i → with_subcommands (app_in c) (drop i xs) ≡ app
     → app_in c ≡ app
 subcommands_at_end c xs i app l h = sym (ap (with_subcommands (app_in c)) (drop_all i xs l)) ∙ h
+
+pub program_made : {E : Type 0} (result : Result Command E) (Q : Command → Type 0) (whole bare : Command) (xs : List Subcommand)
+    → IfOk result (λ c. (fields_of c ≡ record (fields_of whole) { bin_name = (fields_of c).bin_name }) × Q c)
+    → app_in whole ≡ with_subcommands (app_in bare) xs → xs ≡ subcommands → app_in bare ≡ with_version (bare_app (codes "ir"))
+    → IfOk result (λ c. app_in c ≡ ir_app)
+unfolding ir_app
+program_made (Ok c) Q whole bare xs h is all made =
+    bin_name_kept whole c h.0 ∙ is ∙ ap (with_subcommands (app_in bare)) all ∙ ap (λ (a : App). with_subcommands a subcommands) made
+program_made (Err e) Q whole bare xs h is all made = h
 
 -- clap's contract gives the matches and the faults of the parser
 pub ir_app_is_simple : is_simple_and_free ir_app ≡ true

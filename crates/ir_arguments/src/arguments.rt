@@ -55,7 +55,6 @@ fn bare_program<'a>(alloc: Global) -> Command<'a>
 }
 
 // The parser of all arguments.
-#[tactic(auto, using(crate::proofs::Apps::bin_name_kept))]
 fn command<'a>(alloc: Global) -> Result<Command<'a>, AllocError>
     ensures { IfOk result (λ c. app_in c ≡ ir_app) }
 {

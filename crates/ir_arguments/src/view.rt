@@ -99,7 +99,6 @@ fn chrome_arg<'a>(alloc: Global) -> Arg<'a>
     flag_arg(alloc, CHROME, "Prints events in the Trace Event format")
 }
 
-#[tactic(auto, using(crate::proofs::Rules::pair_made))]
 fn around_arg<'a>(alloc: Global) -> Arg<'a>
     ensures { IsArgument result (pair (codes "around")) }
 {
