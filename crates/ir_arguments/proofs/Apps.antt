@@ -55,10 +55,10 @@ shape_added old sub new s adds e =
     let shape = shape_made sub s e in
     adds.shape (no_globals sub (ap (λ (x : Shape). x.is_plain) shape)) ∙ ap (with_subcommand (app_of old)) shape
 
-pub subcommand_added : (old sub new : Command) (s : Subcommand) (xs : List Subcommand) (i : ℕ) (app : App) → i < length xs → s ≡ get_or xs i s
-    → AddsSubcommand old sub new → app_in sub ≡ and_rules (bare_app (name_of s)) (rules_of s)
-    → with_subcommands (app_in old) (drop i xs) ≡ app → with_subcommands (app_in new) (drop (i + 1) xs) ≡ app
-subcommand_added old sub new s xs i app l is adds e h =
+pub subcommand_added : (old sub new : Command) (s : Subcommand) (xs : List Subcommand) (i : ℕ) (app : App) → AddsSubcommand old sub new
+    → app_in sub ≡ and_rules (bare_app (name_of s)) (rules_of s) → with_subcommands (app_in old) (drop i xs) ≡ app → i < length xs
+    → s ≡ get_or xs i s → with_subcommands (app_in new) (drop (i + 1) xs) ≡ app
+subcommand_added old sub new s xs i app adds e h l is =
     ap (λ a. with_subcommands a (drop (i + 1) xs)) (shape_added old sub new s adds e)
     ∙ sym (ap (with_subcommands (app_in old)) (drop_begins xs i s l is)) ∙ h
 
