@@ -6,7 +6,7 @@ use Rattle.std.specs.List.{list_any}
 use Rattle.std.specs.Str.{bytes_eq}
 use Rattle.clap.specs.Words.{Text}
 use Rattle.clap.proofs.WalkLemmas.{list_any-map}
-use Rattle.ir_arguments.specs.Exploring.{has_hang, hang_wanted}
+use Rattle.ir_arguments.specs.Exploring.{hang_wanted}
 use Rattle.ir_arguments.proofs.Wishes.{texts_of}
 
 abbrev is_hang : Text → Bool

@@ -1,5 +1,5 @@
 -- What counts of outcomes, part by part.
-use Rattle.std.proofs.Common.{◌≡◌, ℕ, List, ◌∷◌, Option, Some, None, refl}
+use Rattle.std.proofs.Common.{◌≡◌, List, ◌∷◌, Some, None, refl}
 use Rattle.clap.specs.Words.{Text}
 use Rattle.ir_arguments.specs.Exploring.{Taken, with_part, with_parts}
 

@@ -1,8 +1,8 @@
 -- What a parse reads of arguments that are made step by step, and of commands that get them.
-use Rattle.std.proofs.Common.{◌≡◌, ℕ, zero, suc, Bool, true, false, List, [], ◌∷◌, ◌++◌, length, Option, Some, None, refl, sym, ap, ap₂, ◌∙◌}
+use Rattle.std.proofs.Common.{◌≡◌, ℕ, true, false, List, [], ◌∷◌, length, Option, Some, None, ap, ap₂, ◌∙◌}
 use Rattle.std.specs.Prelude.{Err, IfOk, IsSomeAnd, Ok, Result}
 use Rattle.std.specs.Borrow.{Bor}
-use Rattle.clap.specs.Words.{AddsArg, App, Rule, Text, app_of, new_rule, rule_of, with_rule}
+use Rattle.clap.specs.Words.{AddsArg, App, Rule, Text, new_rule, rule_of}
 use Rattle.clap.specs.declared.builder.action.ArgAction.TheVariants.{Append, SetTrue}
 use Rattle.clap.specs.declared.builder.arg.Arg.{Arg}
 use Rattle.clap.specs.declared.builder.command.Command.{Command}

@@ -1,14 +1,14 @@
 -- What texts ask for in turn.
 use Rattle.std.proofs.Common.{◌≡◌, ◌<◌, ◌≤◌, ℕ, zero, suc, ◌+◌, Bool, true, false, List, [], ◌∷◌, ◌++◌, map, length, drop, get_or, Option, Some}
 use Rattle.std.proofs.Common.{None, refl, sym, ap, ◌∙◌, arith, append-nil, append_assoc}
-use Rattle.std.specs.Prelude.{is_some, option_map, if◌then◌else◌}
+use Rattle.std.specs.Prelude.{is_some, option_map}
 use Rattle.std.specs.List.{list_all}
 use Rattle.std.specs.Borrow.{Bor}
 use Rattle.std.proofs.lemmas.List.{drop_all}
 use Rattle.clap.specs.Words.{Text}
 use Rattle.ir_schedule.specs.Spelling.{condition_of}
 use Rattle.ir_arguments.specs.Exploring.{is_of_outcome}
-use Rattle.ir_arguments.specs.Conditions.{asked_also, conditions_in, stale_after, stale_named, with_condition}
+use Rattle.ir_arguments.specs.Conditions.{asked_also, conditions_in, stale_after, stale_named}
 
 -- the texts behind references
 abbrev pub texts_of : List (Bor Text) → List Text

@@ -1,5 +1,5 @@
 -- What the texts of `--until` ask for.
-use Rattle.std.specs.Prelude.{ℕ, ◌%◌, ◌==◌, ◌&&◌, Bool, true, false, not, List, [], ◌∷◌, drop, codes, Option, Some, None, is_some, option_map, if◌then◌else◌}
+use Rattle.std.specs.Prelude.{◌%◌, ◌==◌, Bool, not, List, [], ◌∷◌, drop, codes, Option, Some, None, is_some, option_map, if◌then◌else◌}
 use Rattle.std.specs.Str.{bytes_eq}
 use Rattle.clap.specs.Words.{Text}
 use Rattle.ir_schedule.specs.Spelling.{condition_of, marks}

@@ -10,7 +10,7 @@ use Rattle.ir_schedule.specs.Spelling.{condition_of}
 use Rattle.ir_arguments.specs.Asking.{or_nothing, random_in, seconds_in}
 use Rattle.ir_arguments.specs.Conditions.{conditions_in, stale_named}
 use Rattle.ir_arguments.specs.Reading.{◌>>=◌, if_given, last_large, profile_named}
-use Rattle.ir_arguments.specs.Requests.{Classes, Comparison, Compare, Exploration, Explore, Nothing, Parts, Request, Search, SearchFor, ShowClasses}
+use Rattle.ir_arguments.specs.Requests.{Compare, Exploration, Explore, Parts, Request, SearchFor, ShowClasses}
 use Rattle.ir_arguments.specs.Values.{Rows, given, text_for, texts_for}
 
 -- a condition asks for a spent budget

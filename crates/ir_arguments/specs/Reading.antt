@@ -1,7 +1,7 @@
 -- How the texts of arguments are read.
-use Rattle.std.specs.Prelude.{ℕ, ◌+◌, ◌-◌, ◌==◌, ◌^◌, ◌%◌, ◌&&◌, ◌||◌, nat_le, nat_lt, Bool, true, false, not, List, [], ◌∷◌, length, drop, codes}
-use Rattle.std.specs.Prelude.{Option, Some, None, is_some, option_map, if◌then◌else◌}
-use Rattle.std.specs.List.{slice_split, position_or_len, before_first, after_first, list_any, list_all}
+use Rattle.std.specs.Prelude.{ℕ, ◌+◌, ◌-◌, ◌==◌, nat_le, nat_lt, List, [], ◌∷◌, length, codes}
+use Rattle.std.specs.Prelude.{Option, Some, None, option_map, if◌then◌else◌}
+use Rattle.std.specs.List.{slice_split, position_or_len, before_first, after_first}
 use Rattle.std.specs.Option.{option_map_or}
 use Rattle.std.specs.Str.{bytes_eq}
 use Rattle.clap.specs.Words.{Text}
@@ -11,8 +11,6 @@ use Rattle.ir_thread.specs.declared.profile.Profile.TheVariants as profile
 use Rattle.ir_schedule.specs.declared.seeds.Seeds.{Seeds}
 use Rattle.ir_schedule.specs.declared.way.Way.{Way}
 use Rattle.ir_schedule.specs.declared.way.Way.TheVariants as way
-use Rattle.ir_schedule.specs.Conditions.{Condition, Fact, Literal, End, Code, Word, Printed, Fault, Bad, Budget}
-use Rattle.ir_schedule.specs.Spelling.{condition_of, marks}
 
 infixl 10 ◌>>=◌
 abbrev pub ◌>>=◌ : {A B : Type 0} → Option A → (A → Option B) → Option B

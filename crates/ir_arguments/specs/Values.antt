@@ -1,5 +1,5 @@
 -- What is given for the arguments of a command, by the rows of clap's matches.
-use Rattle.std.specs.Prelude.{ℕ, Bool, false, List, [], codes, Option, Some, None, unwrap_or, Result, Ok, Err}
+use Rattle.std.specs.Prelude.{Bool, false, List, [], codes, Option, Some, None, unwrap_or, Result, Ok, Err}
 use Rattle.std.specs.Option.{option_map_or}
 use Rattle.std.specs.Str.{bytes_eq}
 use Rattle.clap.specs.Words.{Row, Text, all_of, first_of, found_of, rows_of}

@@ -1,5 +1,5 @@
 -- The requests that the code's values are.
-use Rattle.std.specs.Prelude.{ℕ, List, Option, map, option_map, String}
+use Rattle.std.specs.Prelude.{option_map}
 use Rattle.std.specs.String.{string_bytes}
 use Rattle.ir_arguments.specs.Requests.{Exploration, Options, Parts, Request, Session, Assemble, Convert, Record, HuntFor, Shrink, Debug, Gdb}
 use Rattle.ir_arguments.specs.Requests.{ShowCode, ShowTrace, ShowEvents, ShowStale, ShowVersions, ShowReasons, ShowDifference, ShowPicture, Explore}

@@ -1,4 +1,4 @@
-use Rattle.std.proofs.Common.{refl, ap, ◌∙◌}
+use Rattle.std.proofs.Common.{refl}
 use Rattle.ir_arguments.specs.Parser.{and_rules, recording_rules}
 use Rattle.ir_arguments.proofs.Rules.{added, ended_at}
 use Rattle.ir_arguments.proofs.hunt.with_arguments.Goals as goal
