@@ -1,0 +1,89 @@
+-- What a parse reads of arguments that are made step by step, and of commands that get them.
+use Rattle.std.proofs.Common.{◌≡◌, ℕ, true, false, List, [], ◌∷◌, length, Option, Some, None, ap, ap₂, ◌∙◌}
+use Rattle.std.specs.Prelude.{Err, IfOk, IsSomeAnd, Ok, Result}
+use Rattle.std.specs.Borrow.{Bor}
+use Rattle.clap.specs.Words.{AddsArg, App, Rule, Text, new_rule, rule_of}
+use Rattle.clap.specs.declared.builder.action.ArgAction.TheVariants.{Append, SetTrue}
+use Rattle.clap.specs.declared.builder.arg.Arg.{Arg}
+use Rattle.clap.specs.declared.builder.command.Command.{Command}
+use Rattle.clap.specs.declared.builder.range.ValueRange.{ValueRange}
+use Rattle.clap.specs.declared.builder.texts.Texts.TheVariants.{Many, One}
+use Rattle.ir_arguments.specs.Parser.{IsArgument, and_rule, app_in, flag, needed_place, needed_repeated, option, option_or, pair, place, repeated, rule_in}
+
+pub place_made : (a : Arg) (name help : Bor Text) → rule_of a ≡ new_rule name.now → rule_in (record a { help = Some help }) ≡ place name.now
+unfolding rule_in place
+place_made a name help e = e
+
+pub needed_place_made : (a : Arg) (name help : Bor Text) → rule_of a ≡ new_rule name.now
+    → rule_in (record a { required = true; help = Some help }) ≡ needed_place name.now
+unfolding rule_in needed_place
+needed_place_made a name help e = ap (λ (r : Rule). record r { required = true }) e
+
+pub option_made : (a b c d : Arg) (name value help : Bor Text) → rule_of a ≡ new_rule name.now → a.global ≡ false → b ≡ record a { long = Some name }
+    → c ≡ record b { val_names = One value } → d ≡ record c { help = Some help } → IsArgument d (option name.now)
+unfolding rule_in option
+option_made a b c d name value help e local long named helped =
+    let made : d ≡ record a { long = Some name; val_names = One value; help = Some help } =
+    helped ∙ ap (λ (x : Arg). record x { help = Some help }) (named ∙ ap (λ (x : Arg). record x { val_names = One value }) long) in (
+      ap rule_of made ∙ ap (λ (r : Rule). record r { long = Some name.now; value_names = 1 }) e,
+      ap (λ (x : Arg). x.global) made ∙ local,
+    )
+
+pub option_or_made : (a : Arg) (name default : Bor Text) → rule_in a ≡ option name.now
+    → rule_in (record a { default_vals = One default }) ≡ option_or name.now default.now
+unfolding rule_in option option_or
+option_or_made a name default e = ap (λ (r : Rule). record r { defaults = default.now ∷ [] }) e
+
+pub repeated_made : (a : Arg) (name : Bor Text) → rule_in a ≡ option name.now → rule_in (record a { action = Some Append }) ≡ repeated name.now
+unfolding rule_in option repeated
+repeated_made a name e = ap (λ (r : Rule). record r { action = Some Append }) e
+
+pub needed_repeated_made : (a : Arg) (name : Bor Text) → rule_in a ≡ repeated name.now
+    → rule_in (record a { required = true }) ≡ needed_repeated name.now
+unfolding rule_in repeated needed_repeated
+needed_repeated_made a name e = ap (λ (r : Rule). record r { required = true }) e
+
+pub flag_made : (a : Arg) (name help : Bor Text) → rule_of a ≡ new_rule name.now
+    → rule_in (record a { long = Some name; action = Some SetTrue; help = Some help }) ≡ flag name.now
+unfolding rule_in flag
+flag_made a name help e = ap (λ (r : Rule). record r { long = Some name.now; action = Some SetTrue }) e
+
+abbrev two : ValueRange
+two = record { start_inclusive = 2; end_inclusive = 2 }
+
+some_is : (o : Option ValueRange) → IsSomeAnd o (λ r. r ≡ two) → o ≡ Some two
+some_is None h = absurd h
+some_is (Some r) h = ap (λ (x : ValueRange). Some x) h
+
+pub pair_made : (a b c d e : Arg) (name help : Bor Text) (names : Bor (List (Bor Text))) → rule_of a ≡ new_rule name.now → a.global ≡ false
+    → b ≡ record a { long = Some name }
+    → (c ≡ record b { num_vals = c.num_vals }) × IsSomeAnd c.num_vals (λ r. r ≡ record { start_inclusive = 2; end_inclusive = 2 })
+    → d ≡ record c { val_names = Many names } → e ≡ record d { help = Some help } → length names.now ≡ 2 → IsArgument e (pair name.now)
+unfolding rule_in pair
+pair_made a b c d e name help names is local long ranged named helped count =
+    let counted : c ≡ record a { long = Some name; num_vals = Some two } =
+    ranged.0 ∙ ap (λ (o : Option ValueRange). record b { num_vals = o }) (some_is c.num_vals ranged.1)
+    ∙ ap (λ (x : Arg). record x { num_vals = Some two }) long in
+    let made : e ≡ record a { long = Some name; num_vals = Some two; val_names = Many names; help = Some help } =
+    helped ∙ ap (λ (x : Arg). record x { help = Some help }) (named ∙ ap (λ (x : Arg). record x { val_names = Many names }) counted) in (
+      ap rule_of made ∙ ap (λ (r : Rule). record r { long = Some name.now; range = Some two; value_names = length names.now }) is
+          ∙ ap (λ (n : ℕ). record (new_rule name.now) { long = Some name.now; range = Some two; value_names = n }) count,
+      ap (λ (x : Arg). x.global) made ∙ local,
+    )
+
+pub rule_added : (old : Command) (a : Arg) (new : Command) → AddsArg old a new → a.global ≡ false → app_in new ≡ and_rule (app_in old) (rule_in a)
+unfolding app_in rule_in and_rule
+rule_added old a new adds local = adds.shape local
+
+pub added : (x y z : App) (r s : Rule) → z ≡ and_rule x r → x ≡ y → r ≡ s → z ≡ and_rule y s
+added x y z r s e same rule = e ∙ ap₂ and_rule same rule
+
+pub added_at_end : {E : Type 0} (result : Result Command E) (x y : App) (r s : Rule) → IfOk result (λ c. app_in c ≡ and_rule x r) → x ≡ y → r ≡ s
+    → IfOk result (λ c. app_in c ≡ and_rule y s)
+added_at_end (Ok c) x y r s h same rule = h ∙ ap₂ and_rule same rule
+added_at_end (Err e) x y r s h same rule = h
+
+pub ended_at : {E : Type 0} (result : Result Command E) (f : App → App) (x y : App) → IfOk result (λ c. app_in c ≡ f x) → x ≡ y
+    → IfOk result (λ c. app_in c ≡ f y)
+ended_at (Ok c) f x y h same = h ∙ ap f same
+ended_at (Err e) f x y h same = h
