@@ -99,12 +99,12 @@ pub with_plan : {image : List ℕ} {plan other : ExplorePlan} {is_kept : List �
     → RecordsHang image plan is_kept out → RecordsHang image other is_kept out
 with_plan {image} {plan} {other} {is_kept} {out} same found = subst (λ p. RecordsHang image p is_kept out) same found
 
-pub hang_vain : {image : List ℕ} {plan other : ExplorePlan} {answered : ExitStatus} {out reports : Writer} → plan ≡ other
+pub hang_vain : {image : List ℕ} {plan other : ExplorePlan} {answered : ExitStatus} {reports : Writer} (out : Writer) → plan ≡ other
     → ((text : List ℕ) × IsHangAnswer image plan (Err answered) text × Took out text) ⊎ TellsNoSearch answered reports
     → ((text : List ℕ) × IsHangAnswer image other (Err answered) text × Took out text) ⊎ TellsNoSearch answered reports
-hang_vain {image} {plan} {other} {answered} {out} same (inl h) =
+hang_vain {image} {plan} {other} {answered} out same (inl h) =
     inl (h.0, subst (λ (p : ExplorePlan). IsHangAnswer image p (Err answered) h.0) same h.1, h.2)
-hang_vain same (inr h) = inr h
+hang_vain out same (inr h) = inr h
 
 -- what a hunt comes to, by what it found and what was made of that
 pub hunt_comes_to : {O E : Type 0} (written : O → Option (List ℕ)) (broken : O → Bool) (reported : E → Option (List ℕ)) (fails : E → Bool) (at : Paths) (stored : Storing)
