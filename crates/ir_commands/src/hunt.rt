@@ -129,13 +129,14 @@ fn shrunk<'a, R: Clock + Eprint + AllocGlobal, D: Folder, G, O: Sink, E: Sink>(
         say(faults, "memory ran out", "", "");
         return Err(ExitStatus::Failed);
     };
+    let plan = hunted.plan;
     let shrinking = ShrinkPlan {
-        record: plan_like(found, hunted.plan.record.random, hunted.plan.record.input),
-        conditions: hunted.plan.conditions,
+        record: plan_like(found, plan.record.random, plan.record.input),
+        conditions: plan.conditions,
         texts: texts.as_slice(),
-        stale: hunted.plan.stale,
-        seconds: hunted.plan.seconds,
-        is_shown: hunted.plan.is_shown,
+        stale: plan.stale,
+        seconds: plan.seconds,
+        is_shown: plan.is_shown,
     };
     let run = GivenRun {
         image: hunted.image,

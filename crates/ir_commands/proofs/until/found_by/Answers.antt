@@ -1,4 +1,4 @@
-use Rattle.std.proofs.Common.{◌∙◌, List, ℕ, ap, false, true, refl, subst, sym}
+use Rattle.std.proofs.Common.{◌∙◌, List, ℕ, ap, refl, subst, sym}
 use Rattle.std.proofs.lemmas.Result.{IfErr-weaker, on_ok_weaker}
 use Rattle.std.specs.String.{string_bytes}
 use Rattle.ir_files.specs.Given.{IsStored}
