@@ -1,11 +1,11 @@
 -- What searches leave that record what they find.
-use Rattle.std.proofs.Common.{◌≡◌, ◌⊎◌, ◌∙◌, List, ℕ, inl, inr, map, refl, subst, sym}
+use Rattle.std.proofs.Common.{◌≡◌, ◌⊎◌, List, ℕ, inl, inr, map, refl, subst, sym}
 use Rattle.std.specs.Prelude.{Bool, IfErr, IfOk, OnErr, OnOk, Option, Result, Ok, Err, true, false}
 use Rattle.std.specs.String.{string_bytes}
 use Rattle.ir_explore.specs.Faults.{explore_fault_status, explore_fault_words}
 use Rattle.ir_explore.specs.Hang.{IsHangAnswer, StopsHang}
 use Rattle.ir_explore.specs.Plan.{ExplorePlan}
-use Rattle.ir_explore.specs.Until.{StopsUntil, recording}
+use Rattle.ir_explore.specs.Until.{StopsUntil}
 use Rattle.ir_explore.specs.declared.fault.ExploreFault.{ExploreFault}
 use Rattle.ir_explore.specs.declared.fault.ExploreFault.TheVariants as fault
 use Rattle.ir_arguments.specs.declared.explore.UntilArguments.{UntilArguments}
@@ -30,7 +30,7 @@ use Rattle.ir_trace.specs.Recorded.{Recorded}
 use Rattle.ir_commands.specs.Files.{TellsFault}
 use Rattle.ir_commands.specs.Printing.{Paths}
 use Rattle.ir_commands.specs.Searching.{AsksHunt, AsksSearch, AsksShrink, EndsFound, HuntsFile, IsShrinkPlanOfHunt, IsStatusOfNoShrinking, RecordsHang, RecordsHunted}
-use Rattle.ir_commands.specs.Searching.{RecordsShrunkRun, RefusesFound, RefusesGiven, SearchFinds, SearchMisses, SearchesFile, ShrinkRefuses, TellsNoSearch, TellsNoSeed, TellsVain}
+use Rattle.ir_commands.specs.Searching.{RecordsShrunkRun, RefusesFound, RefusesGiven, SearchFinds, SearchMisses, SearchesFile, ShrinkRefuses, ShrinksFound, TellsNoSearch, TellsNoSeed, TellsVain}
 use Rattle.ir_commands.specs.Writing.{IsStatusOfNoRecording, Storing}
 use Rattle.ir_commands.proofs.Stored.{reported_is_told}
 
@@ -99,12 +99,12 @@ pub with_plan : {image : List ℕ} {plan other : ExplorePlan} {is_kept : List �
     → RecordsHang image plan is_kept out → RecordsHang image other is_kept out
 with_plan {image} {plan} {other} {is_kept} {out} same found = subst (λ p. RecordsHang image p is_kept out) same found
 
-pub hang_vain : {image : List ℕ} {plan other : ExplorePlan} {answered : ExitStatus} {out reports : Writer} → plan ≡ other
+pub hang_vain : {image : List ℕ} {plan other : ExplorePlan} {answered : ExitStatus} {reports : Writer} (out : Writer) → plan ≡ other
     → ((text : List ℕ) × IsHangAnswer image plan (Err answered) text × Took out text) ⊎ TellsNoSearch answered reports
     → ((text : List ℕ) × IsHangAnswer image other (Err answered) text × Took out text) ⊎ TellsNoSearch answered reports
-hang_vain {image} {plan} {other} {answered} {out} same (inl h) =
+hang_vain {image} {plan} {other} {answered} out same (inl h) =
     inl (h.0, subst (λ (p : ExplorePlan). IsHangAnswer image p (Err answered) h.0) same h.1, h.2)
-hang_vain same (inr h) = inr h
+hang_vain out same (inr h) = inr h
 
 -- what a hunt comes to, by what it found and what was made of that
 pub hunt_comes_to : {O E : Type 0} (written : O → Option (List ℕ)) (broken : O → Bool) (reported : E → Option (List ℕ)) (fails : E → Bool) (at : Paths) (stored : Storing)
@@ -215,9 +215,17 @@ shrink_refuses {at} {arguments} {image} {given} {plan} answered asked same (inl 
 })
 shrink_refuses answered asked same (inr h) = inr (inl h)
 
--- the same of a run that was found
-pub found_refuses : {image : List ℕ} {hunt : HuntPlan} {given : Recorded} {plan : ShrinkPlan} {answered : ExitStatus} {faults : Writer}
-    → IsShrinkPlanOfHunt hunt given plan → RefusesGiven image given plan answered faults ⊎ IsStatusOfNoRecording answered
+-- a run that was found is shrunk as the hunt looked for it
+pub found_shrinks : {image : List ℕ} {hunt view : HuntPlan} {given : Recorded} {plan : ShrinkPlan} {is_minimal : Bool} {is_kept : List ℕ → Type 0} {out : Writer}
+    → view ≡ hunt → IsShrinkPlanOfHunt view given plan → RecordsShrunkRun image given plan is_minimal is_kept out
+    → ShrinksFound image hunt given is_minimal is_kept out
+found_shrinks {image} {hunt} {view} {given} {plan} same is_plan h =
+    record { plan = plan; is_plan = subst (λ z. IsShrinkPlanOfHunt z given plan) same is_plan; shrunk = h }
+
+-- or it isn't
+pub found_refuses : {image : List ℕ} {hunt view : HuntPlan} {given : Recorded} {plan : ShrinkPlan} {answered : ExitStatus} {faults : Writer}
+    → view ≡ hunt → IsShrinkPlanOfHunt view given plan → RefusesGiven image given plan answered faults ⊎ IsStatusOfNoRecording answered
     → RefusesFound image hunt given answered faults ⊎ IsStatusOfNoRecording answered
-found_refuses {image} {hunt} {given} {plan} is_plan (inl h) = inl (record { plan = plan; is_plan = is_plan; why = h })
-found_refuses is_plan (inr h) = inr h
+found_refuses {image} {hunt} {view} {given} {plan} same is_plan (inl h) =
+    inl (record { plan = plan; is_plan = subst (λ z. IsShrinkPlanOfHunt z given plan) same is_plan; why = h })
+found_refuses same is_plan (inr h) = inr h

@@ -108,11 +108,11 @@ struct Hunted<'a, 'i> {
 }
 
 // Shrinks a run that was found, whose trace and outputs go into files at these paths, over what was found.
-fn shrunk<R: Clock + Eprint + AllocGlobal, D: Folder, G, O: Sink, E: Sink>(
+fn shrunk<'a, R: Clock + Eprint + AllocGlobal, D: Folder, G, O: Sink, E: Sink>(
     around: &Surroundings<'_, R, D, G>,
     places: Places<'_, '_>,
-    hunted: Hunted<'_, '_>,
-    found: &Trace,
+    hunted: Hunted<'a, '_>,
+    found: &'a Trace,
     out: &mut O,
     faults: &mut E,
 ) -> Result<Shrunk, ExitStatus>
@@ -124,16 +124,12 @@ fn shrunk<R: Clock + Eprint + AllocGlobal, D: Folder, G, O: Sink, E: Sink>(
     ensures stopped { IfErr result (λ answered. RefusesFound hunted.entry.image.now hunted.entry.plan.now found.now answered
         (writer_of (E.written faults.old) (E.written faults.new) (E.broken faults.new)) ⊎ IsStatusOfNoRecording answered) }
 {
-    let Hunted {
-        image,
-        plan,
-        arguments,
-    } = hunted;
-    let until = arguments.until.as_slice();
+    let until = hunted.arguments.until.as_slice();
     let Ok(texts) = copied_texts(around.rt.alloc(), until) else {
         say(faults, "memory ran out", "", "");
         return Err(ExitStatus::Failed);
     };
+    let plan = hunted.plan;
     let shrinking = ShrinkPlan {
         record: plan_like(found, plan.record.random, plan.record.input),
         conditions: plan.conditions,
@@ -143,18 +139,18 @@ fn shrunk<R: Clock + Eprint + AllocGlobal, D: Folder, G, O: Sink, E: Sink>(
         is_shown: plan.is_shown,
     };
     let run = GivenRun {
-        image,
+        image: hunted.image,
         trace: found,
     };
     shrunk_into(around, places, &run, &shrinking, out, faults)
 }
 
 // The exit status of the shrinking of a run that was found.
-fn shrunk_found<R, D, G, O, E>(
+fn shrunk_found<'a, R, D, G, O, E>(
     around: &Surroundings<'_, R, D, G>,
     places: Places<'_, '_>,
-    hunted: Hunted<'_, '_>,
-    found: &Trace,
+    hunted: Hunted<'a, '_>,
+    found: &'a Trace,
     out: &mut O,
     faults: &mut E,
 ) -> ExitStatus

@@ -1,5 +1,4 @@
 use Rattle.std.proofs.Common.{inl, ◌∙◌, subst}
-use Rattle.std.specs.String.{string_bytes}
 use Rattle.ir_files.specs.Writers.{writer_of}
 use Rattle.ir_commands.specs.Exploring.{IsPlanOf, Tells}
 use Rattle.ir_commands.specs.Files.{IsImageIn}

@@ -1,4 +1,4 @@
-use Rattle.std.proofs.Common.{◌∙◌, List, ℕ, ap, false, true, refl, subst, sym}
+use Rattle.std.proofs.Common.{◌∙◌, List, ℕ, ap, refl, subst, sym}
 use Rattle.std.proofs.lemmas.Result.{IfErr-weaker, on_ok_weaker}
 use Rattle.std.specs.String.{string_bytes}
 use Rattle.ir_files.specs.Given.{IsStored}
@@ -57,9 +57,8 @@ returns-then-arguments-clause-none g c =
           (subst (λ t. AreWritten t c.in_ok-conditions.conditions.items) c.as_slice-2.ensures.value c.in_ok-conditions.ensures.read);
     } in
     let out = writer_of (g.O.Sink.written c.args.out.now) (g.O.Sink.written c.hang_into.new.out) (g.O.Sink.broken c.hang_into.new.out) in
-    let told = λ f. writer_of (g.E.Sink.written f) (g.E.Sink.written c.hang_into.new.faults) (g.E.Sink.broken c.hang_into.new.faults) in
     let kept = c.in_ok-outputs.ensures.kept ∙ c.in_ok-conditions.ensures.kept ∙ c.in_ok-image.ensures.kept ∙ c.if-loses_input.ensures.kept refl in
-    IfErr-weaker c.hang_into.result _ _ (λ answered h. search_misses answered out asked (sym c.if-arguments.true) (ap told kept) h) c.hang_into.ensures.none
+    IfErr-weaker c.hang_into.result _ _ (λ answered h. search_misses answered out asked (sym c.if-arguments.true) (ap (λ f. writer_of (g.E.Sink.written f) (g.E.Sink.written c.hang_into.new.faults) (g.E.Sink.broken c.hang_into.new.faults)) kept) h) c.hang_into.ensures.none
 
 pub returns-clause-found : goal.returns-clause-found
 returns-clause-found g c =
@@ -108,6 +107,5 @@ returns-clause-none g c =
           (subst (λ t. AreWritten t c.in_ok-conditions.conditions.items) c.as_slice-2.ensures.value c.in_ok-conditions.ensures.read);
     } in
     let out = writer_of (g.O.Sink.written c.args.out.now) (g.O.Sink.written c.found_into.new.out) (g.O.Sink.broken c.found_into.new.out) in
-    let told = λ f. writer_of (g.E.Sink.written f) (g.E.Sink.written c.found_into.new.faults) (g.E.Sink.broken c.found_into.new.faults) in
     let kept = c.in_ok-outputs.ensures.kept ∙ c.in_ok-conditions.ensures.kept ∙ c.in_ok-image.ensures.kept ∙ c.if-loses_input.ensures.kept refl in
-    IfErr-weaker c.found_into.result _ _ (λ answered h. search_misses answered out asked (sym c.if-arguments.false) (ap told kept) h) c.found_into.ensures.none
+    IfErr-weaker c.found_into.result _ _ (λ answered h. search_misses answered out asked (sym c.if-arguments.false) (ap (λ f. writer_of (g.E.Sink.written f) (g.E.Sink.written c.found_into.new.faults) (g.E.Sink.broken c.found_into.new.faults)) kept) h) c.found_into.ensures.none

@@ -1,5 +1,6 @@
-use Rattle.std.proofs.Common.{◌∙◌, ap, subst}
+use Rattle.std.proofs.Common.{◌∙◌, ap}
 use Rattle.std.proofs.lemmas.Result.{IfErr-weaker}
+use Rattle.ir_files.specs.Writers.{writer_of}
 use Rattle.ir_trace.specs.Encoding.{encoding}
 use Rattle.ir_commands.proofs.Searched.{hang_vain, on_both, with_plan}
 use Rattle.ir_commands.proofs.Stored.{stored_in_place}
@@ -27,4 +28,5 @@ returns-clause-found g c =
 pub returns-clause-none : goal.returns-clause-none
 returns-clause-none g c =
     let explore = c.args.plan.now.explore in
-    IfErr-weaker c.hang_in.result _ _ (λ answered h. hang_vain (c.within.ensures ∙ ap (λ n. record explore { switches = n }) c.most.ensures) h) c.hang_in.ensures.none
+    IfErr-weaker c.hang_in.result _ _ (λ answered h. hang_vain (writer_of (g.O.Sink.written c.args.out.now) (g.O.Sink.written c.hang_in.new.out) (g.O.Sink.broken c.hang_in.new.out))
+    (c.within.ensures ∙ ap (λ n. record explore { switches = n }) c.most.ensures) h) c.hang_in.ensures.none

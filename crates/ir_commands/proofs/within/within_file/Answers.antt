@@ -1,6 +1,5 @@
 use Rattle.std.proofs.Common.{◌≡◌, ◌∙◌, inl, inr, false, refl, subst, sym}
 use Rattle.ir_files.specs.Writers.{writer_of}
-use Rattle.ir_within.specs.Faults.{Comparison}
 use Rattle.ir_within.specs.Plans.{aspects_of}
 use Rattle.ir_commands.specs.Exploring.{IsPlanOf, LacksCounted, TellsComparison, counted_asked}
 use Rattle.ir_commands.specs.Files.{TellsFault}
