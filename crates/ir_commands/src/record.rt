@@ -231,7 +231,7 @@ where
     E: Sink,
     requires writes { O.broken out.old ≡ false }
     requires reports { E.broken faults.old ≡ false }
-    ensures done { IfOk result (λ recorded. Records (D.bytes_at around.now.folder.now) (λ place bytes. IsStored (D.knows around.now.folder.now) (D.was_put around.now.folder.now) place bytes)
+    ensures done { IfOk result (λ recorded. Records (D.bytes_at around.now.folder.now) (λ place bytes. IsStored D.known (D.knows around.now.folder.now) (D.was_put around.now.folder.now) place bytes)
         arguments.now recorded (writer_of (O.written out.old) (O.written out.new) (O.broken out.new))) }
     ensures stopped { IfErr result (λ answered. StopsRecords (D.bytes_at around.now.folder.now) arguments.now answered (writer_of (O.written out.old) (O.written out.new) (O.broken out.new))
         (writer_of (E.written faults.old) (E.written faults.new) (E.broken faults.new)) (out.new ≡ out.old)
@@ -273,7 +273,7 @@ where
     E: Sink,
     requires writes { O.broken out.old ≡ false }
     requires reports { E.broken faults.old ≡ false }
-    ensures { RecordsFile (D.bytes_at around.now.folder.now) (λ place bytes. IsStored (D.knows around.now.folder.now) (D.was_put around.now.folder.now) place bytes)
+    ensures { RecordsFile (D.bytes_at around.now.folder.now) (λ place bytes. IsStored D.known (D.knows around.now.folder.now) (D.was_put around.now.folder.now) place bytes)
         arguments.now result (writer_of (O.written out.old) (O.written out.new) (O.broken out.new))
         (writer_of (E.written faults.old) (E.written faults.new) (E.broken faults.new)) (out.new ≡ out.old) }
 {
