@@ -316,7 +316,7 @@ where
     requires reads { I.broken input ≡ false }
     requires writes { O.broken out.old ≡ false }
     requires reports { E.broken faults.old ≡ false }
-    ensures { ServesWords (D.bytes_at around.entry.folder.now) (λ place bytes. IsStored (D.knows around.entry.folder.now) (D.was_put around.entry.folder.now) place bytes)
+    ensures { ServesWords (D.bytes_at around.entry.folder.now) (λ place bytes. IsStored D.known (D.knows around.entry.folder.now) (D.was_put around.entry.folder.now) place bytes)
         (map string_bytes invocation.now.arguments.now) result (I.left input) (writer_of (O.written out.old) (O.written out.new) (O.broken out.new))
         (writer_of (E.written faults.old) (E.written faults.new) (E.broken faults.new)) (out.new ≡ out.old) }
 {

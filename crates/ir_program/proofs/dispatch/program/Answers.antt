@@ -4,9 +4,9 @@ use Rattle.ir_program.proofs.dispatch.program.Goals as goal
 
 pub returns : goal.returns
 returns g c = record {
-  asked = c.parsed.result;
-  is_asked = c.parsed.ensures;
-  told = writer_of (g.E.Sink.written c.args.faults.now) (g.E.Sink.written c.serve.new.faults) (g.E.Sink.broken c.serve.new.faults);
-  done = c.serve.ensures;
+  asked = c.parsed-asked.result;
+  is_asked = c.parsed-asked.ensures;
+  told = writer_of (g.E.Sink.written c.args.faults.now) (g.E.Sink.written c.serve-status.new.faults) (g.E.Sink.broken c.serve-status.new.faults);
+  done = c.serve-status.ensures;
   no_more = λ other. ap (λ w. writer_of (g.E.Sink.written c.args.faults.now) (g.E.Sink.written w) (g.E.Sink.broken w)) (sym (c.explain.ensures other));
 }
