@@ -159,7 +159,8 @@ where
     D: Folder,
     O: Sink,
     E: Sink,
-    ensures { EndsFound hunted.entry.image.now hunted.entry.plan.now found.now (λ bytes. IsStored D.known (D.knows around.now.folder.now) (D.was_put around.now.folder.now) places.entry.trace.now bytes) result
+    ensures { EndsFound hunted.entry.image.now hunted.entry.plan.now found.now
+        (λ bytes. IsStored D.known (D.knows around.now.folder.now) (D.was_put around.now.folder.now) places.entry.trace.now bytes) result
         (writer_of (O.written out.old) (O.written out.new) (O.broken out.new)) (writer_of (E.written faults.old) (E.written faults.new) (E.broken faults.new)) }
 {
     if out.failed() || faults.failed() {

@@ -1,6 +1,5 @@
 -- What the program does by the words of its command line.
 use Rattle.std.specs.Prelude.{◌≡◌, ◌≢◌, ℕ, List, Option}
-use Rattle.clap.specs.Words.{Text}
 use Rattle.ir_arguments.specs.Parsing.{IsAskedBy}
 use Rattle.ir_arguments.specs.Views.{request_of}
 use Rattle.ir_arguments.specs.declared.asked.Asked.{Asked}
@@ -13,7 +12,7 @@ use Rattle.ir_program.specs.Doing.{Does}
 
 -- The words, of which the first is the program's name, ask for a request, and it was done: the program ended with this status, had this input left
 -- before, and these took what it wrote. After that standard error may say what a refused image is.
-pub record ServesWords (at : Paths) (stored : Storing) (words : List Text) (answered : ExitStatus) (input : Option (List ℕ)) (out faults : Writer)
+pub record ServesWords (at : Paths) (stored : Storing) (words : List (List ℕ)) (answered : ExitStatus) (input : Option (List ℕ)) (out faults : Writer)
     (unprinted : Type 0) : Type 0 where
   pub asked : Asked
   pub is_asked : IsAskedBy words (request_of asked)

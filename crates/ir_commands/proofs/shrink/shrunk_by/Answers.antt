@@ -46,7 +46,8 @@ returns-clause-done g c =
       given = c.in_ok-trace.trace;
       plan = plan;
       asked = asked;
-      shrunk = shrunk_at stored (c.new-places.ensures.trace ∙ c.as_str.ensures.value) (ap (λ o. writer_of (g.O.Sink.written o) (g.O.Sink.written c.shrunk_into.new.out) (g.O.Sink.broken c.shrunk_into.new.out)) c.in_ok-trace.ensures.quiet) h;
+      shrunk = shrunk_at stored (c.new-places.ensures.trace ∙ c.as_str.ensures.value) (ap (λ o. writer_of (g.O.Sink.written o) (g.O.Sink.written
+          c.shrunk_into.new.out) (g.O.Sink.broken c.shrunk_into.new.out)) c.in_ok-trace.ensures.quiet) h;
     }) c.shrunk_into.ensures.done
 
 pub returns-clause-stopped : goal.returns-clause-stopped
@@ -81,4 +82,5 @@ returns-clause-stopped g c =
     } in
     let kept = c.in_ok-outputs.ensures.kept ∙ c.in_ok-conditions.ensures.kept ∙ c.in_ok-trace.ensures.kept ∙ c.in_ok-given.ensures.kept
     ∙ c.if-loses_given.ensures.kept refl in
-    IfErr-weaker c.shrunk_into.result _ _ (λ answered h. shrink_refuses answered asked (ap (λ f. writer_of (g.E.Sink.written f) (g.E.Sink.written c.shrunk_into.new.faults) (g.E.Sink.broken c.shrunk_into.new.faults)) kept) h) c.shrunk_into.ensures.stopped
+    IfErr-weaker c.shrunk_into.result _ _ (λ answered h. shrink_refuses answered asked (ap (λ f. writer_of (g.E.Sink.written f) (g.E.Sink.written
+    c.shrunk_into.new.faults) (g.E.Sink.broken c.shrunk_into.new.faults)) kept) h) c.shrunk_into.ensures.stopped

@@ -58,7 +58,8 @@ returns-then-arguments-clause-none g c =
     } in
     let out = writer_of (g.O.Sink.written c.args.out.now) (g.O.Sink.written c.hang_into.new.out) (g.O.Sink.broken c.hang_into.new.out) in
     let kept = c.in_ok-outputs.ensures.kept ∙ c.in_ok-conditions.ensures.kept ∙ c.in_ok-image.ensures.kept ∙ c.if-loses_input.ensures.kept refl in
-    IfErr-weaker c.hang_into.result _ _ (λ answered h. search_misses answered out asked (sym c.if-arguments.true) (ap (λ f. writer_of (g.E.Sink.written f) (g.E.Sink.written c.hang_into.new.faults) (g.E.Sink.broken c.hang_into.new.faults)) kept) h) c.hang_into.ensures.none
+    IfErr-weaker c.hang_into.result _ _ (λ answered h. search_misses answered out asked (sym c.if-arguments.true) (ap
+    (λ f. writer_of (g.E.Sink.written f) (g.E.Sink.written c.hang_into.new.faults) (g.E.Sink.broken c.hang_into.new.faults)) kept) h) c.hang_into.ensures.none
 
 pub returns-clause-found : goal.returns-clause-found
 returns-clause-found g c =
@@ -108,4 +109,5 @@ returns-clause-none g c =
     } in
     let out = writer_of (g.O.Sink.written c.args.out.now) (g.O.Sink.written c.found_into.new.out) (g.O.Sink.broken c.found_into.new.out) in
     let kept = c.in_ok-outputs.ensures.kept ∙ c.in_ok-conditions.ensures.kept ∙ c.in_ok-image.ensures.kept ∙ c.if-loses_input.ensures.kept refl in
-    IfErr-weaker c.found_into.result _ _ (λ answered h. search_misses answered out asked (sym c.if-arguments.false) (ap (λ f. writer_of (g.E.Sink.written f) (g.E.Sink.written c.found_into.new.faults) (g.E.Sink.broken c.found_into.new.faults)) kept) h) c.found_into.ensures.none
+    IfErr-weaker c.found_into.result _ _ (λ answered h. search_misses answered out asked (sym c.if-arguments.false) (ap
+    (λ f. writer_of (g.E.Sink.written f) (g.E.Sink.written c.found_into.new.faults) (g.E.Sink.broken c.found_into.new.faults)) kept) h) c.found_into.ensures.none
