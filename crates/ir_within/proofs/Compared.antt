@@ -14,7 +14,7 @@ use Rattle.ir_outcomes.specs.declared.shown.Shown.{Shown}
 use Rattle.ir_schedule.specs.Conditions.{EndState, end_state}
 use Rattle.ir_state_store.specs.Nodes.{SourcedFlat}
 use Rattle.ir_within.specs.Aspects.{Aspects, what_counts, seen}
-use Rattle.ir_within.specs.Judging.{AreSeen, HasSame, AreCompared}
+use Rattle.ir_within.specs.Judging.{AreSeen, HasSame, HoldsSame, AreCompared}
 use Rattle.ir_within.specs.Within.{AreJudged}
 
 -- ---- lists that grow at the end
@@ -104,6 +104,16 @@ one_more_compared a flats xs others marks x s c mark done at is_flat is some non
       | inl kept ↦ absurd (let less = slice_get_within marks i b kept in let n = done.count in omega (arith, less, n, end))
       | inr q ↦ q.1
     ]
+
+-- among all that are the same as those
+pub compared_with_kept : (a : Aspects) (flats : List SourcedFlat) (xs : List Shown) (kept all : List EndState) (marks : List Bool) → HoldsSame kept all
+    → AreCompared a flats xs kept marks → AreCompared a flats xs all marks
+compared_with_kept a flats xs kept all marks same done = record {
+  count = done.count;
+  among = λ i x s at marked. (same (what_counts a (end_state s.flat))).0 (done.among i x s at marked);
+  none = λ i x s at marked has. done.none i x s at marked ((same (what_counts a (end_state s.flat))).1 has);
+  flat = done.flat;
+}
 
 -- ---- both guests
 

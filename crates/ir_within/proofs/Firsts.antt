@@ -1,19 +1,16 @@
 -- Classes of outcomes: the first of each, and what it stands for.
-use Rattle.std.proofs.Common.{◌≡◌, ◌∙◌, ◌<◌, ℕ, zero, suc, Bool, true, false, List, [], ◌∷◌, ◌++◌, Some, length, take, length-append, refl, sym, ap, subst, arith, inl, inr}
+use Rattle.std.proofs.Common.{◌≡◌, ◌∙◌, ◌<◌, ℕ, zero, suc, Bool, true, false, List, Some, length, refl, sym, ap, subst, arith, inl, inr}
 use Rattle.std.specs.Prelude.{◌≤◌, slice_get}
 use Rattle.std.proofs.lemmas.Bool.{cases_lt}
 use Rattle.std.proofs.lemmas.Option.{same_Some, slice_get_within}
-use Rattle.ir_lemmas.proofs.CallerLemmas.{element_below_length, slice_get-push_cases, slice_get_append_kept}
+use Rattle.ir_lemmas.proofs.CallerLemmas.{element_below_length}
 use Rattle.ir_flat.specs.Flat.{tables}
-use Rattle.ir_graph.specs.Outcomes.{RunOutcome, run_outcome}
-use Rattle.ir_graph.specs.Setup.{IsCountedOf}
+use Rattle.ir_graph.specs.Outcomes.{run_outcome}
 use Rattle.ir_image.specs.Guest.{Guest}
-use Rattle.ir_outcomes.specs.Explored.{IsOutcomeOf, ShowsState}
+use Rattle.ir_outcomes.specs.Explored.{ShowsState}
 use Rattle.ir_outcomes.specs.Shown.{outcome_by, switches_by}
 use Rattle.ir_outcomes.specs.declared.shown.Shown.{Shown}
-use Rattle.ir_runs.specs.Run.{Step}
 use Rattle.ir_schedule.specs.Conditions.{EndState, end_state}
-use Rattle.ir_search.specs.declared.search.Ended.TheVariants.{Finished}
 use Rattle.ir_state_store.specs.Nodes.{SourcedFlat}
 use Rattle.ir_explore.specs.Plan.{ExplorePlan, setup_of}
 use Rattle.ir_explore.specs.Texts.{Known, AreKnown}
@@ -22,47 +19,10 @@ use Rattle.ir_explore.specs.Faults.{HasNoGuest}
 use Rattle.ir_explore.specs.declared.fault.ExploreFault.{ExploreFault}
 use Rattle.ir_explore.specs.declared.fault.ExploreFault.TheVariants.{Image, TooLarge, NoMem, Write}
 use Rattle.ir_files.specs.Writers.{Writer}
-use Rattle.ir_within.specs.Classes.{AreFirstSeen, AreClasses, HasEarlier, HasNoClasses}
-use Rattle.ir_within.specs.Judging.{AreSeen, HasSame}
+use Rattle.ir_within.specs.Classes.{AreFirstSeen, AreClasses, HasNoClasses}
+use Rattle.ir_within.specs.Judging.{AreSeen}
 use Rattle.ir_within.specs.Laws.{HasFirst, EachClassIsListed, ClassHasFewest}
 use Rattle.ir_within.proofs.Compared.{seen_by_state}
-
--- ---- marks
-
--- one of the first that is equal is an earlier one
-pub same_is_earlier : (all : List EndState) (n : ℕ) (x : EndState) → HasSame (take n all) x → (j : ℕ) × (j < n) × (slice_get all j ≡ Some x)
-same_is_earlier all zero x (j, e) = absurd (cc e)
-same_is_earlier [] (suc n) x (j, e) = absurd (cc e)
-same_is_earlier (y ∷ all) (suc n) x (zero, e) = (zero, omega arith, e)
-same_is_earlier (y ∷ all) (suc n) x (suc j, e) = let p = same_is_earlier all n x (j, e) in let b = p.1 in (suc p.0, omega (arith, b), p.2)
-
-pub earlier_is_same : (all : List EndState) (n : ℕ) (x : EndState) (j : ℕ) → j < n → slice_get all j ≡ Some x → HasSame (take n all) x
-earlier_is_same all zero x j less e = absurd (omega (arith, less))
-earlier_is_same [] (suc n) x j less e = absurd (cc e)
-earlier_is_same (y ∷ all) (suc n) x zero less e = (zero, e)
-earlier_is_same (y ∷ all) (suc n) x (suc j) less e = let p = earlier_is_same all n x j (omega (arith, less)) e in (suc p.0, p.1)
-
--- one more: whether an earlier one is equal
-pub one_more_first : (all : List EndState) (n : ℕ) (firsts : List Bool) (x : EndState) (mark : Bool) → AreFirstSeen all n firsts → slice_get all n ≡ Some x
-    → (mark ≡ false → (j : ℕ) × (j < n) × (slice_get all j ≡ Some x)) → (mark ≡ true → (j : ℕ) → j < n → slice_get all j ≡ Some x → ⊥)
-    → AreFirstSeen all (suc n) (firsts ++ mark ∷ [])
-one_more_first all n firsts x mark done at some none = record {
-  count = let p = length-append firsts (mark ∷ []) in let c = done.count in omega (arith, p, c);
-  later = λ i y there marked. elim (slice_get-push_cases firsts mark i false marked) [
-    | inl old ↦ done.later i y there old
-    | inr q ↦
-        let place : i ≡ n = q.0 ∙ done.count in
-        let same : x ≡ y = same_Some x y (sym at ∙ ap (slice_get all) (sym place) ∙ there) in
-        let found = some q.1 in (found.0, subst (λ z. found.0 < z) (sym place) found.1, found.2 ∙ ap Some same)
-  ];
-  first = λ i y there marked j less equal. elim (slice_get-push_cases firsts mark i true marked) [
-    | inl old ↦ done.first i y there old j less equal
-    | inr q ↦
-        let place : i ≡ n = q.0 ∙ done.count in
-        let same : x ≡ y = same_Some x y (sym at ∙ ap (slice_get all) (sym place) ∙ there) in
-        none q.1 j (subst (λ z. j < z) place less) (equal ∙ ap Some (sym same))
-  ];
-}
 
 -- ---- classes
 

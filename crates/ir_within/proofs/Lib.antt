@@ -1,5 +1,7 @@
+mod First
 mod Firsts
 mod Compared
+mod Kept
 mod Lines
+mod Marks
 mod Meaning
-mod Rows

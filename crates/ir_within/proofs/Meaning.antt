@@ -27,7 +27,7 @@ within_is_finished Finished zero h = (refl, refl)
 within_is_finished Covered zero h = absurd (cc h)
 within_is_finished (Stopped why) zero h = absurd (cc h)
 
-some_are_outside : (e : Ended) (n many : ℕ) → Outside many ≡ verdict_of e n → 0 < n
+pub some_are_outside : (e : Ended) (n many : ℕ) → Outside many ≡ verdict_of e n → 0 < n
 some_are_outside e (suc n) many h = omega arith
 some_are_outside Finished zero many h = absurd (cc h)
 some_are_outside Covered zero many h = absurd (cc h)
@@ -41,7 +41,7 @@ inside_if_none_outside (true ∷ outside) i none less = absurd (omega (arith, no
 inside_if_none_outside (false ∷ outside) zero none less = refl
 inside_if_none_outside (false ∷ outside) (suc i) none less = inside_if_none_outside outside i none (omega (arith, less))
 
-outside_mark : (outside : List Bool) → 0 < marked_count outside → (i : ℕ) × (slice_get outside i ≡ Some true)
+pub outside_mark : (outside : List Bool) → 0 < marked_count outside → (i : ℕ) × (slice_get outside i ≡ Some true)
 outside_mark [] some = absurd (omega (arith, some))
 outside_mark (true ∷ outside) some = (0, refl)
 outside_mark (false ∷ outside) some = let found = outside_mark outside some in (suc found.0, found.1)
@@ -62,7 +62,7 @@ like_if_among a guest other plan m x are among = (
 )
 
 -- an outcome that is compared, and no outcome of the other guest is the same: where the other's are all listed, no listed one is
-among_if_like : (a : Aspects) (guest other : Guest) (plan : ExplorePlan) (m : Known) (x : RunOutcome)
+pub among_if_like : (a : Aspects) (guest other : Guest) (plan : ExplorePlan) (m : Known) (x : RunOutcome)
     → AreAll (setup_of other plan) m.flats m.outcomes → HasLike a guest other plan x → IsAmong a guest other m x
 among_if_like a guest other plan m x all like =
     let listed = (all like.0).0 like.1 in

@@ -15,6 +15,7 @@ use Rattle.ir_explore.specs.Texts.{Known, AreKnown, IsEnding, IsStopped, objects
 use Rattle.ir_explore.specs.declared.fault.ExploreFault.{ExploreFault}
 use Rattle.ir_explore.specs.declared.fault.ExploreFault.TheVariants.{Image, TooLarge, NoMem, Write}
 use Rattle.ir_within.specs.Aspects.{Aspects, seen}
+use Rattle.ir_within.specs.Judging.{AreSeen}
 use Rattle.ir_within.specs.Within.{AreMarkedTexts, marked_count}
 
 -- of each of these it is said whether it is the first of its kind: no earlier one is equal
@@ -22,6 +23,10 @@ pub record AreFirstSeen (all : List EndState) (many : ℕ) (firsts : List Bool) 
   pub count : length firsts ≡ many
   pub later : (i : ℕ) (x : EndState) → slice_get all i ≡ Some x → slice_get firsts i ≡ Some false → (j : ℕ) × (j < i) × (slice_get all j ≡ Some x)
   pub first : (i : ℕ) (x : EndState) → slice_get all i ≡ Some x → slice_get firsts i ≡ Some true → (j : ℕ) → j < i → slice_get all j ≡ Some x → ⊥
+
+-- of each listed outcome it is said whether what counts of it is the first of its kind
+abbrev pub AreFirsts : Aspects → List SourcedFlat → List Shown → List Bool → Type 0
+AreFirsts a flats outcomes firsts = (all : List EndState) × AreSeen a flats outcomes all × AreFirstSeen all (length all) firsts
 
 -- an outcome that is listed before place i is the same in what counts
 abbrev pub HasEarlier : Aspects → Guest → Known → ℕ → RunOutcome → Type 0

@@ -10,10 +10,15 @@ use Rattle.ir_runs.specs.Run.{Step}
 use Rattle.ir_search.specs.declared.search.Ended.TheVariants.{Finished}
 use Rattle.ir_state_store.specs.Nodes.{SourcedFlat}
 use Rattle.ir_flat.specs.Flat.{tables}
+use Rattle.ir_thread.specs.State.{most_budget}
+use Rattle.ir_trace.specs.Recorded.{Recorded}
 use Rattle.ir_explore.specs.Plan.{ExplorePlan, setup_of}
+use Rattle.ir_explore.specs.Recorded.{IsOfOutcome}
 use Rattle.ir_explore.specs.Texts.{Known, AreKnown}
 use Rattle.ir_within.specs.Aspects.{Aspects, seen}
 use Rattle.ir_within.specs.Classes.{AreClasses}
+use Rattle.ir_within.specs.Faults.{Comparison}
+use Rattle.ir_within.specs.Outside.{IsOutsideRecorded}
 use Rattle.ir_within.specs.Within.{IsWithinAnswer}
 use Rattle.ir_within.specs.declared.verdict.Verdict.TheVariants.{Within, Outside}
 
@@ -49,3 +54,9 @@ ClassHasFewest = (a : Aspects) (guest : Guest) (plan : ExplorePlan) (k : Known) 
     → (budget : ℕ) (steps : List Step) → IsCountedOf (setup_of guest plan) budget steps
     → seen a guest (outcome_by (setup_of guest plan) budget steps) ≡ seen a guest (run_outcome (tables s.flat))
     → y.level ≤ switches_by (setup_of guest plan) budget steps
+
+-- the law of what is recorded: the trace is of a run with an outcome of the guest, which is none of the other's, in what counts
+abbrev pub RecordedIsOutside : Type 0
+RecordedIsOutside = (c : Comparison) (list text : List ℕ) (trace : Recorded) (outputs : List (List ℕ)) (r : IsOutsideRecorded c list text trace outputs)
+    → (x : RunOutcome) × IsOfOutcome (setup_of r.found.guest c.plan) most_budget trace outputs x × IsOutcomeOf (setup_of r.found.guest c.plan) x
+    × (HasLike c.aspects r.found.guest r.found.other c.plan x → ⊥)

@@ -5,4 +5,5 @@ pub mod Classes
 pub mod Judging
 pub mod Faults
 pub mod Plans
+pub mod Outside
 pub mod Laws

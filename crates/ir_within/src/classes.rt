@@ -1,6 +1,6 @@
 //! The classes of a guest's outcomes: those that are the same in what counts are in one class.
 
-ghost use Rattle.std.specs.Prelude.{◌≡◌, ◌<◌, ◌++◌, ℕ, length, map, slice_get, Some, IfOk, IfErr, false, ◌⊎◌};
+ghost use Rattle.std.specs.Prelude.{◌≡◌, ◌<◌, ◌++◌, ℕ, length, slice_get, Some, IfOk, IfErr, false, ◌⊎◌};
 ghost use Rattle.std.specs.String.{string_bytes};
 ghost use Rattle.ir_explore.specs.Faults.{explore_fault_status, explore_fault_words};
 ghost use Rattle.ir_explore.specs.Texts.{AreKnown, known_of};
@@ -10,23 +10,24 @@ ghost use Rattle.ir_files.specs.Writers.{writer_of, Reports, fault_text};
 ghost use Rattle.ir_image.specs.Guest.{Guest};
 ghost use Rattle.ir_outcomes.specs.declared.shown.Shown.{Shown};
 ghost use Rattle.ir_thread.specs.State.{IsAllowed};
-ghost use Rattle.ir_within.specs.Classes.{AreFirstSeen, AreClasses, IsClassesText, IsClassesAnswer, TellsClasses, HasNoClasses, classes_line};
+ghost use Rattle.ir_within.specs.Classes.{AreFirsts, AreClasses, IsClassesText, IsClassesAnswer, TellsClasses, HasNoClasses, classes_line};
 ghost use Rattle.ir_within.specs.Plans.{aspects_of};
-ghost use Rattle.ir_within.specs.Seen.{value_of};
 
 use crate::aspects::Aspects;
-use crate::judging::{all_seen, has_same};
-use crate::seen::Seen;
+use crate::seen::seen_of;
+use crate::seen_set::SeenSet;
 use crate::texts::{marked_count, marked_text};
 use ir_explore::{
-    ExploreFault, ExplorePlan, Started, ending_text, explore_by_plan, guest_of, stopped_text,
+    ExploreFault, ExplorePlan, Started, ending_text, explore_by_plan, guest_of, state_of,
+    stopped_text,
 };
 use ir_files::{ExitStatus, tell};
 use ir_flat::Flat;
 use ir_image::Image;
-use ir_outcomes::Explored;
+use ir_outcomes::{Explored, Shown};
 use ir_record_command::ParsedImage;
 use ir_search::Observer;
+use ir_state_store::Store;
 use ir_stream::{Sink, write_all};
 use std::alloc::{AllocError, Global};
 
@@ -43,14 +44,23 @@ pub struct ClassesPlan<'a, 'i, 'o, W> {
     pub observer: &'o W,
 }
 
-// Of each of these whether it is the first of its kind.
-fn firsts(alloc: Global, all: &[Seen]) -> Result<Vec<bool>, AllocError>
-    ensures { IfOk result (λ v. AreFirstSeen (map value_of all.now) (length all.now) v.items) }
+// Of each of these outcomes whether what counts of it is the first of its kind.
+fn firsts(
+    alloc: Global,
+    aspects: Aspects<'_>,
+    flats: &Store<'_>,
+    outcomes: &[Shown],
+) -> Result<Vec<bool>, AllocError>
+    requires { (i : ℕ) (x : Shown) → slice_get outcomes.now i ≡ Some x → x.node < length flats.now.items }
+    ensures { IfOk result (λ v. AreFirsts (aspects_of aspects.entry) flats.now.items outcomes.now v.items) }
 {
+    let mut kept = SeenSet::new(alloc);
     let mut marks = Vec::new(alloc);
-    for i in 0..all.len() {
-        let is_known = has_same(&all[..i], &all[i]);
-        marks.push(!is_known)?;
+    for shown in outcomes {
+        let state = state_of(flats, shown)?;
+        let own = seen_of(alloc, aspects, &state.flat)?;
+        let is_new = kept.add(own)?;
+        marks.push(is_new)?;
     }
     Ok(marks)
 }
@@ -64,13 +74,8 @@ fn classes_of(
     requires nodes { (i : ℕ) (x : Shown) → slice_get found.now.outcomes.items i ≡ Some x → x.node < length found.now.states.graph.flats.items }
     ensures { IfOk result (λ v. (guest : Guest) (plan : ExplorePlan) → AreKnown guest plan (known_of found.now) → AreClasses (aspects_of aspects.entry) guest (known_of found.now) v.items) }
 {
-    let all = all_seen(
-        alloc,
-        aspects,
-        &found.states.graph.flats,
-        found.outcomes.as_slice(),
-    )?;
-    firsts(alloc, all.as_slice())
+    let flats = &found.states.graph.flats;
+    firsts(alloc, aspects, flats, found.outcomes.as_slice())
 }
 
 // The line that says how many classes there are.

@@ -1,79 +1,57 @@
 //! Which outcomes of a guest another guest doesn't have.
 
-ghost use Rattle.std.specs.Prelude.{◌≡◌, ◌<◌, ℕ, List, Some, length, map, slice_get, true, false, IfOk};
+ghost use Rattle.std.specs.Prelude.{◌≡◌, ◌<◌, ℕ, Some, length, slice_get, IfOk};
 ghost use Rattle.ir_explore.specs.Texts.{AreKnown, known_of};
-ghost use Rattle.ir_flat.specs.Flat.{tables};
-ghost use Rattle.ir_graph.specs.Outcomes.{run_outcome};
 ghost use Rattle.ir_image.specs.Guest.{Guest};
 ghost use Rattle.ir_explore.specs.Plan.{ExplorePlan};
-ghost use Rattle.ir_outcomes.specs.Explored.{ShowsState};
 ghost use Rattle.ir_outcomes.specs.declared.shown.Shown.{Shown};
-ghost use Rattle.ir_schedule.specs.Conditions.{end_state};
-ghost use Rattle.ir_state_store.specs.Nodes.{SourcedFlat};
 ghost use Rattle.ir_within.specs.Plans.{aspects_of};
-ghost use Rattle.ir_within.specs.Aspects.{what_counts};
-ghost use Rattle.ir_within.specs.Judging.{AreSeen, HasSame, AreCompared};
-ghost use Rattle.ir_within.specs.Seen.{value_of};
+ghost use Rattle.ir_within.specs.Judging.{AreCompared, AreKept};
 ghost use Rattle.ir_within.specs.Within.{AreJudged};
 
 use crate::aspects::Aspects;
-use crate::seen::{Seen, seen_of};
+use crate::seen::seen_of;
+use crate::seen_set::SeenSet;
 use ir_explore::state_of;
 use ir_outcomes::{Explored, Shown};
 use ir_state_store::Store;
 use std::alloc::{AllocError, Global};
 
-/// What counts of each of these outcomes.
-///
-/// # Errors
-/// Out of memory.
-pub fn all_seen(
+// What counts of these outcomes.
+fn all_kept(
     alloc: Global,
     aspects: Aspects<'_>,
     flats: &Store<'_>,
     outcomes: &[Shown],
-) -> Result<Vec<Seen>, AllocError>
+) -> Result<SeenSet, AllocError>
     requires { (i : ℕ) (x : Shown) → slice_get outcomes.now i ≡ Some x → x.node < length flats.now.items }
-    ensures { IfOk result (λ v. AreSeen (aspects_of aspects.entry) flats.now.items outcomes.now (map value_of v.items)) }
+    ensures { IfOk result (λ kept. AreKept (aspects_of aspects.entry) flats.now.items outcomes.now kept) }
 {
-    let mut all = Vec::new(alloc);
+    let mut kept = SeenSet::new(alloc);
     for shown in outcomes {
         let state = state_of(flats, shown)?;
         let own = seen_of(alloc, aspects, &state.flat)?;
-        all.push(own)?;
+        kept.add(own)?;
     }
-    Ok(all)
+    Ok(kept)
 }
 
-/// Whether some of these is the same as one.
-pub fn has_same(all: &[Seen], one: &Seen) -> bool
-    ensures some { result ≡ true → HasSame (map value_of all.now) (value_of one.now) }
-    ensures none { result ≡ false → HasSame (map value_of all.now) (value_of one.now) → ⊥ }
-{
-    for each in all {
-        if each.is_same(one) {
-            return true;
-        }
-    }
-    false
-}
-
-/// Of each of these outcomes whether it is outside: whether none of these is the same in what counts.
+// Of each of these outcomes whether it is outside: whether none of those that are kept is the same in what counts.
 fn outside(
     alloc: Global,
     aspects: Aspects<'_>,
     flats: &Store<'_>,
     outcomes: &[Shown],
-    others: &[Seen],
+    others: &SeenSet,
 ) -> Result<Vec<bool>, AllocError>
     requires { (i : ℕ) (x : Shown) → slice_get outcomes.now i ≡ Some x → x.node < length flats.now.items }
-    ensures { IfOk result (λ v. AreCompared (aspects_of aspects.entry) flats.now.items outcomes.now (map value_of others.now) v.items) }
+    ensures { IfOk result (λ v. AreCompared (aspects_of aspects.entry) flats.now.items outcomes.now others.now v.items) }
 {
     let mut marks = Vec::new(alloc);
     for shown in outcomes {
         let state = state_of(flats, shown)?;
         let own = seen_of(alloc, aspects, &state.flat)?;
-        marks.push(!has_same(others, &own))?;
+        marks.push(!others.has(&own))?;
     }
     Ok(marks)
 }
@@ -93,7 +71,7 @@ pub fn judged(
     ensures { IfOk result (λ v. (guest others : Guest) (plan : ExplorePlan) → AreKnown guest plan (known_of image.now) → AreKnown others plan (known_of other.now)
         → AreJudged (aspects_of aspects.entry) guest others (known_of image.now) (known_of other.now) v.items) }
 {
-    let others = all_seen(
+    let others = all_kept(
         alloc,
         aspects,
         &other.states.graph.flats,
@@ -104,6 +82,6 @@ pub fn judged(
         aspects,
         &image.states.graph.flats,
         image.outcomes.as_slice(),
-        others.as_slice(),
+        &others,
     )
 }

@@ -1,6 +1,6 @@
 //! What the answers mean for the runs of the guests. Each function does nothing: its contract is the law.
 
-ghost use Rattle.ir_within.specs.Laws.{ClassHasFewest, EachClassIsListed, OutsideIsSome, WithinIsEach};
+ghost use Rattle.ir_within.specs.Laws.{ClassHasFewest, EachClassIsListed, OutsideIsSome, RecordedIsOutside, WithinIsEach};
 
 /// If the answer is `within`, each complete run of the guest comes to what some complete run of the other comes to, in what counts. Runs in which
 /// a budget is spent or a log is full aside.
@@ -23,4 +23,10 @@ pub fn each_class_is_listed()
 /// of it. Runs in which a budget is spent or a log is full aside.
 pub fn class_has_fewest()
     ensures { ClassHasFewest }
+{}
+
+/// What is recorded of an outcome that is outside is of a complete run of the guest, which comes to what no complete run of the other comes to, in what
+/// counts. Runs in which a budget is spent or a log is full aside.
+pub fn recorded_is_outside()
+    ensures { RecordedIsOutside }
 {}

@@ -1,21 +1,22 @@
 //! Whether each outcome of a guest is one of another guest's.
 
-ghost use Rattle.std.specs.Prelude.{◌≡◌, ◌≢◌, ◌⊎◌, ◌++◌, ℕ, List, Ok, Err, codes, IfOk, IfErr, false, true};
+ghost use Rattle.std.specs.Prelude.{◌≡◌, ◌≢◌, ◌⊎◌, ◌++◌, ℕ, List, [], None, codes, option_map, IfOk, IfErr, false, true};
 ghost use Rattle.std.specs.String.{string_bytes};
-ghost use Rattle.std.specs.Io.KnownBytes.{Appends};
-ghost use Rattle.ir_explore.specs.Texts.{AreKnown, IsStopReason, known_of};
-ghost use Rattle.ir_files.specs.Writers.{writer_of, Reports, fault_text};
+ghost use Rattle.ir_explore.specs.Texts.{AreKnown, known_of};
+ghost use Rattle.ir_files.specs.Writers.{Writer, Took, writer_of, Reports, fault_text};
 ghost use Rattle.ir_image.specs.Guest.{Guest};
 ghost use Rattle.ir_search.specs.declared.search.Ended.TheVariants.{Finished};
 ghost use Rattle.ir_thread.specs.State.{IsAllowed};
-ghost use Rattle.ir_within.specs.Faults.{TellsWithin, ToldNone, AreFaultWords, IsAnswerFor, within_fault_status};
+ghost use Rattle.ir_within.specs.Faults.{TellsWithin, ToldNone, AreFaultWords, within_fault_status};
 ghost use Rattle.ir_within.specs.Plans.{aspects_of, comparison_of};
-ghost use Rattle.ir_within.specs.Within.{IsWithinAnswer, Searched, IsSearched, FoundAll, searched_line, verdict_line, verdict_status};
+ghost use Rattle.ir_within.specs.Outside.{IsListedAnswer, IsListedFor};
+ghost use Rattle.ir_within.specs.Within.{verdict_line};
 ghost use Rattle.ir_within.specs.declared.fault.WithinFault.{WithinFault};
 ghost use Rattle.ir_within.specs.declared.verdict.Verdict.TheVariants.{Unknown};
 
 use crate::aspects::Aspects;
 use crate::fault::WithinFault;
+use crate::first_outside::first_list;
 use crate::judging::judged;
 use crate::texts::{known_line, marked_count, marked_text, stopped_line};
 use crate::verdict::Verdict;
@@ -44,22 +45,27 @@ pub struct WithinPlan<'a, 'i, 'o, W> {
     pub observer: &'o W,
 }
 
-// What is written, and what is known.
+/// What is written, what is known, and the list of the first outcome that is outside, if some is known to be.
 #[derive(Drop)]
-struct Told {
-    text: Vec<u8>,
-    verdict: Verdict,
+pub struct Told {
+    /// What is written.
+    pub text: Vec<u8>,
+    /// What is known.
+    pub verdict: Verdict,
+    /// The list.
+    pub list: Option<String>,
 }
 
 // What is written where not all outcomes of the other guest are known, by the line of the search for them.
 fn other_unknown(alloc: Global, line: &str) -> Result<Told, AllocError>
-    ensures text { IfOk result (λ told. told.text.items ≡ codes "other " ++ (line.now ++ codes "unknown\n")) }
-    ensures unknown { IfOk result (λ told. told.verdict ≡ Unknown) }
+    ensures { IfOk result
+        (λ told. (told.text.items ≡ codes "other " ++ (line.now ++ codes "unknown\n")) × (told.verdict ≡ Unknown) × (option_map string_bytes told.list ≡ None)) }
 {
     let text = format!(in alloc; "other {line}unknown\n")?;
     Ok(Told {
         text: Vec::from_slice(alloc, text.as_bytes())?,
         verdict: Verdict::Unknown,
+        list: None,
     })
 }
 
@@ -85,9 +91,14 @@ fn compared(
     requires known { AreKnown image.now plan.now (known_of found.now) }
     requires others { (guest : Guest) × AreKnown guest plan.now (known_of other.now) }
     requires finished { other.now.ended ≡ Finished }
-    ensures { IfOk result (λ told. (guest : Guest) → AreKnown guest plan.now (known_of other.now) → IsWithinAnswer (aspects_of aspects.entry) image.now guest plan.now told.verdict told.text.items) }
+    ensures { IfOk result
+        (λ told. (guest : Guest) → AreKnown guest plan.now (known_of other.now)
+        → IsListedAnswer (aspects_of aspects.entry) image.now guest plan.now (option_map string_bytes told.list) told.verdict told.text.items) }
 {
     let outside = judged(alloc, aspects, found, other)?;
+    let list = first_list(alloc, found, outside.as_slice())?;
+    // The guest has some thread, so the list isn't empty.
+    let _ = image.entries();
     let start = Flat::start(alloc, image, 0, plan.profile)?;
     let started = Started {
         words: image.object_words(),
@@ -99,7 +110,11 @@ fn compared(
     let other_line = known_line(alloc, other)?;
     let last = ending(alloc, image_line.as_str(), other_line.as_str(), verdict)?;
     text.extend_from_slice(last.as_bytes())?;
-    Ok(Told { text, verdict })
+    Ok(Told {
+        text,
+        verdict,
+        list,
+    })
 }
 
 // What is written about a guest, where all outcomes of the other are known.
@@ -114,7 +129,7 @@ fn told_beside<W: Observer>(
     requires finished { other.now.ended ≡ Finished }
     ensures { IfOk result
         (λ told. (guest : Guest) → AreKnown guest plan.now.explore (known_of other.now)
-        → IsWithinAnswer (aspects_of plan.now.aspects) image.now guest plan.now.explore told.verdict told.text.items) }
+        → IsListedAnswer (aspects_of plan.now.aspects) image.now guest plan.now.explore (option_map string_bytes told.list) told.verdict told.text.items) }
 {
     match explore_by_plan(alloc, image, &plan.explore, plan.observer) {
         Ok(found) => compared(alloc, image, &plan.explore, plan.aspects, &found, other),
@@ -125,6 +140,7 @@ fn told_beside<W: Observer>(
             Ok(Told {
                 text: Vec::from_slice(alloc, last.as_bytes())?,
                 verdict: Verdict::Unknown,
+                list: None,
             })
         }
     }
@@ -147,7 +163,7 @@ fn told_of<W: Observer>(
 ) -> Result<Told, AllocError>
     requires allowed { IsAllowed plan.now.explore.profile image.now }
     requires other { IsAllowed plan.now.explore.profile other.now }
-    ensures { IfOk result (λ told. IsWithinAnswer (aspects_of plan.now.aspects) image.now other.now plan.now.explore told.verdict told.text.items) }
+    ensures { IfOk result (λ told. IsListedAnswer (aspects_of plan.now.aspects) image.now other.now plan.now.explore (option_map string_bytes told.list) told.verdict told.text.items) }
 {
     match explore_by_plan(alloc, other, &plan.explore, plan.observer) {
         Ok(others) => {
@@ -164,15 +180,16 @@ fn told_of<W: Observer>(
     }
 }
 
-// Writes it; the exit status.
-fn tell_within<W: Observer, O: Sink>(
+/// What is written about the guests of both images.
+///
+/// # Errors
+/// An image is refused, or its guest is too large; or memory ran out.
+pub fn told_about<W: Observer>(
     alloc: Global,
     plan: &WithinPlan<'_, '_, '_, W>,
-    out: &mut O,
-) -> Result<ExitStatus, WithinFault>
-    requires { O.broken out.old ≡ false }
-    ensures told { IfOk result (λ answered. TellsWithin (comparison_of plan.now) answered (writer_of (O.written out.old) (O.written out.new) (O.broken out.new))) }
-    ensures none { IfErr result (λ e. ToldNone e (comparison_of plan.now) (writer_of (O.written out.old) (O.written out.new) (O.broken out.new))) }
+) -> Result<Told, WithinFault>
+    ensures told { IfOk result (λ told. IsListedFor (comparison_of plan.now) (option_map string_bytes told.list) told.verdict told.text.items) }
+    ensures none { IfErr result (λ e. (w : Writer) → Took w [] → ToldNone e (comparison_of plan.now) w) }
 {
     let image = match guest_of(plan.image, &plan.explore) {
         Ok(image) => image,
@@ -182,13 +199,31 @@ fn tell_within<W: Observer, O: Sink>(
         Ok(other) => other,
         Err(why) => return Err(WithinFault::Other(why)),
     };
-    let Told { text, verdict } = told_of(alloc, image, other, plan)?;
+    Ok(told_of(alloc, image, other, plan)?)
+}
+
+// Writes it; the exit status.
+#[tactic(auto, using(crate::proofs::First::answer_for_listed))]
+fn tell_within<W: Observer, O: Sink>(
+    alloc: Global,
+    plan: &WithinPlan<'_, '_, '_, W>,
+    out: &mut O,
+) -> Result<ExitStatus, WithinFault>
+    requires { O.broken out.old ≡ false }
+    ensures told { IfOk result (λ answered. TellsWithin (comparison_of plan.now) answered (writer_of (O.written out.old) (O.written out.new) (O.broken out.new))) }
+    ensures none { IfErr result (λ e. ToldNone e (comparison_of plan.now) (writer_of (O.written out.old) (O.written out.new) (O.broken out.new))) }
+{
+    let told = match told_about(alloc, plan) {
+        Ok(told) => told,
+        Err(why) => return Err(why),
+    };
+    let Told { text, verdict, .. } = told;
     write_all(out, text.as_slice())?;
     Ok(verdict.status())
 }
 
-// Reports a fault.
-fn report<E: Sink>(alloc: Global, why: &WithinFault, faults: &mut E)
+/// Reports a fault.
+pub fn report<E: Sink>(alloc: Global, why: &WithinFault, faults: &mut E)
     requires { E.broken faults.old ≡ false }
     ensures { (words : List ℕ) × AreFaultWords why.now words × Reports (writer_of (E.written faults.old) (E.written faults.new) (E.broken faults.new)) (fault_text words) }
 {

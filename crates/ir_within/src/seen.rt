@@ -1,6 +1,6 @@
 //! What counts of what a run came to.
 
-ghost use Rattle.std.specs.Prelude.{◌≡◌, ◌≢◌, ◌++◌, [], List, map, true, false, IfOk, option_map};
+ghost use Rattle.std.specs.Prelude.{◌≡◌, [], map, IfOk, option_map};
 ghost use Rattle.std.specs.List.{slice_index_or};
 ghost use Rattle.ir_schedule.specs.Conditions.{end_state};
 ghost use Rattle.ir_within.specs.Plans.{aspects_of};
@@ -8,26 +8,29 @@ ghost use Rattle.ir_within.specs.Aspects.{what_counts, counted_words};
 ghost use Rattle.ir_within.specs.Seen.{value_of};
 
 use crate::aspects::Aspects;
+use crate::seen_end::SeenEnd;
 use ir_flat::Flat;
 use ir_object::Object;
-use ir_thread::{End, Thread};
+use ir_thread::Thread;
 use std::alloc::{AllocError, Global};
+use std::hash::Hash;
 
-/// What counts of what a run came to: nothing is in the lists that don't count.
-#[derive(Drop)]
+/// What counts of what a run came to, to be looked up by a hash: nothing is in the lists that don't count.
+#[derive(PartialEq, Eq, Hash, Drop)]
 pub struct Seen {
-    ends: Vec<Option<End>>,
+    ends: Vec<SeenEnd>,
     outputs: Vec<Vec<u8>>,
     words: Vec<Vec<u32>>,
 }
 
 // How each thread ended.
-fn ends_of(alloc: Global, threads: &[Thread]) -> Result<Vec<Option<End>>, AllocError>
-    ensures { IfOk result (λ v. v.items ≡ map (λ x. x.ended) threads.now) }
+fn ends_of(alloc: Global, threads: &[Thread]) -> Result<Vec<SeenEnd>, AllocError>
+    ensures { IfOk result (λ v. map (λ e. e.ended) v.items ≡ map (λ x. x.ended) threads.now) }
 {
     let mut ends = Vec::new(alloc);
     for thread in threads {
-        ends.push(thread.ended())?;
+        let ended = thread.ended();
+        ends.push(SeenEnd { ended })?;
     }
     Ok(ends)
 }
@@ -113,92 +116,4 @@ pub fn seen_of(alloc: Global, aspects: Aspects<'_>, flat: &Flat<'_>) -> Result<S
         outputs,
         words,
     })
-}
-
-// Whether two threads ended alike.
-fn same_end(one: Option<End>, other: Option<End>) -> bool
-    ensures same { result ≡ true → one ≡ other }
-    ensures different { result ≡ false → one ≢ other }
-{
-    one == other
-}
-
-// Whether all threads ended alike.
-fn same_ends(one: &[Option<End>], other: &[Option<End>]) -> bool
-    ensures same { result ≡ true → one.now ≡ other.now }
-    ensures different { result ≡ false → one.now ≢ other.now }
-{
-    if one.len() != other.len() {
-        return false;
-    }
-    for i in 0..one.len() {
-        if !same_end(one[i], other[i]) {
-            return false;
-        }
-    }
-    true
-}
-
-// Whether two rows of bytes are the same.
-fn same_row(one: &[u8], other: &[u8]) -> bool
-    ensures same { result ≡ true → one.now ≡ other.now }
-    ensures different { result ≡ false → one.now ≢ other.now }
-{
-    one == other
-}
-
-// Whether the rows of two tables of bytes are the same.
-fn same_bytes(one: &[Vec<u8>], other: &[Vec<u8>]) -> bool
-    ensures same { result ≡ true → map (λ v. v.items) one.now ≡ map (λ v. v.items) other.now }
-    ensures different { result ≡ false → map (λ v. v.items) one.now ≢ map (λ v. v.items) other.now }
-{
-    if one.len() != other.len() {
-        return false;
-    }
-    for i in 0..one.len() {
-        if !same_row(one[i].as_slice(), other[i].as_slice()) {
-            return false;
-        }
-    }
-    true
-}
-
-// Whether two objects' words are the same.
-fn same_object(one: &[u32], other: &[u32]) -> bool
-    ensures same { result ≡ true → one.now ≡ other.now }
-    ensures different { result ≡ false → one.now ≢ other.now }
-{
-    one == other
-}
-
-// Whether the words of all objects are the same.
-fn same_words(one: &[Vec<u32>], other: &[Vec<u32>]) -> bool
-    ensures same { result ≡ true → map (λ v. v.items) one.now ≡ map (λ v. v.items) other.now }
-    ensures different { result ≡ false → map (λ v. v.items) one.now ≢ map (λ v. v.items) other.now }
-{
-    if one.len() != other.len() {
-        return false;
-    }
-    for i in 0..one.len() {
-        if !same_object(one[i].as_slice(), other[i].as_slice()) {
-            return false;
-        }
-    }
-    true
-}
-
-impl Seen {
-    /// Whether the same counts of two outcomes.
-    pub fn is_same(&self, other: &Seen) -> bool
-        ensures same { result ≡ true → value_of self.now ≡ value_of other.now }
-        ensures different { result ≡ false → value_of self.now ≢ value_of other.now }
-    {
-        if !same_ends(self.ends.as_slice(), other.ends.as_slice()) {
-            return false;
-        }
-        if !same_bytes(self.outputs.as_slice(), other.outputs.as_slice()) {
-            return false;
-        }
-        same_words(self.words.as_slice(), other.words.as_slice())
-    }
 }

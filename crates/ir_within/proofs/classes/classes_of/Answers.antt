@@ -1,11 +1,8 @@
-use Rattle.std.proofs.Common.{List, map, length, sym, ap, ◌∙◌, subst}
-use Rattle.std.proofs.lemmas.List.{length-map}
+use Rattle.std.proofs.Common.{List, length, subst}
 use Rattle.ir_explore.specs.Texts.{known_of}
 use Rattle.ir_outcomes.specs.declared.shown.Shown.{Shown}
-use Rattle.ir_within.specs.Classes.{AreFirstSeen}
-use Rattle.ir_within.specs.Judging.{AreSeen}
+use Rattle.ir_within.specs.Classes.{AreFirsts}
 use Rattle.ir_within.specs.Plans.{aspects_of}
-use Rattle.ir_within.specs.Seen.{value_of}
 use Rattle.ir_within.proofs.Firsts.{classes_if_first}
 use Rattle.ir_lemmas.proofs.CallerLemmas.{if_ok_of_implied}
 use Rattle.ir_within.proofs.classes.classes_of.Goals as goal
@@ -14,10 +11,6 @@ pub returns : goal.returns
 returns c =
     let a = aspects_of c.args.aspects in
     let k = known_of c.args.found.now in
-    let items = c.in_ok-all.all.items in
-    let all = map value_of items in
-    let each : AreSeen a k.flats k.outcomes all = subst (λ (z : List Shown). AreSeen a k.flats z all) c.as_slice.ensures.value c.in_ok-all.ensures in
-    if_ok_of_implied _ _ c.firsts.result (λ v marks. λ guest plan known.
-    classes_if_first a guest plan k all (length c.as_slice-2.result.now) v.items known each
-    (ap length c.as_slice-2.ensures.value ∙ sym (length-map items value_of) ∙ each.count)
-    (subst (λ z. AreFirstSeen (map value_of z) (length c.as_slice-2.result.now) v.items) c.as_slice-2.ensures.value marks)) c.firsts.ensures
+    if_ok_of_implied _ _ c.firsts.result (λ v firsts. λ guest plan known.
+    let marked = subst (λ (z : List Shown). AreFirsts a k.flats z v.items) c.as_slice.ensures.value firsts in
+    classes_if_first a guest plan k marked.0 (length marked.0) v.items known marked.1 marked.1.count marked.2) c.firsts.ensures

@@ -1,4 +1,4 @@
-use Rattle.std.proofs.Common.{◌≡◌, ◌∷◌, [], ◌++◌, Some, Bool, true, false, map, not, take, refl, sym, ap, ◌∙◌, subst}
+use Rattle.std.proofs.Common.{◌≡◌, ◌∷◌, [], ◌++◌, Some, not, take, sym, ap, ◌∙◌, subst}
 use Rattle.std.proofs.lemmas.List.{take_more}
 use Rattle.std.proofs.lemmas.Option.{slice_get-get_or}
 use Rattle.ir_schedule.specs.Conditions.{end_state}
@@ -27,13 +27,13 @@ loop-shown-preserved c =
     let a = aspects_of c.args.aspects in
     let flats = c.args.flats.now.items in
     let own = c.in_ok-own.own in
-    let others = map value_of c.args.others.now in
+    let others = c.args.others.now in
     let marks = c.loop-shown.marks.items in
-    let mark = not c.has_same.result in
+    let mark = not c.has.result in
     let is : value_of own ≡ what_counts a (end_state s.flat) =
     subst (λ (z : SourcedFlat). value_of own ≡ what_counts a (end_state z.flat)) c.state.view_is c.in_ok-own.ensures in
     subst (λ z. AreCompared a flats z others c.push.new.self.items) (ap (λ y. take i xs ++ y ∷ []) c.shown-item.is ∙ sym (take_more xs i x c.loop-shown-test.true))
     (subst (AreCompared a flats (take i xs ++ x ∷ []) others) (sym c.in_ok-push.ensures.items)
     (one_more_compared a flats (take i xs) others marks x s (value_of own) mark c.loop-shown.invariant c.in_ok-state.ensures.value c.in_ok-state.ensures.flat is
-    (λ e. c.has_same.ensures.some (true_if_not_false c.has_same.result e))
-    (λ e. c.has_same.ensures.none (false_if_not_is_true c.has_same.result e))))
+    (λ e. c.has.ensures.some (true_if_not_false c.has.result e))
+    (λ e. c.has.ensures.none (false_if_not_is_true c.has.result e))))

@@ -1,5 +1,5 @@
 use Rattle.std.proofs.Common.{false, arith}
-use Rattle.ir_within.proofs.Rows.{marked_count_more, marked_count_of_marked, marked_count_of_unmarked}
+use Rattle.ir_within.proofs.Marks.{marked_count_more, marked_count_of_marked, marked_count_of_unmarked}
 use Rattle.ir_within.proofs.texts.marked_count.Goals as goal
 use Rattle.ir_within.proofs.texts.marked_count.Goals.{then-is_outside, else-is_outside}
 

@@ -1,17 +1,7 @@
--- Tables whose rows are compared one by one.
-use Rattle.std.proofs.Common.{◌≡◌, ℕ, suc, zero, ◌+◌, ◌<◌, Bool, true, false, refl, take, List, [], ◌∷◌, ◌++◌, ◌∙◌, length, map, get_or, ap, arith}
+-- How many are marked.
+use Rattle.std.proofs.Common.{◌≡◌, ℕ, ◌+◌, ◌<◌, Bool, true, false, refl, take, List, [], ◌∷◌, ◌++◌, ◌∙◌, length, get_or, ap, arith}
 use Rattle.std.proofs.lemmas.List.{take_more}
 use Rattle.ir_within.specs.Within.{marked_count}
-
--- rows of equal tables are equal
-pub rows_equal : {X Y : Type 0} (f : X → Y) (xs ys : List X) (i : ℕ) (d e : X) → i < length xs → i < length ys → map f xs ≡ map f ys
-    → f (get_or xs i d) ≡ f (get_or ys i e)
-rows_equal f [] ys i d e less within same = absurd (omega (arith, less))
-rows_equal f (x ∷ xs) [] i d e less within same = absurd (omega (arith, within))
-rows_equal f (x ∷ xs) (y ∷ ys) zero d e less within same = cc same
-rows_equal f (x ∷ xs) (y ∷ ys) (suc i) d e less within same = rows_equal f xs ys i d e (omega (arith, less)) (omega (arith, within)) (cc same)
-
--- ---- marks
 
 marked_count_append : (xs ys : List Bool) → marked_count (xs ++ ys) ≡ marked_count xs + marked_count ys
 marked_count_append [] ys = omega arith
