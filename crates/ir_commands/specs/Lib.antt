@@ -3,4 +3,5 @@ pub mod Exploring
 pub mod Files
 pub mod Listing
 pub mod Printing
+pub mod Searching
 pub mod Writing

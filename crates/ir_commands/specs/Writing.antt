@@ -1,5 +1,6 @@
 -- What the commands that write files leave there, by the bytes that a folder says are at the paths of their arguments.
-use Rattle.std.specs.Prelude.{◌≡◌, ◌⊎◌, ℕ, List, [], ◌∷◌, ◌++◌, Option, Some, None, option_map, MatchOption, Ok, Err, String, map, true, ⊤}
+use Rattle.std.specs.Prelude.{◌≡◌, ◌⊎◌, ◌&&◌, ℕ, Bool, List, [], ◌∷◌, ◌++◌, Option, Some, None, option_map, MatchOption, Ok, Err, String, map, not, ⊤, if◌then◌else◌}
+use Rattle.std.specs.List.{list_all}
 use Rattle.std.specs.String.{string_bytes}
 use Rattle.ir_asm.specs.Passes.{labels_of}
 use Rattle.ir_asm.specs.Source.{Fault}
@@ -18,6 +19,7 @@ use Rattle.ir_record_command.specs.Faults.{RefusesRecord, fault_status}
 use Rattle.ir_record_command.specs.Plan.{Plan}
 use Rattle.ir_record_command.specs.Recording.{IsRecordedOf, recording_lines}
 use Rattle.ir_record_command.specs.declared.record_fault.RecordFault.{RecordFault}
+use Rattle.ir_schedule.specs.Conditions.{exits_with}
 use Rattle.ir_stream.specs.Answers.{AppendsPrefix}
 use Rattle.ir_symbols.specs.Maps.{map_text}
 use Rattle.ir_symbols.specs.Symbols.{Symbol}
@@ -134,9 +136,13 @@ pub record StopsRecords (at : Paths) (arguments : RecordArguments) (answered : E
 abbrev pub IsStatusOfNoRecording : ExitStatus → Type 0
 IsStatusOfNoRecording answered = (answered ≡ status.BadArguments) ⊎ ((answered ≡ status.Failed) ⊎ (answered ≡ status.Refused))
 
+-- the exit status of a recording: with --status it tells whether each thread ended by END with code 0
+abbrev pub recorded_status : Bool → Recorded → ExitStatus
+recorded_status asks recorded = if asks && not (list_all (λ t. exits_with 0 (Some t.end)) recorded.threads) then status.NotSo else status.Done
+
 -- what `ir record` did: a run was recorded; or it wasn't, or not all of it was written; or the recording didn't begin, and nothing was printed
 abbrev pub RecordsFile : Paths → Storing → RecordArguments → ExitStatus → Writer → Writer → Type 0 → Type 0
 RecordsFile at stored arguments answered out faults unprinted =
-    (((answered ≡ status.Done) ⊎ ((answered ≡ status.NotSo) × (arguments.status ≡ true))) × ((recorded : Recorded) × Records at stored arguments recorded out))
+    ((recorded : Recorded) × (answered ≡ recorded_status arguments.status recorded) × Records at stored arguments recorded out)
     ⊎ (StopsRecords at arguments answered out faults unprinted
     ⊎ LeavesUnread (IsStatusOfNoRecording answered) unprinted faults)

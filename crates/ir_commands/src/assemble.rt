@@ -53,7 +53,7 @@ fn put_labels<D: Folder, E: Sink>(
 ) -> ExitStatus
     requires { All IsNamed labels.now }
     ensures status { (result ≡ exit.Done) ⊎ ((result ≡ exit.Failed) ⊎ (result ≡ exit.BadArguments)) }
-    ensures done { result ≡ exit.Done → (table : List Symbol) × IsSortOf (label_symbols labels.now) table × IsStored (D.knows folder.now) (D.was_put folder.now) map.now (map_text table) }
+    ensures done { result ≡ exit.Done → (table : List Symbol) × IsSortOf (label_symbols labels.now) table × IsStored D.known (D.knows folder.now) (D.was_put folder.now) map.now (map_text table) }
 {
     let would = "MAP would be written over IMAGE";
     if is_lost(folder, faults, would, image, map) {
@@ -71,7 +71,7 @@ pub fn assemble_file<D: Folder, E: Sink>(
     faults: &mut E,
 ) -> ExitStatus
     requires reports { E.broken faults.old ≡ false }
-    ensures { Makes (Assembles (D.bytes_at folder.now) (λ place bytes. IsStored (D.knows folder.now) (D.was_put folder.now) place bytes) arguments.now)
+    ensures { Makes (Assembles (D.bytes_at folder.now) (λ place bytes. IsStored D.known (D.knows folder.now) (D.was_put folder.now) place bytes) arguments.now)
         (RefusesSource (D.bytes_at folder.now) arguments.now) result }
 {
     if loses_file(folder, faults, arguments) {

@@ -1,7 +1,10 @@
 //! Conditions that arguments give.
 
-ghost use Rattle.std.specs.Prelude.{◌≡◌, OnOk, IfOk};
+ghost use Rattle.std.specs.Prelude.{◌≡◌, IfErr, OnErr, OnOk, IfOk, false};
+ghost use Rattle.ir_files.specs.Writers.{writer_of};
 ghost use Rattle.ir_commands.specs.Conditions.{AreWritten};
+ghost use Rattle.ir_commands.specs.Files.{TellsFault};
+ghost use Rattle.ir_commands.specs.Writing.{IsStatusOfNoRecording};
 
 use crate::files::say;
 use ir_arguments::ConditionText;
@@ -44,6 +47,8 @@ pub fn conditions_of<'a, E: Sink>(
     texts: &'a [ConditionText],
 ) -> Result<Vec<Condition<'a>>, ExitStatus>
     ensures kept { OnOk result (faults.new ≡ faults.old) }
+    ensures status { IfErr result IsStatusOfNoRecording }
+    ensures told { OnErr result (E.broken faults.old ≡ false → TellsFault (writer_of (E.written faults.old) (E.written faults.new) (E.broken faults.new))) }
     ensures read { IfOk result (λ conditions. AreWritten texts.now conditions.items) }
 {
     let Ok(conditions) = read_conditions(alloc, texts) else {

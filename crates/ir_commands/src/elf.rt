@@ -33,7 +33,7 @@ pub fn convert_file<D: Folder, E: Sink>(
     faults: &mut E,
 ) -> ExitStatus
     requires reports { E.broken faults.old ≡ false }
-    ensures { Makes (Converts (D.bytes_at folder.now) (λ place bytes. IsStored (D.knows folder.now) (D.was_put folder.now) place bytes) arguments.now)
+    ensures { Makes (Converts (D.bytes_at folder.now) (λ place bytes. IsStored D.known (D.knows folder.now) (D.was_put folder.now) place bytes) arguments.now)
         (RefusesElf (D.bytes_at folder.now) arguments.now) result }
 {
     let elf = arguments.elf.as_str();

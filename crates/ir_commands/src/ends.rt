@@ -1,6 +1,8 @@
 //! How the threads of a recording ended, in words.
 
-ghost use Rattle.std.specs.Prelude.{◌≡◌, IfErr, OnOk};
+ghost use Rattle.std.specs.Prelude.{◌≡◌, IfErr, OnErr, OnOk, Some};
+ghost use Rattle.std.specs.List.{list_all};
+ghost use Rattle.ir_schedule.specs.Conditions.{exits_with};
 ghost use Rattle.ir_files.specs.declared.exit_status.ExitStatus.TheVariants as status;
 
 use crate::files::say;
@@ -39,12 +41,21 @@ fn line(alloc: Global, number: usize, end: End) -> Result<String, AllocError> {
     }
 }
 
+// Whether a thread ended by END with code 0.
+fn is_well(end: End) -> bool
+    ensures { result ≡ exits_with 0 (Some end) }
+{
+    match end {
+        End::Exit(code) => code == 0,
+        _ => false,
+    }
+}
+
 /// Whether each thread ended by END with code 0.
-pub fn all_ended(trace: &Trace) -> bool {
-    trace
-        .threads()
-        .iter()
-        .all(|thread| thread.end() == End::Exit(0))
+pub fn all_ended(trace: &Trace) -> bool
+    ensures { result ≡ list_all (λ t. exits_with 0 (Some t.end)) trace.now.threads }
+{
+    trace.threads().iter().all(|thread| is_well(thread.end()))
 }
 
 // Whether a thread ended by a call that may be known in the second profile.
@@ -80,6 +91,7 @@ pub fn recorded_status<E: Sink>(
 ) -> ExitStatus
     ensures done { OnOk recorded (result ≡ status.Done) }
     ensures stopped { IfErr recorded (λ status. result ≡ status) }
+    ensures kept { OnErr recorded (faults.new ≡ faults.old) }
 {
     match recorded {
         Ok(recorded) => {

@@ -1,6 +1,13 @@
 //! `ir hunt`: the first of many seeds whose run fulfils conditions is recorded.
 
-ghost use Rattle.std.specs.Prelude.{◌≡◌, false};
+ghost use Rattle.std.specs.Prelude.{◌≡◌, ◌⊎◌, IfErr, IfOk, OnErr, OnOk, false, true};
+ghost use Rattle.std.specs.Io.KnownBytes.{Appends};
+ghost use Rattle.std.specs.String.{string_bytes};
+ghost use Rattle.ir_files.specs.Given.{IsStored};
+ghost use Rattle.ir_files.specs.Writers.{writer_of};
+ghost use Rattle.ir_files.specs.declared.exit_status.ExitStatus.TheVariants as exit;
+ghost use Rattle.ir_commands.specs.Searching.{EndsFound, HuntsFile, RecordsHunted, RefusesFound, ShrinksFound, TellsNoSearch, TellsNoSeed};
+ghost use Rattle.ir_commands.specs.Writing.{IsStatusOfNoRecording};
 
 use crate::conditions::{conditions_of, copied_texts};
 use crate::ends::recorded_status;
@@ -9,9 +16,9 @@ use crate::recording::{Places, RecordingPaths, beside_of, loses_input, record_fi
 use crate::shrink::{plan_like, shrunk_into, shrunk_status};
 use crate::surroundings::Surroundings;
 use ir_arguments::HuntArguments;
-use ir_files::{ExitStatus, Folder};
+use ir_files::{ExitStatus, Folder, OutputSink, WholeSink};
 use ir_hunt::{HuntPlan, hunt_run};
-use ir_record_command::ParsedImage;
+use ir_record_command::{ParsedImage, RecordFiles};
 use ir_shrink::{GivenRun, ShrinkPlan, Shrunk};
 use ir_stream::Sink;
 use ir_trace::Trace;
@@ -19,7 +26,11 @@ use std::thread::Threads;
 use std::time::Clock;
 
 // The files of a hunt.
-fn paths(arguments: &HuntArguments) -> RecordingPaths<'_> {
+fn paths(arguments: &HuntArguments) -> RecordingPaths<'_>
+    ensures image { result.image.now ≡ string_bytes arguments.now.image }
+    ensures trace { result.trace.now ≡ string_bytes arguments.now.trace }
+    ensures input { result.input.now ≡ arguments.now.options.input }
+{
     RecordingPaths {
         image: arguments.image.as_str(),
         trace: arguments.trace.as_str(),
@@ -27,6 +38,37 @@ fn paths(arguments: &HuntArguments) -> RecordingPaths<'_> {
         list: None,
         output: arguments.options.output.as_ref(),
     }
+}
+
+// Hunts for a run of a guest, whose trace and outputs go into these files.
+fn hunted_in<R, W, P, O, E>(
+    rt: &R,
+    image: &ParsedImage<'_>,
+    plan: &HuntPlan<'_>,
+    files: &mut RecordFiles<W, P>,
+    out: &mut O,
+    faults: &mut E,
+) -> Result<Trace, ExitStatus>
+where
+    R: Threads + Sync + Clock + Eprint + AllocGlobal,
+    W: WholeSink,
+    P: OutputSink,
+    O: Sink,
+    E: Sink,
+    requires writes { W.broken files.old.trace ≡ false }
+    requires puts { P.broken files.old.outputs ≡ false }
+    requires prints { O.broken out.old ≡ false }
+    requires reports { E.broken faults.old ≡ false }
+    ensures found { IfOk result (λ recorded. RecordsHunted image.now plan.now recorded
+        (λ bytes. Appends (W.written files.old.trace) (W.written files.new.trace) bytes)
+        (writer_of (O.written out.old) (O.written out.new) (O.broken out.new))) }
+    ensures none { IfErr result (λ answered. TellsNoSeed image.now plan.now answered
+        (writer_of (O.written out.old) (O.written out.new) (O.broken out.new)) ⊎ TellsNoSearch answered
+        (writer_of (E.written faults.old) (E.written faults.new) (E.broken faults.new))) }
+    ensures whole { OnOk result (W.whole files.new.trace ≡ true) }
+    ensures home { W.home files.new.trace ≡ W.home files.old.trace }
+{
+    hunt_run(rt, image, plan, files, out, faults)
 }
 
 // Hunts for a run of a guest, whose trace and outputs go into files at these paths.
@@ -45,10 +87,16 @@ where
     E: Sink,
     requires writes { O.broken out.old ≡ false }
     requires reports { E.broken faults.old ≡ false }
+    ensures found { IfOk result (λ recorded. RecordsHunted image.now plan.now recorded
+        (λ bytes. IsStored D.known (D.knows around.now.folder.now) (D.was_put around.now.folder.now) places.entry.trace.now bytes)
+        (writer_of (O.written out.old) (O.written out.new) (O.broken out.new))) }
+    ensures none { IfErr result (λ answered. TellsNoSeed image.now plan.now answered
+        (writer_of (O.written out.old) (O.written out.new) (O.broken out.new)) ⊎ TellsNoSearch answered
+        (writer_of (E.written faults.old) (E.written faults.new) (E.broken faults.new))) }
 {
     let Surroundings { rt, folder, .. } = *around;
     let mut files = record_files(rt.alloc(), folder, places.trace, places.outputs);
-    hunt_run(rt, image, plan, &mut files, out, faults)
+    hunted_in(rt, image, plan, &mut files, out, faults)
 }
 
 // What is hunted, and what of it is written where.
@@ -70,6 +118,11 @@ fn shrunk<R: Clock + Eprint + AllocGlobal, D: Folder, G, O: Sink, E: Sink>(
 ) -> Result<Shrunk, ExitStatus>
     requires writes { O.broken out.old ≡ false }
     requires reports { E.broken faults.old ≡ false }
+    ensures done { IfOk result (λ shrunk. ShrinksFound hunted.entry.image.now hunted.entry.plan.now found.now shrunk.is_minimal
+        (λ bytes. IsStored D.known (D.knows around.now.folder.now) (D.was_put around.now.folder.now) places.entry.trace.now bytes)
+        (writer_of (O.written out.old) (O.written out.new) (O.broken out.new))) }
+    ensures stopped { IfErr result (λ answered. RefusesFound hunted.entry.image.now hunted.entry.plan.now found.now answered
+        (writer_of (E.written faults.old) (E.written faults.new) (E.broken faults.new)) ⊎ IsStatusOfNoRecording answered) }
 {
     let Hunted {
         image,
@@ -96,6 +149,33 @@ fn shrunk<R: Clock + Eprint + AllocGlobal, D: Folder, G, O: Sink, E: Sink>(
     shrunk_into(around, places, &run, &shrinking, out, faults)
 }
 
+// The exit status of the shrinking of a run that was found.
+fn shrunk_found<R, D, G, O, E>(
+    around: &Surroundings<'_, R, D, G>,
+    places: Places<'_, '_>,
+    hunted: Hunted<'_, '_>,
+    found: &Trace,
+    out: &mut O,
+    faults: &mut E,
+) -> ExitStatus
+where
+    R: Clock + Eprint + AllocGlobal,
+    D: Folder,
+    O: Sink,
+    E: Sink,
+    ensures { EndsFound hunted.entry.image.now hunted.entry.plan.now found.now (λ bytes. IsStored D.known (D.knows around.now.folder.now) (D.was_put around.now.folder.now) places.entry.trace.now bytes) result
+        (writer_of (O.written out.old) (O.written out.new) (O.broken out.new)) (writer_of (E.written faults.old) (E.written faults.new) (E.broken faults.new)) }
+{
+    if out.failed() || faults.failed() {
+        return ExitStatus::Failed;
+    }
+    let explains = hunted.plan.is_shown;
+    match shrunk(around, places, hunted, found, out, faults) {
+        Ok(shrunk) => shrunk_status(around.rt.alloc(), explains, &shrunk, faults),
+        Err(status) => status,
+    }
+}
+
 // The exit status of a hunt. What was found is shrunk, if that is asked for.
 fn ended<R, D, G, O, E>(
     around: &Surroundings<'_, R, D, G>,
@@ -110,17 +190,24 @@ where
     D: Folder,
     O: Sink,
     E: Sink,
+    ensures stopped { IfErr found (λ status. result ≡ status) }
+    ensures quiet { OnErr found (out.new ≡ out.old) }
+    ensures kept { OnErr found (faults.new ≡ faults.old) }
+    ensures done { hunted.entry.arguments.now.shrinks ≡ false → OnOk found ((result ≡ exit.Done) × (out.new ≡ out.old)) }
+    ensures shrunk { hunted.entry.arguments.now.shrinks ≡ true → IfOk found (λ given. EndsFound hunted.entry.image.now hunted.entry.plan.now given
+        (λ bytes. IsStored D.known (D.knows around.now.folder.now) (D.was_put around.now.folder.now) places.entry.trace.now bytes) result
+        (writer_of (O.written out.old) (O.written out.new) (O.broken out.new)) (writer_of (E.written faults.old) (E.written faults.new) (E.broken faults.new))) }
 {
-    let alloc = around.rt.alloc();
-    let explains = hunted.plan.is_shown;
     match found {
-        Ok(found) if hunted.arguments.shrinks && !out.failed() && !faults.failed() => {
-            match shrunk(around, places, hunted, &found, out, faults) {
-                Ok(shrunk) => shrunk_status(alloc, explains, &shrunk, faults),
-                Err(status) => status,
+        Ok(found) => {
+            if hunted.arguments.shrinks {
+                shrunk_found(around, places, hunted, &found, out, faults)
+            } else {
+                let explains = hunted.plan.is_shown;
+                recorded_status(around.rt.alloc(), Ok(found), explains, faults)
             }
         }
-        found => recorded_status(alloc, found, explains, faults),
+        Err(status) => status,
     }
 }
 
@@ -134,6 +221,10 @@ fn hunted_by<R: Threads + Sync + Clock + Eprint + AllocGlobal, D: Folder, G, O: 
 ) -> Result<ExitStatus, ExitStatus>
     requires writes { O.broken out.old ≡ false }
     requires reports { E.broken faults.old ≡ false }
+    ensures done { IfOk result (λ answered. HuntsFile (D.bytes_at around.now.folder.now)
+        (λ place bytes. IsStored D.known (D.knows around.now.folder.now) (D.was_put around.now.folder.now) place bytes)
+        arguments.now answered (writer_of (O.written out.old) (O.written out.new) (O.broken out.new)) (writer_of (E.written faults.old) (E.written faults.new) (E.broken faults.new))) }
+    ensures stopped { IfErr result (λ answered. TellsNoSearch answered (writer_of (E.written faults.old) (E.written faults.new) (E.broken faults.new))) }
 {
     let (alloc, folder) = (around.rt.alloc(), around.folder);
     let paths = paths(arguments);
@@ -180,6 +271,8 @@ where
     E: Sink,
     requires writes { O.broken out.old ≡ false }
     requires reports { E.broken faults.old ≡ false }
+    ensures { HuntsFile (D.bytes_at around.now.folder.now) (λ place bytes. IsStored D.known (D.knows around.now.folder.now) (D.was_put around.now.folder.now) place bytes)
+        arguments.now result (writer_of (O.written out.old) (O.written out.new) (O.broken out.new)) (writer_of (E.written faults.old) (E.written faults.new) (E.broken faults.new)) }
 {
     match hunted_by(around, arguments, explains, out, faults) {
         Ok(status) | Err(status) => status,

@@ -96,7 +96,7 @@ pub fn labels_into<D: Folder, E: Sink>(
 ) -> ExitStatus
     requires { All IsNamed labels.now }
     ensures status { (result ≡ exit.Done) ⊎ (result ≡ exit.Failed) }
-    ensures done { result ≡ exit.Done → (table : List Symbol) × IsSortOf (label_symbols labels.now) table × IsStored (D.knows folder.now) (D.was_put folder.now) path.now (map_text table) }
+    ensures done { result ≡ exit.Done → (table : List Symbol) × IsSortOf (label_symbols labels.now) table × IsStored D.known (D.knows folder.now) (D.was_put folder.now) path.now (map_text table) }
 {
     let mut file = WholeFile::new(alloc, folder, path);
     let status = map_run(alloc, labels, &mut file);

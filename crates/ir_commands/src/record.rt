@@ -4,12 +4,11 @@ ghost use Rattle.std.specs.Prelude.{◌≡◌, ◌⊎◌, ◌++◌, ◌∷◌, �
 ghost use Rattle.std.specs.String.{string_bytes};
 ghost use Rattle.ir_files.specs.Given.{IsStored};
 ghost use Rattle.ir_files.specs.Writers.{writer_of};
-ghost use Rattle.ir_files.specs.declared.exit_status.ExitStatus.TheVariants as exit;
 ghost use Rattle.ir_hunt.specs.Finding.{IsOrderOfSeed};
 ghost use Rattle.ir_commands.specs.Exploring.{IsInput};
 ghost use Rattle.ir_commands.specs.Files.{TellsFault};
 ghost use Rattle.ir_commands.specs.Printing.{LeavesUnread};
-ghost use Rattle.ir_commands.specs.Writing.{IsListIn, IsOrderAsked, IsStatusOfNoRecording, Records, RecordsFile, StopsRecords};
+ghost use Rattle.ir_commands.specs.Writing.{IsListIn, IsOrderAsked, IsStatusOfNoRecording, Records, RecordsFile, StopsRecords, recorded_status};
 
 use crate::ends::{all_ended, tell_ends};
 use crate::files::{bytes_of, image_in, say};
@@ -204,7 +203,7 @@ fn status_of<E: Sink>(
     explains: bool,
     faults: &mut E,
 ) -> ExitStatus
-    ensures { (result ≡ exit.Done) ⊎ ((result ≡ exit.NotSo) × (asks ≡ true)) }
+    ensures { result ≡ recorded_status asks trace.now }
 {
     if explains {
         tell_ends(alloc, trace, faults);
@@ -231,7 +230,7 @@ where
     E: Sink,
     requires writes { O.broken out.old ≡ false }
     requires reports { E.broken faults.old ≡ false }
-    ensures done { IfOk result (λ recorded. Records (D.bytes_at around.now.folder.now) (λ place bytes. IsStored (D.knows around.now.folder.now) (D.was_put around.now.folder.now) place bytes)
+    ensures done { IfOk result (λ recorded. Records (D.bytes_at around.now.folder.now) (λ place bytes. IsStored D.known (D.knows around.now.folder.now) (D.was_put around.now.folder.now) place bytes)
         arguments.now recorded (writer_of (O.written out.old) (O.written out.new) (O.broken out.new))) }
     ensures stopped { IfErr result (λ answered. StopsRecords (D.bytes_at around.now.folder.now) arguments.now answered (writer_of (O.written out.old) (O.written out.new) (O.broken out.new))
         (writer_of (E.written faults.old) (E.written faults.new) (E.broken faults.new)) (out.new ≡ out.old)
@@ -273,7 +272,7 @@ where
     E: Sink,
     requires writes { O.broken out.old ≡ false }
     requires reports { E.broken faults.old ≡ false }
-    ensures { RecordsFile (D.bytes_at around.now.folder.now) (λ place bytes. IsStored (D.knows around.now.folder.now) (D.was_put around.now.folder.now) place bytes)
+    ensures { RecordsFile (D.bytes_at around.now.folder.now) (λ place bytes. IsStored D.known (D.knows around.now.folder.now) (D.was_put around.now.folder.now) place bytes)
         arguments.now result (writer_of (O.written out.old) (O.written out.new) (O.broken out.new))
         (writer_of (E.written faults.old) (E.written faults.new) (E.broken faults.new)) (out.new ≡ out.old) }
 {

@@ -1,20 +1,26 @@
 //! `ir shrink`: a recorded run is shrunk to one with fewer context switches.
 
-ghost use Rattle.std.specs.Prelude.{◌≡◌, None, OnOk, false};
+ghost use Rattle.std.specs.Prelude.{◌≡◌, ◌⊎◌, None, Ok, IfErr, IfOk, OnOk, false};
+ghost use Rattle.std.specs.Io.KnownBytes.{Appends};
+ghost use Rattle.std.specs.String.{string_bytes};
+ghost use Rattle.ir_files.specs.Given.{IsStored};
+ghost use Rattle.ir_files.specs.Writers.{writer_of};
+ghost use Rattle.ir_trace.specs.Recorded.{recorded_at};
+ghost use Rattle.ir_commands.specs.Files.{IsFileIn, IsImageIn};
+ghost use Rattle.ir_commands.specs.Searching.{IsStatusOfNoShrinking, RecordsShrunkRun, RefusesGiven, ShrinkRefuses, ShrinksFile, ShrinksTo, shrunk_status as shrunk_answer};
+ghost use Rattle.ir_commands.specs.Writing.{IsStatusOfNoRecording};
 
 use crate::conditions::{conditions_of, copied_texts};
 use crate::ends::tell_ends;
 use crate::explaining::explain_files;
 use crate::files::{bytes_of, image_in, is_lost, say};
-use crate::recording::{
-    Places, RecordingPaths, input_of, loses_input, output_places, record_files,
-};
+use crate::recording::{Places, RecordingPaths, beside_of, loses_input, record_files};
 use crate::surroundings::Surroundings;
 use ir_arguments::ShrinkArguments;
-use ir_files::{ExitStatus, Folder, MOST_FILE_BYTES};
+use ir_files::{ExitStatus, Folder, MOST_FILE_BYTES, OutputSink, WholeSink};
 use ir_opened::{Opened, open_fit, refuse};
 use ir_past::PastErr;
-use ir_record_command::{ParsedImage, RecordPlan};
+use ir_record_command::{ParsedImage, RecordFiles, RecordPlan};
 use ir_shrink::{GivenRun, ShrinkPlan, Shrunk, shrink_run};
 use ir_stream::Sink;
 use ir_trace::{Trace, read_trace};
@@ -22,7 +28,9 @@ use std::alloc::Global;
 use std::time::Clock;
 
 // The files of the recording.
-fn paths(arguments: &ShrinkArguments) -> RecordingPaths<'_> {
+fn paths(arguments: &ShrinkArguments) -> RecordingPaths<'_>
+    ensures { result.input.now ≡ arguments.now.input }
+{
     RecordingPaths {
         image: arguments.image.as_str(),
         trace: arguments.out.as_str(),
@@ -61,6 +69,9 @@ fn given_by<D: Folder, E: Sink>(
     arguments: &ShrinkArguments,
 ) -> Result<Given, ExitStatus>
     ensures kept { OnOk result (faults.new ≡ faults.old) }
+    ensures image { IfOk result (λ given. IsImageIn (D.bytes_at folder.now (string_bytes arguments.now.image)) given.image.items) }
+    ensures trace { IfOk result (λ given. IsFileIn (D.bytes_at folder.now (string_bytes arguments.now.trace)) given.trace.items) }
+    ensures status { IfErr result IsStatusOfNoRecording }
 {
     let image = image_in(alloc, folder, faults, arguments.image.as_str())?;
     match bytes_of(
@@ -85,6 +96,8 @@ fn fitting_trace<O: Sink, E: Sink>(
     requires { O.broken out.old ≡ false }
     ensures kept { OnOk result (faults.new ≡ faults.old) }
     ensures quiet { OnOk result (out.new ≡ out.old) }
+    ensures reads { IfOk result (λ trace. recorded_at given.now.trace.items ≡ Ok trace) }
+    ensures status { IfErr result IsStatusOfNoShrinking }
 {
     let (image, trace) = (given.image.as_slice(), given.trace.as_slice());
     match open_fit(alloc, image, trace) {
@@ -125,6 +138,36 @@ pub fn plan_like<'a>(trace: &Trace, random: u64, input: &'a [u8]) -> RecordPlan<
     }
 }
 
+// Shrinks the run of a guest with a trace. Its trace and outputs go into these files.
+fn shrunk_in<R, W, P, O, E>(
+    rt: &R,
+    given: &GivenRun<'_, '_>,
+    plan: &ShrinkPlan<'_>,
+    files: &mut RecordFiles<W, P>,
+    out: &mut O,
+    faults: &mut E,
+) -> Result<Shrunk, ExitStatus>
+where
+    R: Clock + Eprint + AllocGlobal,
+    W: WholeSink,
+    P: OutputSink,
+    O: Sink,
+    E: Sink,
+    requires writes { W.broken files.old.trace ≡ false }
+    requires puts { P.broken files.old.outputs ≡ false }
+    requires prints { O.broken out.old ≡ false }
+    requires reports { E.broken faults.old ≡ false }
+    ensures done { IfOk result (λ shrunk. RecordsShrunkRun given.now.image.now given.now.trace.now plan.now shrunk.is_minimal
+        (λ bytes. Appends (W.written files.old.trace) (W.written files.new.trace) bytes)
+        (writer_of (O.written out.old) (O.written out.new) (O.broken out.new))) }
+    ensures stopped { IfErr result (λ answered. RefusesGiven given.now.image.now given.now.trace.now plan.now answered
+        (writer_of (E.written faults.old) (E.written faults.new) (E.broken faults.new)) ⊎ IsStatusOfNoRecording answered) }
+    ensures whole { OnOk result (W.whole files.new.trace ≡ true) }
+    ensures home { W.home files.new.trace ≡ W.home files.old.trace }
+{
+    shrink_run(rt, given, plan, files, out, faults)
+}
+
 /// Shrinks the run of a guest with a trace. Its trace and outputs go into files at these paths.
 pub fn shrunk_into<R, D, G, O, E>(
     around: &Surroundings<'_, R, D, G>,
@@ -141,10 +184,15 @@ where
     E: Sink,
     requires writes { O.broken out.old ≡ false }
     requires reports { E.broken faults.old ≡ false }
+    ensures done { IfOk result (λ shrunk. RecordsShrunkRun given.now.image.now given.now.trace.now plan.now shrunk.is_minimal
+        (λ bytes. IsStored D.known (D.knows around.now.folder.now) (D.was_put around.now.folder.now) places.entry.trace.now bytes)
+        (writer_of (O.written out.old) (O.written out.new) (O.broken out.new))) }
+    ensures stopped { IfErr result (λ answered. RefusesGiven given.now.image.now given.now.trace.now plan.now answered
+        (writer_of (E.written faults.old) (E.written faults.new) (E.broken faults.new)) ⊎ IsStatusOfNoRecording answered) }
 {
     let Surroundings { rt, folder, .. } = *around;
     let mut files = record_files(rt.alloc(), folder, places.trace, places.outputs);
-    shrink_run(rt, given, plan, &mut files, out, faults)
+    shrunk_in(rt, given, plan, &mut files, out, faults)
 }
 
 /// The exit status of what was shrunk. At a terminal it is reported how the threads ended.
@@ -153,7 +201,9 @@ pub fn shrunk_status<E: Sink>(
     explains: bool,
     shrunk: &Shrunk,
     faults: &mut E,
-) -> ExitStatus {
+) -> ExitStatus
+    ensures { result ≡ shrunk_answer shrunk.now.is_minimal }
+{
     if explains {
         tell_ends(alloc, &shrunk.trace, faults);
     }
@@ -180,6 +230,8 @@ where
     E: Sink,
     requires writes { O.broken out.old ≡ false }
     requires reports { E.broken faults.old ≡ false }
+    ensures { ShrinksFile (D.bytes_at around.now.folder.now) (λ place bytes. IsStored D.known (D.knows around.now.folder.now) (D.was_put around.now.folder.now) place bytes)
+        arguments.now result (writer_of (O.written out.old) (O.written out.new) (O.broken out.new)) (writer_of (E.written faults.old) (E.written faults.new) (E.broken faults.new)) }
 {
     match shrunk_by(around, arguments, explains, out, faults) {
         Ok(shrunk) => shrunk_status(around.rt.alloc(), explains, &shrunk, faults),
@@ -197,6 +249,10 @@ fn shrunk_by<R: Clock + Eprint + AllocGlobal, D: Folder, G, O: Sink, E: Sink>(
 ) -> Result<Shrunk, ExitStatus>
     requires writes { O.broken out.old ≡ false }
     requires reports { E.broken faults.old ≡ false }
+    ensures done { IfOk result (λ shrunk. ShrinksTo (D.bytes_at around.now.folder.now) (λ place bytes. IsStored D.known (D.knows around.now.folder.now) (D.was_put around.now.folder.now) place bytes)
+        arguments.now shrunk.is_minimal (writer_of (O.written out.old) (O.written out.new) (O.broken out.new))) }
+    ensures stopped { IfErr result (λ answered. ShrinkRefuses (D.bytes_at around.now.folder.now) arguments.now answered
+        (writer_of (E.written faults.old) (E.written faults.new) (E.broken faults.new)) ⊎ IsStatusOfNoShrinking answered) }
 {
     let (alloc, folder) = (around.rt.alloc(), around.folder);
     if loses_given(folder, faults, arguments) {
@@ -206,10 +262,7 @@ fn shrunk_by<R: Clock + Eprint + AllocGlobal, D: Folder, G, O: Sink, E: Sink>(
     let trace = fitting_trace(alloc, &given, out, faults)?;
     let image = ParsedImage::new(alloc, given.image.as_slice());
     let conditions = conditions_of(alloc, faults, &image, arguments.until.as_slice())?;
-    let outputs = output_places(alloc, folder, faults, &paths(arguments), &image)?;
-    let Some(input) = input_of(alloc, folder, faults, &arguments.input) else {
-        return Err(ExitStatus::Failed);
-    };
+    let (outputs, input) = beside_of(alloc, folder, faults, &paths(arguments), &image)?;
     let Ok(texts) = copied_texts(alloc, arguments.until.as_slice()) else {
         say(faults, "memory ran out", "", "");
         return Err(ExitStatus::Failed);

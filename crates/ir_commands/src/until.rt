@@ -1,6 +1,12 @@
 //! `ir explore --until`: the first outcome that fulfils conditions is recorded.
 
-ghost use Rattle.std.specs.Prelude.{◌≡◌, false};
+ghost use Rattle.std.specs.Prelude.{◌≡◌, ◌⊎◌, ℕ, List, Err, IfErr, OnOk, false, true};
+ghost use Rattle.std.specs.Io.KnownBytes.{Appends};
+ghost use Rattle.std.specs.String.{string_bytes};
+ghost use Rattle.ir_explore.specs.Hang.{IsHangAnswer};
+ghost use Rattle.ir_files.specs.Given.{IsStored};
+ghost use Rattle.ir_files.specs.Writers.{Took, writer_of};
+ghost use Rattle.ir_commands.specs.Searching.{RecordsHang, RecordsOutcome, SearchFinds, SearchesFile, SearchMisses, TellsNoSearch, TellsVain};
 
 use crate::conditions::conditions_of;
 use crate::ends::recorded_status;
@@ -10,15 +16,19 @@ use crate::recording::{Places, RecordingPaths, beside_of, loses_input, record_fi
 use crate::surroundings::Surroundings;
 use ir_arguments::UntilArguments;
 use ir_explore::{HangPlan, UntilPlan, explore_hang, explore_until};
-use ir_files::{ExitStatus, Folder};
-use ir_record_command::ParsedImage;
+use ir_files::{ExitStatus, Folder, OutputSink, WholeSink};
+use ir_record_command::{ParsedImage, RecordFiles};
 use ir_search::Observer;
 use ir_stream::Sink;
 use ir_trace::Trace;
 use std::time::Clock;
 
 // The files of the recording.
-fn paths(arguments: &UntilArguments) -> RecordingPaths<'_> {
+fn paths(arguments: &UntilArguments) -> RecordingPaths<'_>
+    ensures image { result.image.now ≡ string_bytes arguments.now.explore.image }
+    ensures trace { result.trace.now ≡ string_bytes arguments.now.trace }
+    ensures input { result.input.now ≡ arguments.now.explore.input }
+{
     RecordingPaths {
         image: arguments.explore.image.as_str(),
         trace: arguments.trace.as_str(),
@@ -26,6 +36,68 @@ fn paths(arguments: &UntilArguments) -> RecordingPaths<'_> {
         list: None,
         output: arguments.output.as_ref(),
     }
+}
+
+// Looks for an outcome of a guest, whose trace and outputs go into these files.
+fn outcome_in<R, G, W, P, O, E>(
+    rt: &R,
+    plan: &UntilPlan<'_, '_, '_, G>,
+    files: &mut RecordFiles<W, P>,
+    out: &mut O,
+    faults: &mut E,
+) -> Result<Trace, ExitStatus>
+where
+    R: Clock + AllocGlobal,
+    G: Observer,
+    W: WholeSink,
+    P: OutputSink,
+    O: Sink,
+    E: Sink,
+    requires writes { W.broken files.old.trace ≡ false }
+    requires puts { P.broken files.old.outputs ≡ false }
+    requires prints { O.broken out.old ≡ false }
+    requires reports { E.broken faults.old ≡ false }
+    ensures found { OnOk result (RecordsOutcome plan.now.image.now plan.now.explore plan.now.conditions.now
+        (λ bytes. Appends (W.written files.old.trace) (W.written files.new.trace) bytes)
+        (writer_of (O.written out.old) (O.written out.new) (O.broken out.new))) }
+    ensures none { IfErr result (λ answered. TellsVain false plan.now.image.now plan.now.explore plan.now.conditions.now answered
+        (writer_of (O.written out.old) (O.written out.new) (O.broken out.new)) ⊎ TellsNoSearch answered
+        (writer_of (E.written faults.old) (E.written faults.new) (E.broken faults.new))) }
+    ensures whole { OnOk result (W.whole files.new.trace ≡ true) }
+    ensures home { W.home files.new.trace ≡ W.home files.old.trace }
+{
+    explore_until(rt, plan, files, out, faults)
+}
+
+// Looks for a run of a guest that hangs, whose trace and outputs go into these files.
+fn hang_in<R, G, W, P, O, E>(
+    rt: &R,
+    plan: &HangPlan<'_, '_, '_, G>,
+    files: &mut RecordFiles<W, P>,
+    out: &mut O,
+    faults: &mut E,
+) -> Result<Trace, ExitStatus>
+where
+    R: Clock + AllocGlobal,
+    G: Observer,
+    W: WholeSink,
+    P: OutputSink,
+    O: Sink,
+    E: Sink,
+    requires writes { W.broken files.old.trace ≡ false }
+    requires puts { P.broken files.old.outputs ≡ false }
+    requires prints { O.broken out.old ≡ false }
+    requires reports { E.broken faults.old ≡ false }
+    ensures found { OnOk result (RecordsHang plan.now.image.now plan.now.explore
+        (λ bytes. Appends (W.written files.old.trace) (W.written files.new.trace) bytes)
+        (writer_of (O.written out.old) (O.written out.new) (O.broken out.new))) }
+    ensures none { IfErr result (λ answered. ((text : List ℕ) × IsHangAnswer plan.now.image.now plan.now.explore (Err answered) text
+        × Took (writer_of (O.written out.old) (O.written out.new) (O.broken out.new)) text) ⊎ TellsNoSearch answered
+        (writer_of (E.written faults.old) (E.written faults.new) (E.broken faults.new))) }
+    ensures whole { OnOk result (W.whole files.new.trace ≡ true) }
+    ensures home { W.home files.new.trace ≡ W.home files.old.trace }
+{
+    explore_hang(rt, plan, files, out, faults)
 }
 
 // Looks for an outcome of a guest, whose trace and outputs go into files at these paths.
@@ -44,10 +116,16 @@ where
     E: Sink,
     requires writes { O.broken out.old ≡ false }
     requires reports { E.broken faults.old ≡ false }
+    ensures found { OnOk result (RecordsOutcome plan.now.image.now plan.now.explore plan.now.conditions.now
+        (λ bytes. IsStored D.known (D.knows around.now.folder.now) (D.was_put around.now.folder.now) places.entry.trace.now bytes)
+        (writer_of (O.written out.old) (O.written out.new) (O.broken out.new))) }
+    ensures none { IfErr result (λ answered. TellsVain false plan.now.image.now plan.now.explore plan.now.conditions.now answered
+        (writer_of (O.written out.old) (O.written out.new) (O.broken out.new)) ⊎ TellsNoSearch answered
+        (writer_of (E.written faults.old) (E.written faults.new) (E.broken faults.new))) }
 {
     let Surroundings { rt, folder, .. } = *around;
     let mut files = record_files(rt.alloc(), folder, places.trace, places.outputs);
-    explore_until(rt, plan, &mut files, out, faults)
+    outcome_in(rt, plan, &mut files, out, faults)
 }
 
 // Looks for a run of a guest that hangs, whose trace and outputs go into files at these paths.
@@ -66,6 +144,12 @@ where
     E: Sink,
     requires writes { O.broken out.old ≡ false }
     requires reports { E.broken faults.old ≡ false }
+    ensures found { OnOk result (RecordsHang plan.now.image.now plan.now.explore
+        (λ bytes. IsStored D.known (D.knows around.now.folder.now) (D.was_put around.now.folder.now) places.entry.trace.now bytes)
+        (writer_of (O.written out.old) (O.written out.new) (O.broken out.new))) }
+    ensures none { IfErr result (λ answered. TellsVain true plan.now.image.now plan.now.explore plan.now.conditions.now answered
+        (writer_of (O.written out.old) (O.written out.new) (O.broken out.new)) ⊎ TellsNoSearch answered
+        (writer_of (E.written faults.old) (E.written faults.new) (E.broken faults.new))) }
 {
     let Surroundings { rt, folder, .. } = *around;
     let mut files = record_files(rt.alloc(), folder, places.trace, places.outputs);
@@ -74,7 +158,7 @@ where
         explore: plan.explore.within(plan.explore.most()),
         observer: plan.observer,
     };
-    explore_hang(rt, &hang, &mut files, out, faults)
+    hang_in(rt, &hang, &mut files, out, faults)
 }
 
 // The trace of a run with the outcome that is looked for, or of one that hangs; its files are written. If there is none, the exit status.
@@ -86,6 +170,12 @@ fn found_by<R: Clock + AllocGlobal, D: Folder, G: Observer, O: Sink, E: Sink>(
 ) -> Result<Trace, ExitStatus>
     requires writes { O.broken out.old ≡ false }
     requires reports { E.broken faults.old ≡ false }
+    ensures found { OnOk result (SearchFinds (D.bytes_at around.now.folder.now)
+        (λ place bytes. IsStored D.known (D.knows around.now.folder.now) (D.was_put around.now.folder.now) place bytes) arguments.now
+        (writer_of (O.written out.old) (O.written out.new) (O.broken out.new))) }
+    ensures none { IfErr result (λ answered. SearchMisses (D.bytes_at around.now.folder.now) arguments.now answered
+        (writer_of (O.written out.old) (O.written out.new) (O.broken out.new)) ⊎ TellsNoSearch answered
+        (writer_of (E.written faults.old) (E.written faults.new) (E.broken faults.new))) }
 {
     let (alloc, folder) = (around.rt.alloc(), around.folder);
     let paths = paths(arguments);
@@ -121,6 +211,8 @@ pub fn until_file<R: Clock + AllocGlobal, D: Folder, G: Observer, O: Sink, E: Si
 ) -> ExitStatus
     requires writes { O.broken out.old ≡ false }
     requires reports { E.broken faults.old ≡ false }
+    ensures { SearchesFile (D.bytes_at around.now.folder.now) (λ place bytes. IsStored D.known (D.knows around.now.folder.now) (D.was_put around.now.folder.now) place bytes)
+        arguments.now result (writer_of (O.written out.old) (O.written out.new) (O.broken out.new)) (writer_of (E.written faults.old) (E.written faults.new) (E.broken faults.new)) }
 {
     let found = found_by(around, arguments, out, faults);
     recorded_status(around.rt.alloc(), found, explains, faults)

@@ -18,6 +18,7 @@ use Rattle.ir_commands.specs.Exploring.{Compares, Explores, ExploresClasses, IsS
 use Rattle.ir_commands.specs.Files.{IsStatusOfNone, IsUnread, OfImageAndTrace, TellsFault}
 use Rattle.ir_commands.specs.Printing.{Paths, LeavesUnread, IsStatusOfNoImage}
 use Rattle.ir_commands.specs.Printing.{PrintsCode, PrintsTrace, PrintsEvents, PrintsStale, PrintsWho, PrintsWhy, PrintsDiff, PrintsView}
+use Rattle.ir_commands.specs.Searching.{HuntsFile, SearchesFile, ShrinksFile}
 use Rattle.ir_commands.specs.Writing.{Assembles, Converts, Makes, RecordsFile, RefusesElf, RefusesSource, Storing}
 use Rattle.ir_program.specs.Bundle.{status_of}
 use Rattle.ir_program.specs.Connecting.{HeldConnection}
@@ -98,8 +99,7 @@ abbrev pub MakesImage : Paths → Storing → Make → ExitStatus → Type 0
 MakesImage at stored (made.Source a) answered = Makes (Assembles at stored a) (RefusesSource at a) answered
 MakesImage at stored (made.Elf a) answered = Makes (Converts at stored a) (RefusesElf at a) answered
 
--- What the program did for a request: it ended with this status, had this input left before, and these took what it wrote. What a hunt, a search that
--- records and a shrinking leave in their files isn't said here.
+-- What the program did for a request: it ended with this status, had this input left before, and these took what it wrote.
 abbrev pub Does : Paths → Storing → Asked → ExitStatus → Option (List ℕ) → Writer → Writer → Type 0 → Type 0
 Does at stored asked.Session answered input out faults unprinted =
     (reader : TakenReader) × (reader.before ≡ input) × HeldBundle answered reader out unprinted
@@ -112,6 +112,6 @@ Does at stored (asked.Explore what) answered input out faults unprinted = Prints
 Does at stored (asked.Help text) answered input out faults unprinted = Shows (string_bytes text) answered out faults
 Does at stored (asked.Nothing why) answered input out faults unprinted = TellsWhyNot status.BadArguments answered faults unprinted
 Does at stored asked.NoMem answered input out faults unprinted = TellsWhyNot status.Failed answered faults unprinted
-Does at stored (asked.Hunt a) answered input out faults unprinted = Unit {0}
-Does at stored (asked.Shrink a) answered input out faults unprinted = Unit {0}
-Does at stored (asked.Until a) answered input out faults unprinted = Unit {0}
+Does at stored (asked.Hunt a) answered input out faults unprinted = HuntsFile at stored a answered out faults
+Does at stored (asked.Shrink a) answered input out faults unprinted = ShrinksFile at stored a answered out faults
+Does at stored (asked.Until a) answered input out faults unprinted = SearchesFile at stored a answered out faults

@@ -13,7 +13,7 @@ use Rattle.ir_commands.proofs.assemble.assemble_file.Goals as goal
 pub returns-in-Some-map : goal.returns-in-Some-map
 returns-in-Some-map g c =
     let at = g.D.Folder.bytes_at c.args.folder.now in
-    let stored = λ (place bytes : List ℕ). IsStored (g.D.Folder.knows c.args.folder.now) (g.D.Folder.was_put c.args.folder.now) place bytes in
+    let stored = λ (place bytes : List ℕ). IsStored g.D.Folder.known (g.D.Folder.knows c.args.folder.now) (g.D.Folder.was_put c.args.folder.now) place bytes in
     let source = c.in-Some.bytes.items in
     let image = c.asm_run.new.image in
     let done = c.in-Ok.ensures.done in
@@ -25,7 +25,7 @@ returns-in-Some-map g c =
         image = done.0;
         is_source = subst (λ p. IsFileIn (at p) source) c.as_str-source.ensures.value c.in-Some.ensures.bytes;
         is_image = subst (λ z. image_bytes z ≡ Ok done.0) c.as_slice.ensures.value done.1;
-        stored_image = stored_in_place g.D.Folder.knows g.D.Folder.was_put (λ m. g.D.Folder.known m.file) c.args.folder.now c.new-file.result.folder.now
+        stored_image = stored_in_place g.D.Folder.known g.D.Folder.knows g.D.Folder.was_put (λ m. m.file) c.args.folder.now c.new-file.result.folder.now
             image.folder.now (string_bytes c.args.arguments.now.image) c.new-file.result.place.now image.place.now
             c.new-file.result.made image.made done.0 c.new-file.ensures.folder (c.new-file.ensures.place ∙ c.as_str.ensures.value)
             c.in-Ok.ensures.home c.new-file.ensures.empty (image.put c.in-Ok.ensures.whole) done.2;
@@ -43,7 +43,7 @@ returns-in-Some-map g c =
 pub returns : goal.returns
 returns g c =
     let at = g.D.Folder.bytes_at c.args.folder.now in
-    let stored = λ (place bytes : List ℕ). IsStored (g.D.Folder.knows c.args.folder.now) (g.D.Folder.was_put c.args.folder.now) place bytes in
+    let stored = λ (place bytes : List ℕ). IsStored g.D.Folder.known (g.D.Folder.knows c.args.folder.now) (g.D.Folder.was_put c.args.folder.now) place bytes in
     let source = c.in-Some.bytes.items in
     let image = c.asm_run.new.image in
     let done = c.in-Ok.ensures.done in
@@ -54,7 +54,7 @@ returns g c =
         image = done.0;
         is_source = subst (λ p. IsFileIn (at p) source) c.as_str-source.ensures.value c.in-Some.ensures.bytes;
         is_image = subst (λ z. image_bytes z ≡ Ok done.0) c.as_slice.ensures.value done.1;
-        stored_image = stored_in_place g.D.Folder.knows g.D.Folder.was_put (λ m. g.D.Folder.known m.file) c.args.folder.now c.new-file.result.folder.now
+        stored_image = stored_in_place g.D.Folder.known g.D.Folder.knows g.D.Folder.was_put (λ m. m.file) c.args.folder.now c.new-file.result.folder.now
             image.folder.now (string_bytes c.args.arguments.now.image) c.new-file.result.place.now image.place.now
             c.new-file.result.made image.made done.0 c.new-file.ensures.folder (c.new-file.ensures.place ∙ c.as_str.ensures.value)
             c.in-Ok.ensures.home c.new-file.ensures.empty (image.put c.in-Ok.ensures.whole) done.2;

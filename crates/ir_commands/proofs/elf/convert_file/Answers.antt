@@ -20,7 +20,7 @@ returns g c =
         image = done.0;
         is_file = is_file;
         is_image = subst (λ z. elf_image_bytes z ≡ Ok done.0) c.as_slice.ensures.value done.1;
-        stored_image = stored_in_place g.D.Folder.knows g.D.Folder.was_put (λ m. g.D.Folder.known m.file) c.args.folder.now c.new-file.result.folder.now
+        stored_image = stored_in_place g.D.Folder.known g.D.Folder.knows g.D.Folder.was_put (λ m. m.file) c.args.folder.now c.new-file.result.folder.now
             image.folder.now (string_bytes c.args.arguments.now.image) c.new-file.result.place.now image.place.now
             c.new-file.result.made image.made done.0 c.new-file.ensures.folder (c.new-file.ensures.place ∙ c.as_str-image.ensures.value)
             ran.home c.new-file.ensures.empty (image.put (ran.whole (told.done e))) done.2;

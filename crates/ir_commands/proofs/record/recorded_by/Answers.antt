@@ -30,7 +30,7 @@ returns-clause-done g c =
       printed = done.0;
       asked = asked;
       is = done.1;
-      trace = stored_in_place g.D.Folder.knows g.D.Folder.was_put (λ m. g.D.Folder.known m.file) c.args.around.now.folder.now files.trace.folder.now
+      trace = stored_in_place g.D.Folder.known g.D.Folder.knows g.D.Folder.was_put (λ m. m.file) c.args.around.now.folder.now files.trace.folder.now
           after.trace.folder.now (string_bytes arguments.trace) files.trace.place.now after.trace.place.now files.trace.made after.trace.made
           (encoding recorded) c.record_files-files.ensures.folder (c.record_files-files.ensures.place ∙ c.as_str-2.ensures.value)
           c.record_run.ensures.homes.0 c.record_files-files.ensures.empty (after.trace.put whole) done.2;

@@ -1,0 +1,169 @@
+-- What searches leave that record what they find.
+use Rattle.std.proofs.Common.{◌≡◌, ◌⊎◌, ◌∙◌, List, ℕ, inl, inr, map, refl, subst, sym}
+use Rattle.std.specs.Prelude.{Bool, IfErr, IfOk, OnErr, OnOk, Option, Result, Ok, Err, true, false}
+use Rattle.std.specs.String.{string_bytes}
+use Rattle.ir_explore.specs.Faults.{explore_fault_status, explore_fault_words}
+use Rattle.ir_explore.specs.Hang.{IsHangAnswer, StopsHang}
+use Rattle.ir_explore.specs.Plan.{ExplorePlan}
+use Rattle.ir_explore.specs.Until.{StopsUntil, recording}
+use Rattle.ir_explore.specs.declared.fault.ExploreFault.{ExploreFault}
+use Rattle.ir_explore.specs.declared.fault.ExploreFault.TheVariants as fault
+use Rattle.ir_arguments.specs.declared.hunt.HuntArguments.{HuntArguments}
+use Rattle.ir_files.specs.Writers.{Took, Writer, writer_of}
+use Rattle.ir_files.specs.declared.exit_status.ExitStatus.{ExitStatus}
+use Rattle.ir_files.specs.declared.exit_status.ExitStatus.TheVariants as status
+use Rattle.ir_hunt.specs.Stopping.{StopsHunt}
+use Rattle.ir_hunt.specs.declared.plan.HuntPlan.{HuntPlan}
+use Rattle.ir_record_command.specs.Faults.{fault_status, record_fault_words}
+use Rattle.ir_record_command.specs.Stopping.{Tellings, Devices, lines_between}
+use Rattle.ir_record_command.specs.declared.record_fault.RecordFault.{RecordFault}
+use Rattle.ir_record_command.specs.declared.record_fault.RecordFault.TheVariants.{Clock, Image, TooLarge, Order, NoMem, Trace, Output, Lines}
+use Rattle.ir_schedule.specs.Conditions.{as_condition}
+use Rattle.ir_schedule.specs.declared.condition.Condition.{Condition}
+use Rattle.ir_shrink.specs.Stopping.{IsRefusalTold, StopsShrink, other_words, text_at, unmet_words, wanted_text}
+use Rattle.ir_shrink.specs.declared.plan.ShrinkPlan.{ShrinkPlan}
+use Rattle.ir_shrink.specs.declared.refusal.Refusal.{Refusal}
+use Rattle.ir_shrink.specs.declared.refusal.Refusal.TheVariants as refused
+use Rattle.ir_trace.specs.Recorded.{Recorded}
+use Rattle.ir_commands.specs.Files.{TellsFault}
+use Rattle.ir_commands.specs.Printing.{Paths}
+use Rattle.ir_commands.specs.Searching.{AsksHunt, EndsFound, HuntsFile, RecordsHang, RecordsHunted, RefusesGiven, TellsNoSearch, TellsNoSeed, TellsVain}
+use Rattle.ir_commands.specs.Writing.{IsStatusOfNoRecording, Storing}
+use Rattle.ir_commands.proofs.Stored.{reported_is_told}
+
+-- what holds wherever there is a value, by what holds of it
+pub ok_gives : {T E : Type 0} {P : T → Type 0} {Q : Type 0} (r : Result T E) → ((x : T) → P x → Q) → IfOk r P → OnOk r Q
+ok_gives (Ok x) f p = f x p
+ok_gives (Err e) f p = p
+
+-- the same by two things that hold there
+pub on_both : {T E X Y Z : Type 0} (r : Result T E) → (X → Y → Z) → OnOk r X → OnOk r Y → OnOk r Z
+on_both (Ok x) f p q = f p q
+on_both (Err e) f p q = p
+
+-- there is a value, with the status that it has, or there is none, with the status that was answered
+pub found_or_lost : {T Found : Type 0} (Lost : ExitStatus → Type 0) {done answered : ExitStatus} (r : Result T ExitStatus)
+    → OnOk r Found → IfErr r Lost → OnOk r (answered ≡ done) → IfErr r (λ s. answered ≡ s) → ((answered ≡ done) × Found) ⊎ Lost answered
+found_or_lost Lost (Ok x) found lost is stopped = inl (is, found)
+found_or_lost Lost (Err e) found lost is stopped = inr (subst Lost (sym stopped) lost)
+
+-- the status of a fault is that of no recording
+pub fault_is_no_recording : (e : RecordFault) {answered : ExitStatus} → answered ≡ fault_status e → IsStatusOfNoRecording answered
+fault_is_no_recording (Image e) p = inr (inr p)
+fault_is_no_recording TooLarge p = inr (inr p)
+fault_is_no_recording (Order threads) p = inr (inr p)
+fault_is_no_recording NoMem p = inr (inl p)
+fault_is_no_recording Clock p = inr (inl p)
+fault_is_no_recording Trace p = inr (inl p)
+fault_is_no_recording Output p = inr (inl p)
+fault_is_no_recording Lines p = inr (inl p)
+
+explore_fault_is : (e : ExploreFault) {answered : ExitStatus} → answered ≡ explore_fault_status e → IsStatusOfNoRecording answered
+explore_fault_is (fault.Image e) p = inr (inr p)
+explore_fault_is fault.TooLarge p = inr (inr p)
+explore_fault_is fault.NoMem p = inr (inl p)
+explore_fault_is fault.Write p = inr (inl p)
+
+-- what a hunt tells that records nothing
+pub hunt_tells_none : {W P O : Type 0} (d : Tellings W P O) (answered : ExitStatus) (image : List ℕ) (plan : HuntPlan) (old new : Devices W P O) (reports : Writer)
+    {same : Type 0} → StopsHunt d answered image plan old new reports same
+    → TellsNoSeed image plan answered (lines_between d old new) ⊎ TellsNoSearch answered reports
+hunt_tells_none d answered image plan old new reports (inl h) = inl (record { last = h.0; left_out = h.1; none = h.3; status = h.2; lines = h.6 })
+hunt_tells_none d answered image plan old new reports (inr (e, is, inl t)) = inr (fault_is_no_recording e is, (record_fault_words e, t.4))
+hunt_tells_none d answered image plan old new reports (inr (e, is, inr (inl t))) = inr (fault_is_no_recording e is, (record_fault_words e, t.6))
+hunt_tells_none d answered image plan old new reports (inr (e, is, inr (inr t))) = inr (fault_is_no_recording e is, reported_is_told e image _ _ _ reports t.6.0)
+
+-- what a search for an outcome tells that records nothing
+pub search_tells_none : {W P O : Type 0} (d : Tellings W P O) (answered : ExitStatus) (image : List ℕ) (plan : ExplorePlan) (conditions : List Condition)
+    (old new : Devices W P O) (reports : Writer) {same : Type 0} → StopsUntil d answered image plan (map as_condition conditions) old new reports same
+    → TellsVain false image plan conditions answered (lines_between d old new) ⊎ TellsNoSearch answered reports
+search_tells_none d answered image plan conditions old new reports (inl h) = inl h.3
+search_tells_none d answered image plan conditions old new reports (inr (inl h)) = inr (explore_fault_is h.0 h.1, (explore_fault_words h.0, h.5))
+search_tells_none d answered image plan conditions old new reports (inr (inr h)) =
+    inr (fault_is_no_recording h.0 h.1, reported_is_told h.0 image _ _ _ reports h.7.0)
+
+-- the same of a search for a hang
+pub hang_tells_none : {W P O : Type 0} (d : Tellings W P O) (answered : ExitStatus) (image : List ℕ) (plan : ExplorePlan)
+    (old new : Devices W P O) (reports : Writer) {same : Type 0} → StopsHang d answered image plan old new reports same
+    → ((text : List ℕ) × IsHangAnswer image plan (Err answered) text × Took (lines_between d old new) text) ⊎ TellsNoSearch answered reports
+hang_tells_none d answered image plan old new reports (inl h) = inl h.3
+hang_tells_none d answered image plan old new reports (inr (inl h)) = inr (explore_fault_is h.0 h.1, (explore_fault_words h.0, h.5))
+hang_tells_none d answered image plan old new reports (inr (inr h)) =
+    inr (fault_is_no_recording h.0 h.1, reported_is_told h.0 image _ _ _ reports h.7.0)
+
+-- a plan that is the same may stand for it
+pub with_plan : {image : List ℕ} {plan other : ExplorePlan} {is_kept : List ℕ → Type 0} {out : Writer} → plan ≡ other
+    → RecordsHang image plan is_kept out → RecordsHang image other is_kept out
+with_plan {image} {plan} {other} {is_kept} {out} same found = subst (λ p. RecordsHang image p is_kept out) same found
+
+pub hang_vain : {image : List ℕ} {plan other : ExplorePlan} {answered : ExitStatus} {out reports : Writer} {conditions : List Condition} → plan ≡ other
+    → ((text : List ℕ) × IsHangAnswer image plan (Err answered) text × Took out text) ⊎ TellsNoSearch answered reports
+    → TellsVain true image other conditions answered out ⊎ TellsNoSearch answered reports
+hang_vain {image} {plan} {other} {answered} {out} same (inl h) = inl (subst (λ p. (text : List ℕ) × IsHangAnswer image p (Err answered) text × Took out text) same h)
+hang_vain same (inr h) = inr h
+
+-- what a hunt comes to, by what it found and what was made of that
+pub hunt_comes_to : {O E : Type 0} (written : O → Option (List ℕ)) (broken : O → Bool) (reported : E → Option (List ℕ)) (fails : E → Bool) (at : Paths) (stored : Storing)
+    (arguments : HuntArguments) (image : List ℕ) (plan : HuntPlan) (out said out' : O) (faults told faults' : E) (answered : ExitStatus) (place : List ℕ)
+    (r : Result Recorded ExitStatus) → AsksHunt at arguments image plan → place ≡ string_bytes arguments.trace
+    → IfOk r (λ recorded. RecordsHunted image plan recorded (stored place) (writer_of (written out) (written said) (broken said)))
+    → IfErr r (λ e. TellsNoSeed image plan e (writer_of (written out) (written said) (broken said))
+    ⊎ TellsNoSearch e (writer_of (reported faults) (reported told) (fails told)))
+    → IfErr r (λ e. answered ≡ e) → OnErr r (out' ≡ said) → OnErr r (faults' ≡ told)
+    → (arguments.shrinks ≡ false → OnOk r ((answered ≡ status.Done) × (out' ≡ said)))
+    → (arguments.shrinks ≡ true → IfOk r (λ given. EndsFound image plan given (stored place) answered (writer_of (written said) (written out') (broken out'))
+    (writer_of (reported told) (reported faults') (fails faults'))))
+    → HuntsFile at stored arguments answered (writer_of (written out) (written out') (broken out')) (writer_of (reported faults) (reported faults') (fails faults'))
+hunt_comes_to written broken reported fails at stored arguments image plan out said out' faults told faults' answered place (Ok x) asked here found none stopped quiet kept done shrunk =
+    let hunted = subst (λ p. RecordsHunted image plan x (stored p) (writer_of (written out) (written said) (broken said))) here found in
+    inl (
+      λ no. record {
+        image = image;
+        plan = plan;
+        asked = asked;
+        ended = inl (
+          (done no).0,
+          (
+            x,
+            subst (λ o. RecordsHunted image plan x (stored (string_bytes arguments.trace)) (writer_of (written out) (written o) (broken o)))
+                (sym (done no).1) hunted,
+          ),
+        );
+      },
+      λ yes. record {
+        image = image;
+        plan = plan;
+        asked = asked;
+        ended = inl (record {
+          given = x;
+          said = writer_of (written out) (written said) (broken said);
+          reported = reported told;
+          begins = refl;
+          hunted = hunted;
+          ended = subst (λ p. EndsFound image plan x (stored p) answered (writer_of (written said) (written out') (broken out'))
+              (writer_of (reported told) (reported faults') (fails faults'))) here (shrunk yes);
+        });
+      },
+    )
+hunt_comes_to written broken reported fails at stored arguments image plan out said out' faults told faults' answered place (Err e) asked here found (inl none) stopped quiet kept done shrunk =
+    let seedless = subst (λ a. TellsNoSeed image plan a (writer_of (written out) (written out') (broken out'))) (sym stopped)
+    (subst (λ o. TellsNoSeed image plan e (writer_of (written out) (written o) (broken o))) (sym quiet) none) in
+    inl (λ no. record { image = image; plan = plan; asked = asked; ended = inr seedless }, λ yes. record { image = image; plan = plan; asked = asked; ended = inr seedless })
+hunt_comes_to written broken reported fails at stored arguments image plan out said out' faults told faults' answered place (Err e) asked here found (inr none) stopped quiet kept done shrunk =
+    inr (subst (λ a. TellsNoSearch a (writer_of (reported faults) (reported faults') (fails faults'))) (sym stopped)
+    (subst (λ f. TellsNoSearch e (writer_of (reported faults) (reported f) (fails f))) (sym kept) none))
+
+refusal_is_told : (e : Refusal) (plan : ShrinkPlan) (reports : Writer) → IsRefusalTold e plan reports → TellsFault reports
+refusal_is_told (refused.Fault e) plan reports t = (record_fault_words e, t)
+refusal_is_told refused.Other plan reports t = (other_words, t)
+refusal_is_told (refused.Unmet place) plan reports t = (unmet_words (text_at (map string_bytes plan.texts.now) place), t)
+refusal_is_told refused.Stale plan reports t = (unmet_words (wanted_text plan.stale), t)
+
+-- why a run wasn't shrunk
+pub shrink_stops : {W P O : Type 0} (d : Tellings W P O) (answered : ExitStatus) (image : List ℕ) (plan : ShrinkPlan) (given : Recorded) (old new : Devices W P O)
+    (reports : Writer) → StopsShrink d answered image plan given old new reports
+    → RefusesGiven image given plan answered reports ⊎ IsStatusOfNoRecording answered
+shrink_stops d answered image plan given old new reports (inl h) =
+    inl (record { refusal = h.0; refuses = h.2.0; status = h.1; told = refusal_is_told h.0 plan reports h.2.4 })
+shrink_stops d answered image plan given old new reports (inr (before, after, list, is_minimal, is, inl f)) = inr (fault_is_no_recording Lines f.0)
+shrink_stops d answered image plan given old new reports (inr (before, after, list, is_minimal, is, inr s)) = inr (fault_is_no_recording s.0 s.2)

@@ -1,0 +1,20 @@
+use Rattle.ir_trace.specs.Encoding.{encoding}
+use Rattle.ir_commands.proofs.Stored.{both_if_ok, stored_in_place}
+use Rattle.ir_commands.proofs.hunt.hunted_into.Goals as goal
+
+pub returns-clause-found : goal.returns-clause-found
+returns-clause-found g c =
+    let files = c.record_files-files.result in
+    let after = c.hunted_in.new.files in
+    both_if_ok c.hunted_in.result (λ whole recorded found. record {
+      left_out = found.left_out;
+      seed = found.seed;
+      list = found.list;
+      printed = found.printed;
+      finding = found.finding;
+      trace = stored_in_place g.D.Folder.known g.D.Folder.knows g.D.Folder.was_put (λ m. m.file) c.args.around.now.folder.now files.trace.folder.now
+          after.trace.folder.now c.args.places.entry.trace.now files.trace.place.now after.trace.place.now files.trace.made after.trace.made
+          (encoding recorded) c.record_files-files.ensures.folder c.record_files-files.ensures.place
+          c.hunted_in.ensures.home c.record_files-files.ensures.empty (after.trace.put whole) found.trace;
+      lines = found.lines;
+    }) c.hunted_in.ensures.whole c.hunted_in.ensures.found
