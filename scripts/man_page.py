@@ -23,19 +23,21 @@ CONSTANT = re.compile(r"const (\w+): &str =\s*" + TEXT)
 ROWS = re.compile(r"=> (\w+)::row\(\)")
 ROW = re.compile(rf"name: {TEXT},\s+about: {TEXT},\s+after: (\w+)")
 # An argument, and one that may be left out.
-ARGUMENT = re.compile(rf"file_arg\(\s*alloc,\s*(\w+),\s*{TEXT}|Arg::new\(alloc, (\w+)\)\s*\.help\(\s*{TEXT}")
-OPTION = re.compile(r"fn (\w+)_arg<'a>[^{]*\{\s+Arg::new\(alloc, \w+\)\s*\.long\((\w+)\)((?:(?!\n}).)*?)\.help\(\s*" + TEXT, re.DOTALL)
+ARGUMENT = re.compile(rf"file_arg\(\s*alloc,\s*(\w+),\s*{TEXT}|place_arg\(\s*alloc,\s*(\w+),\s*{TEXT}")
+# An option: the form that makes it, its name, and its texts, of which the last is the help. Before it stand the names of its values, and then its
+# default.
+OPTION = re.compile(rf"fn (\w+)_arg<'a>\(alloc: Global\)[^\n]*\n(?:    ensures [^\n]*\n)?{{\s+(flag|(?:needed_)?repeated|option(?:_or)?)_arg\(\s*alloc,\s*(\w+),((?:\s*{TEXT},?)+)\s*\)")
+# An option with several values.
+PAIR = re.compile(r"fn (\w+)_arg<'a>\(alloc: Global\)[^\n]*\n(?:    ensures [^\n]*\n)?{\s+Arg::new\(alloc, (\w+)\)\s*\.long\(\w+\)((?:(?!\n}).)*?)\.help\(\s*" + TEXT, re.DOTALL)
 # The argument that names an image, which is the same in each subcommand.
-IMAGE = re.compile(r"pub fn image_arg<'a>[^{]*\{\s+(file_arg\(.*?\))\n\}", re.DOTALL)
+IMAGE = re.compile(r"pub fn image_arg<'a>.*?\n\{\s+(file_arg\(.*?\))\n\}", re.DOTALL)
 # The option that names an image, of which each subcommand says what it is for.
 FROM_IMAGE = re.compile(rf"from_image_arg\(\s*alloc,\s*{TEXT}")
 # Where a subcommand's arguments are put together, and what is put together there: an option, or the options that are shared.
 PUT_TOGETHER = re.compile(r"pub fn with_arguments<'a>.*?\n\}", re.DOTALL)
 SHARED = re.compile(r"pub fn with_options<'a>.*?\n\}", re.DOTALL)
 PUT = re.compile(r"(\w+)_arg\(\s*alloc|(with_options)\(alloc")
-VALUE = re.compile(r"\.value_name\(" + TEXT)
 VALUES = re.compile(r"\.value_names\(&\[([^\]]*)\]")
-DEFAULT = re.compile(r"\.default_value\(" + TEXT)
 # The version, as a text or by the name of a constant.
 VERSION = re.compile(rf"\.version\((?:{TEXT}|(\w+))")
 # A cell of a row with several numbers and what each means.
@@ -78,11 +80,12 @@ def constants_of(source):
 def options_of(source, files):
     """The options of a source by their functions' names, each with its form, its help, and whether it has to be given."""
     constants, found = files | constants_of(source), {}
-    for function, name, body, text in OPTION.findall(source):
-        value, values, default = VALUE.search(body), VALUES.search(body), DEFAULT.search(body)
-        named = re.findall(TEXT, values[1]) if values else [value[1]] if value else []
-        form = " ".join([f"--{constants[name]}", *named])
-        found[function] = (form, text + (f" [default: {default[1]}]" if default else ""), ".required(true)" in body)
+    for function, form, name, texts, _ in OPTION.findall(source):
+        *values, text = re.findall(TEXT, texts)
+        default = f" [default: {values.pop()}]" if form == "option_or" else ""
+        found[function] = (" ".join([f"--{constants[name]}", *values]), text + default, form == "needed_repeated")
+    for function, name, body, text in PAIR.findall(source):
+        found[function] = (" ".join([f"--{constants[name]}", *re.findall(TEXT, VALUES.search(body)[1])]), text, False)
     return found
 
 

@@ -701,7 +701,7 @@ NO_UNTIL = (
     ("lost.img --seconds 0", 2, "--seconds: '0' is no number from 1 to 1000000"),
     ("lost.img --seconds 1000001", 2, "--seconds: '1000001' is no number from 1 to 1000000"),
     ("lost.img --max 0", 2, "--max: '0' is no number from 1 to 100000000"),
-    ("lost.img --max -1", 2, "--max: '-1' is no number from 1 to 100000000"),
+    ("lost.img --max=-1", 2, "--max: '-1' is no number from 1 to 100000000"),
     ("lost.img --max 100000001", 2, "--max: '100000001' is no number from 1 to 100000000"),
     ("lost.img --input no.bin", 1, "no.bin"),
     ("lost.img --input long.bin", 1, "long.bin"),

@@ -248,7 +248,7 @@ REFUSED = (
     ("who bad.trc 1 --image lost.img", 2, "", NO_OBJECT),
     *((f"who bad.trc 0 --word {word} --image lost.img", 2, "", NO_WORD) for word in (8, 256, 4294967295)),
     *((f"who bad.trc {object_} --word 9 --image lost.img", 2, "", NO_OBJECT) for object_ in (1, 256, 4294967295)),
-    *((f"who bad.trc 0 --word {word} --image lost.img", 2, "", NO_NUMBER.format("--word", word)) for word in ("x", "0x0", "+1", "-1", "4294967296")),
+    *((f"who bad.trc 0 --word={word} --image lost.img", 2, "", NO_NUMBER.format("--word", word)) for word in ("x", "0x0", "+1", "-1", "4294967296")),
     ("who bad.trc 0 --word 0", 2, "", LACKING.format("--image <IMAGE>")),
     ("who bad.trc 0 0 --word 0 --image lost.img", 2, "", "ir: the argument '[V]' cannot be used with '--word <K>'\n"),
     ("who none.trc 0 --word 0 --image lost.img", 1, "", NO_FILE),

@@ -1,7 +1,16 @@
 //! The command-line arguments.
 
+ghost use Rattle.std.specs.Prelude.{◌≡◌, ◌≢◌, codes, map, option_map, IfOk};
+ghost use Rattle.std.specs.String.{string_bytes};
+ghost use Rattle.clap.specs.Words.{kind_of, subcommand_rows_of};
+ghost use Rattle.ir_arguments.specs.Parser.{app_in, bare_app, ir_app, with_version};
+ghost use Rattle.ir_arguments.specs.Parsing.{IsAskedBy, IsOrNoMemory, request_at_fault};
+ghost use Rattle.ir_arguments.specs.Subcommands.{request_by};
+ghost use Rattle.ir_arguments.specs.Values.{rows_in};
+ghost use Rattle.ir_arguments.specs.Views.{request_of};
+
 use crate::asked::Asked;
-use crate::subcommands::SUBCOMMANDS;
+use crate::subcommands::{SUBCOMMANDS, subcommand_named, with_subcommands};
 use clap::error::ErrorKind;
 use clap::{ArgMatches, Command, Error};
 use std::alloc::{AllocError, Global};
@@ -35,15 +44,22 @@ some run hangs, 141 nobody reads standard output any more.
 // So many edits make a word another one.
 const OTHER_WORD: usize = 3;
 
-// The parser of all arguments.
-fn command<'a>(alloc: Global) -> Result<Command<'a>, AllocError> {
-    let mut command = Command::new(alloc, "ir")
+// The program without its subcommands.
+fn bare_program<'a>(alloc: Global) -> Command<'a>
+    ensures { app_in result ≡ with_version (bare_app (codes "ir")) }
+{
+    Command::new(alloc, "ir")
         .version(VERSION)
         .about(ABOUT)
-        .after_help(AFTER);
-    for subcommand in &SUBCOMMANDS {
-        command = command.subcommand(subcommand.command(alloc)?)?;
-    }
+        .after_help(AFTER)
+}
+
+// The parser of all arguments.
+#[tactic(auto, using(crate::proofs::Apps::bin_name_kept))]
+fn command<'a>(alloc: Global) -> Result<Command<'a>, AllocError>
+    ensures { IfOk result (λ c. app_in c ≡ ir_app) }
+{
+    let command = with_subcommands(alloc, bare_program(alloc), SUBCOMMANDS.as_slice())?;
     command.bin_name("ir")
 }
 
@@ -92,7 +108,9 @@ fn push_hint(alloc: Global, line: &mut String, word: &str) -> Result<(), AllocEr
 }
 
 // What an error says, with the help that it asks for, or why nothing is asked.
-fn asked_for(alloc: Global, error: &Error, arguments: &[String]) -> Result<Asked, AllocError> {
+fn asked_for(alloc: Global, error: &Error, arguments: &[String]) -> Result<Asked, AllocError>
+    ensures { kind_of error.now ≢ ErrorKind.OutOfMemory → IfOk result (λ asked. request_of asked ≡ request_at_fault (kind_of error.now)) }
+{
     if !error.use_stderr() {
         return Ok(Asked::Help(error.to_string(alloc)?));
     }
@@ -105,28 +123,59 @@ fn asked_for(alloc: Global, error: &Error, arguments: &[String]) -> Result<Asked
     Ok(Asked::Nothing(line))
 }
 
+// The name of the subcommand that is used, and its matches.
+fn subcommand_used<'m, 'a>(matches: &'m ArgMatches<'a>) -> Option<(&'a str, &'m ArgMatches<'a>)>
+    ensures { option_map (λ p. (p.0.now, rows_in p.1.now)) result ≡ subcommand_rows_of matches.now }
+{
+    matches.subcommand()
+}
+
 // What the arguments of the subcommand ask for; without one a session.
-fn by_subcommand(alloc: Global, matches: &ArgMatches<'_>) -> Result<Asked, AllocError> {
-    let Some((name, matches)) = matches.subcommand() else {
+fn by_subcommand(alloc: Global, matches: &ArgMatches<'_>) -> Result<Asked, AllocError>
+    ensures { IfOk result (λ asked. request_of asked ≡ request_by (subcommand_rows_of matches.now)) }
+{
+    let Some((name, matches)) = subcommand_used(matches) else {
         return Ok(Asked::Session);
     };
-    for subcommand in &SUBCOMMANDS {
-        if subcommand.row().name == name {
-            return subcommand.asked(alloc, matches);
-        }
+    match subcommand_named(name) {
+        Some(subcommand) => subcommand.asked(alloc, matches),
+        None => Ok(Asked::Session),
     }
-    Ok(Asked::Session)
+}
+
+// What an error asks for.
+fn by_fault(alloc: Global, error: &Error, arguments: &[String]) -> Asked
+    ensures { IsOrNoMemory (request_at_fault (kind_of error.now)) (request_of result) }
+{
+    if error.kind() == ErrorKind::OutOfMemory {
+        return Asked::NoMem;
+    }
+    match asked_for(alloc, error, arguments) {
+        Ok(asked) => asked,
+        Err(_) => Asked::NoMem,
+    }
+}
+
+// What matches ask for.
+fn by_matches(alloc: Global, matches: &ArgMatches<'_>) -> Asked
+    ensures { IsOrNoMemory (request_by (subcommand_rows_of matches.now)) (request_of result) }
+{
+    match by_subcommand(alloc, matches) {
+        Ok(asked) => asked,
+        Err(_) => Asked::NoMem,
+    }
 }
 
 /// What the arguments ask for, of which the first is the program's name.
-pub fn parsed(alloc: Global, arguments: &[String]) -> Asked {
+pub fn parsed(alloc: Global, arguments: &[String]) -> Asked
+    ensures { IsAskedBy (map string_bytes arguments.now) (request_of result) }
+{
     let Ok(command) = command(alloc) else {
         return Asked::NoMem;
     };
     match command.try_get_matches_from(arguments) {
-        Ok(matches) => by_subcommand(alloc, &matches).unwrap_or(Asked::NoMem),
-        Err(error) if error.kind() == ErrorKind::OutOfMemory => Asked::NoMem,
-        Err(error) => asked_for(alloc, &error, arguments).unwrap_or(Asked::NoMem),
+        Ok(matches) => by_matches(alloc, &matches),
+        Err(error) => by_fault(alloc, &error, arguments),
     }
 }
 

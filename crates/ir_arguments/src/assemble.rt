@@ -1,9 +1,17 @@
 //! The arguments of `ir asm`.
 
+ghost use Rattle.std.specs.Prelude.{◌≡◌, IfOk, codes};
+ghost use Rattle.ir_arguments.specs.Asking.{assembly_asked};
+ghost use Rattle.ir_arguments.specs.Values.{rows_in};
+ghost use Rattle.ir_arguments.specs.Views.{request_of};
+ghost use Rattle.ir_arguments.specs.Parser.{IsArgument, and_rules, app_in, flag, option, rules_of};
+ghost use Rattle.ir_arguments.specs.declared.subcommands.Subcommand.TheVariants as sub;
+
 use crate::asked::{Asked, Make};
+use crate::forms::{flag_arg, option_arg, with_arg};
 use crate::subcommands::Row;
-use crate::values::{EXPLAIN, IMAGE, MAP, file_arg, given_text, text_of};
-use clap::{Arg, ArgAction, ArgMatches, Command};
+use crate::values::{EXPLAIN, IMAGE, MAP, file_arg, given_text, has_flag, text_of};
+use clap::{Arg, ArgMatches, Command};
 use std::alloc::{AllocError, Global};
 
 const SOURCE: &str = "SOURCE";
@@ -64,7 +72,9 @@ Exit status: 0 assembled, 1 a file that can't be read or written, 2 bad argument
 ";
 
 /// What the help says of it, beside its arguments.
-pub fn row<'a>() -> Row<'a> {
+pub fn row<'a>() -> Row<'a>
+    ensures { result.name.now ≡ codes "asm" }
+{
     Row {
         name: "asm",
         about: "Assembles a guest's source into an image",
@@ -85,34 +95,48 @@ pub struct AssembleArguments {
     pub explain: bool,
 }
 
-fn map_arg<'a>(alloc: Global) -> Arg<'a> {
-    Arg::new(alloc, MAP).long(MAP).value_name("MAP").help(
+fn map_arg<'a>(alloc: Global) -> Arg<'a>
+    ensures { IsArgument result (option (codes "map")) }
+{
+    option_arg(
+        alloc,
+        MAP,
+        "MAP",
         "The file that the labels are written to, by rising address",
     )
 }
 
-fn explain_arg<'a>(alloc: Global) -> Arg<'a> {
-    Arg::new(alloc, EXPLAIN)
-        .long(EXPLAIN)
-        .action(ArgAction::SetTrue)
-        .help("Explains a fault in a second line, as is done at a terminal")
+fn explain_arg<'a>(alloc: Global) -> Arg<'a>
+    ensures { IsArgument result (flag (codes "explain")) }
+{
+    flag_arg(
+        alloc,
+        EXPLAIN,
+        "Explains a fault in a second line, as is done at a terminal",
+    )
 }
 
 /// The command with its arguments.
-pub fn with_arguments<'a>(alloc: Global, command: Command<'a>) -> Result<Command<'a>, AllocError> {
-    command
-        .arg(file_arg(alloc, SOURCE, "The file with the source"))?
-        .arg(file_arg(alloc, IMAGE, "The file that the image is written to"))?
-        .arg(map_arg(alloc))?
-        .arg(explain_arg(alloc))
+pub fn with_arguments<'a>(alloc: Global, command: Command<'a>) -> Result<Command<'a>, AllocError>
+    ensures { IfOk result (λ c. app_in c ≡ and_rules (app_in command.entry) (rules_of sub.Assemble)) }
+{
+    let command = with_arg(command, file_arg(alloc, SOURCE, "The file with the source"))?;
+    let command = with_arg(
+        command,
+        file_arg(alloc, IMAGE, "The file that the image is written to"),
+    )?;
+    let command = with_arg(command, map_arg(alloc))?;
+    with_arg(command, explain_arg(alloc))
 }
 
 /// What its arguments ask for.
-pub fn asked(alloc: Global, matches: &ArgMatches<'_>) -> Result<Asked, AllocError> {
+pub fn asked(alloc: Global, matches: &ArgMatches<'_>) -> Result<Asked, AllocError>
+    ensures { IfOk result (λ asked. request_of asked ≡ assembly_asked (rows_in matches.now)) }
+{
     Ok(Asked::Make(Make::Source(AssembleArguments {
         source: text_of(alloc, matches, SOURCE)?,
         image: text_of(alloc, matches, IMAGE)?,
         map: given_text(alloc, matches, MAP)?,
-        explain: matches.get_flag(EXPLAIN),
+        explain: has_flag(matches, EXPLAIN),
     })))
 }

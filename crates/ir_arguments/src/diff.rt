@@ -1,6 +1,14 @@
 //! The arguments of `ir diff`.
 
+ghost use Rattle.std.specs.Prelude.{◌≡◌, IfOk, codes};
+ghost use Rattle.ir_arguments.specs.Asking.{difference_asked};
+ghost use Rattle.ir_arguments.specs.Values.{rows_in};
+ghost use Rattle.ir_arguments.specs.Views.{request_of};
+ghost use Rattle.ir_arguments.specs.Parser.{and_rules, app_in, rules_of};
+ghost use Rattle.ir_arguments.specs.declared.subcommands.Subcommand.TheVariants as sub;
+
 use crate::asked::{Asked, Print};
+use crate::forms::with_arg;
 use crate::subcommands::Row;
 use crate::values::{file_arg, text_of};
 use clap::{ArgMatches, Command};
@@ -26,7 +34,9 @@ trace, 4 an incoherent trace or headers that differ.
 ";
 
 /// What the help says of it, beside its arguments.
-pub fn row<'a>() -> Row<'a> {
+pub fn row<'a>() -> Row<'a>
+    ensures { result.name.now ≡ codes "diff" }
+{
     Row {
         name: "diff",
         about: "Prints what two recordings have in common, and where they part",
@@ -50,18 +60,24 @@ pub struct DiffArguments {
 }
 
 /// The command with its arguments.
-pub fn with_arguments<'a>(alloc: Global, command: Command<'a>) -> Result<Command<'a>, AllocError> {
-    command
-        .arg(file_arg(alloc, FIRST, "The file with a trace"))?
-        .arg(file_arg(
+pub fn with_arguments<'a>(alloc: Global, command: Command<'a>) -> Result<Command<'a>, AllocError>
+    ensures { IfOk result (λ c. app_in c ≡ and_rules (app_in command.entry) (rules_of sub.Diff)) }
+{
+    let command = with_arg(command, file_arg(alloc, FIRST, "The file with a trace"))?;
+    with_arg(
+        command,
+        file_arg(
             alloc,
             SECOND,
             "The file with the trace that it is compared with",
-        ))
+        ),
+    )
 }
 
 /// What its arguments ask for.
-pub fn asked(alloc: Global, matches: &ArgMatches<'_>) -> Result<Asked, AllocError> {
+pub fn asked(alloc: Global, matches: &ArgMatches<'_>) -> Result<Asked, AllocError>
+    ensures { IfOk result (λ asked. request_of asked ≡ difference_asked (rows_in matches.now)) }
+{
     Ok(Asked::Print(Print::Diff(DiffArguments {
         first: text_of(alloc, matches, FIRST)?,
         second: text_of(alloc, matches, SECOND)?,

@@ -1,9 +1,17 @@
 //! The arguments of `ir elf`.
 
+ghost use Rattle.std.specs.Prelude.{◌≡◌, IfOk, codes};
+ghost use Rattle.ir_arguments.specs.Asking.{conversion_asked};
+ghost use Rattle.ir_arguments.specs.Values.{rows_in};
+ghost use Rattle.ir_arguments.specs.Views.{request_of};
+ghost use Rattle.ir_arguments.specs.Parser.{IsArgument, and_rules, app_in, flag, rules_of};
+ghost use Rattle.ir_arguments.specs.declared.subcommands.Subcommand.TheVariants as sub;
+
 use crate::asked::{Asked, Make};
+use crate::forms::{flag_arg, with_arg};
 use crate::subcommands::Row;
-use crate::values::{EXPLAIN, IMAGE, file_arg, text_of};
-use clap::{Arg, ArgAction, ArgMatches, Command};
+use crate::values::{EXPLAIN, IMAGE, file_arg, has_flag, text_of};
+use clap::{Arg, ArgMatches, Command};
 use std::alloc::{AllocError, Global};
 
 const ELF: &str = "ELF";
@@ -36,7 +44,9 @@ Exit status: 0 converted, 1 a file that can't be read or written, 2 bad argument
 ";
 
 /// What the help says of it, beside its arguments.
-pub fn row<'a>() -> Row<'a> {
+pub fn row<'a>() -> Row<'a>
+    ensures { result.name.now ≡ codes "elf" }
+{
     Row {
         name: "elf",
         about: "Makes the image of a guest that a C compiler and linker made",
@@ -55,28 +65,35 @@ pub struct ElfArguments {
     pub explain: bool,
 }
 
-fn explain_arg<'a>(alloc: Global) -> Arg<'a> {
-    Arg::new(alloc, EXPLAIN)
-        .long(EXPLAIN)
-        .action(ArgAction::SetTrue)
-        .help(
-            "Explains a refusal, or tells how many bytes of variables each thread has for itself, as is done at a terminal",
-        )
+fn explain_arg<'a>(alloc: Global) -> Arg<'a>
+    ensures { IsArgument result (flag (codes "explain")) }
+{
+    flag_arg(
+        alloc,
+        EXPLAIN,
+        "Explains a refusal, or tells how many bytes of variables each thread has for itself, as is done at a terminal",
+    )
 }
 
 /// The command with its arguments.
-pub fn with_arguments<'a>(alloc: Global, command: Command<'a>) -> Result<Command<'a>, AllocError> {
-    command
-        .arg(file_arg(alloc, ELF, "The file with the program"))?
-        .arg(file_arg(alloc, IMAGE, "The file that the image is written to"))?
-        .arg(explain_arg(alloc))
+pub fn with_arguments<'a>(alloc: Global, command: Command<'a>) -> Result<Command<'a>, AllocError>
+    ensures { IfOk result (λ c. app_in c ≡ and_rules (app_in command.entry) (rules_of sub.Elf)) }
+{
+    let command = with_arg(command, file_arg(alloc, ELF, "The file with the program"))?;
+    let command = with_arg(
+        command,
+        file_arg(alloc, IMAGE, "The file that the image is written to"),
+    )?;
+    with_arg(command, explain_arg(alloc))
 }
 
 /// What its arguments ask for.
-pub fn asked(alloc: Global, matches: &ArgMatches<'_>) -> Result<Asked, AllocError> {
+pub fn asked(alloc: Global, matches: &ArgMatches<'_>) -> Result<Asked, AllocError>
+    ensures { IfOk result (λ asked. request_of asked ≡ conversion_asked (rows_in matches.now)) }
+{
     Ok(Asked::Make(Make::Elf(ElfArguments {
         elf: text_of(alloc, matches, ELF)?,
         image: text_of(alloc, matches, IMAGE)?,
-        explain: matches.get_flag(EXPLAIN),
+        explain: has_flag(matches, EXPLAIN),
     })))
 }

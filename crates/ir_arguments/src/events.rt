@@ -1,6 +1,14 @@
 //! The arguments of `ir events`.
 
+ghost use Rattle.std.specs.Prelude.{◌≡◌, IfOk, codes};
+ghost use Rattle.ir_arguments.specs.Asking.{events_asked};
+ghost use Rattle.ir_arguments.specs.Values.{rows_in};
+ghost use Rattle.ir_arguments.specs.Views.{request_of};
+ghost use Rattle.ir_arguments.specs.Parser.{and_rules, app_in, rules_of};
+ghost use Rattle.ir_arguments.specs.declared.subcommands.Subcommand.TheVariants as sub;
+
 use crate::asked::{Asked, Print};
+use crate::forms::with_arg;
 use crate::subcommands::Row;
 use crate::values::{IMAGE, MAP, TRACE, file_arg, given_text, image_arg, names_arg, text_of};
 use clap::{ArgMatches, Command};
@@ -19,7 +27,9 @@ image or trace, or a line of MAP that is no symbol, 4 a trace that doesn't fit.
 ";
 
 /// What the help says of it, beside its arguments.
-pub fn row<'a>() -> Row<'a> {
+pub fn row<'a>() -> Row<'a>
+    ensures { result.name.now ≡ codes "events" }
+{
     Row {
         name: "events",
         about: "Prints each event of a recorded run with its position and address",
@@ -39,15 +49,18 @@ pub struct EventsArguments {
 }
 
 /// The command with its arguments.
-pub fn with_arguments<'a>(alloc: Global, command: Command<'a>) -> Result<Command<'a>, AllocError> {
-    command
-        .arg(image_arg(alloc))?
-        .arg(file_arg(alloc, TRACE, "The file with the trace"))?
-        .arg(names_arg(alloc))
+pub fn with_arguments<'a>(alloc: Global, command: Command<'a>) -> Result<Command<'a>, AllocError>
+    ensures { IfOk result (λ c. app_in c ≡ and_rules (app_in command.entry) (rules_of sub.Events)) }
+{
+    let command = with_arg(command, image_arg(alloc))?;
+    let command = with_arg(command, file_arg(alloc, TRACE, "The file with the trace"))?;
+    with_arg(command, names_arg(alloc))
 }
 
 /// What its arguments ask for.
-pub fn asked(alloc: Global, matches: &ArgMatches<'_>) -> Result<Asked, AllocError> {
+pub fn asked(alloc: Global, matches: &ArgMatches<'_>) -> Result<Asked, AllocError>
+    ensures { IfOk result (λ asked. request_of asked ≡ events_asked (rows_in matches.now)) }
+{
     Ok(Asked::Print(Print::Events(EventsArguments {
         image: text_of(alloc, matches, IMAGE)?,
         trace: text_of(alloc, matches, TRACE)?,

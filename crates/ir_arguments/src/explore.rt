@@ -1,19 +1,22 @@
 //! The arguments of `ir explore`.
 
-ghost use Rattle.std.specs.Prelude.{◌≤◌, IfOk};
+ghost use Rattle.std.specs.Prelude.{◌≡◌, ◌≤◌, codes, option_map, IfOk};
+ghost use Rattle.std.specs.Result.{result_ok};
+ghost use Rattle.ir_record_command.specs.Numerals.{number_within};
+ghost use Rattle.ir_arguments.specs.Asking.{seconds_in};
+ghost use Rattle.ir_arguments.specs.Exploring.{ends_in, outcomes_in, reach_in, switches_given};
+ghost use Rattle.ir_arguments.specs.Values.{rows_in, given, text_for};
+ghost use Rattle.ir_arguments.specs.Parser.{IsArgument, and_rules, app_in, option, option_or, place, repeated, rules_of};
+ghost use Rattle.ir_arguments.specs.declared.subcommands.Subcommand.TheVariants as sub;
 
-use crate::asked::{Asked, Explored};
+use crate::bonds::{Bond, Named};
 use crate::condition_text::ConditionText;
-use crate::conditions::{hang_by, outcome_conditions_of};
-use crate::recording::{
-    INPUT, OUTPUT, input_arg, output_arg, profile_arg, profile_in, random_arg, random_in,
-};
+use crate::forms::{option_arg, option_or_arg, place_arg, repeated_arg, with_arg};
+use crate::recording::{OUTPUT, input_arg, output_arg, profile_arg, random_arg};
 use crate::subcommands::Row;
-use crate::values::{IMAGE, TRACE, UNTIL, given_text, image_arg, text_of};
-use crate::within::{
-    ClassesArguments, ONLY, WITHIN, WithinArguments, counted_of, only_arg, other_of, within_arg,
-};
-use clap::{Arg, ArgAction, ArgMatches, Command};
+use crate::values::{TRACE, UNTIL, given, image_arg, text_for};
+use crate::within::{ONLY, WITHIN, only_arg, within_arg};
+use clap::{Arg, ArgMatches, Command};
 use ir_record_command::number_within;
 use ir_thread::{MOST_BUDGET, Profile};
 use std::alloc::{AllocError, Global};
@@ -79,7 +82,9 @@ finished, and no run hangs, 6 covered or stopped. With OTHER: 0 within, 5 outsid
 ";
 
 /// What the help says of it, beside its arguments.
-pub fn row<'a>() -> Row<'a> {
+pub fn row<'a>() -> Row<'a>
+    ensures { result.name.now ≡ codes "explore" }
+{
     Row {
         name: "explore",
         about: "Prints each different outcome of a guest, with an order that leads to it",
@@ -154,83 +159,138 @@ pub struct UntilArguments {
     pub output: Option<String>,
 }
 
-fn until_arg<'a>(alloc: Global) -> Arg<'a> {
-    Arg::new(alloc, UNTIL)
-        .long(UNTIL)
-        .value_name("COND")
-        .action(ArgAction::Append)
-        .help("What has to hold of the outcome that is recorded; given more than once, all of it")
+fn until_arg<'a>(alloc: Global) -> Arg<'a>
+    ensures { IsArgument result (repeated (codes "until")) }
+{
+    repeated_arg(
+        alloc,
+        UNTIL,
+        "COND",
+        "What has to hold of the outcome that is recorded; given more than once, all of it",
+    )
 }
 
-fn states_arg<'a>(alloc: Global) -> Arg<'a> {
-    Arg::new(alloc, STATES)
-        .long(STATES)
-        .value_name("N")
-        .default_value("1000000")
-        .allow_negative_numbers(true)
-        .help("The most states, from 1 to 100000000")
+fn states_arg<'a>(alloc: Global) -> Arg<'a>
+    ensures { IsArgument result (option_or (codes "states") (codes "1000000")) }
+{
+    option_or_arg(
+        alloc,
+        STATES,
+        "N",
+        "1000000",
+        "The most states, from 1 to 100000000",
+    )
 }
 
-fn switches_arg<'a>(alloc: Global) -> Arg<'a> {
-    Arg::new(alloc, SWITCHES)
-        .long(SWITCHES)
-        .value_name("C")
-        .allow_negative_numbers(true)
-        .help("The most switches, at most 1000000; without it all outcomes are looked for")
+fn switches_arg<'a>(alloc: Global) -> Arg<'a>
+    ensures { IsArgument result (option (codes "switches")) }
+{
+    option_arg(
+        alloc,
+        SWITCHES,
+        "C",
+        "The most switches, at most 1000000; without it all outcomes are looked for",
+    )
 }
 
-fn private_arg<'a>(alloc: Global) -> Arg<'a> {
-    Arg::new(alloc, PRIVATE)
-        .long(PRIVATE)
-        .value_name("N")
-        .default_value("1000000")
-        .allow_negative_numbers(true)
-        .help("The most steps of a thread up to its next entry or try, from 1 to 1000000000000")
+fn private_arg<'a>(alloc: Global) -> Arg<'a>
+    ensures { IsArgument result (option_or (codes "private") (codes "1000000")) }
+{
+    option_or_arg(
+        alloc,
+        PRIVATE,
+        "N",
+        "1000000",
+        "The most steps of a thread up to its next entry or try, from 1 to 1000000000000",
+    )
 }
 
-fn seconds_arg<'a>(alloc: Global) -> Arg<'a> {
-    Arg::new(alloc, SECONDS)
-        .long(SECONDS)
-        .value_name("N")
-        .allow_negative_numbers(true)
-        .help(
-            "The seconds after which the search stops, from 1 to 1000000; without it the search goes on to its end",
-        )
+fn seconds_arg<'a>(alloc: Global) -> Arg<'a>
+    ensures { IsArgument result (option (codes "seconds")) }
+{
+    option_arg(
+        alloc,
+        SECONDS,
+        "N",
+        "The seconds after which the search stops, from 1 to 1000000; without it the search goes on to its end",
+    )
 }
 
-fn max_arg<'a>(alloc: Global) -> Arg<'a> {
-    Arg::new(alloc, MAX)
-        .long(MAX)
-        .value_name("K")
-        .allow_negative_numbers(true)
-        .help(
-            "The most outcomes, from 1 to 100000000: the search stops once it knows one more; without it all are looked for",
-        )
+fn max_arg<'a>(alloc: Global) -> Arg<'a>
+    ensures { IsArgument result (option (codes "max")) }
+{
+    option_arg(
+        alloc,
+        MAX,
+        "K",
+        "The most outcomes, from 1 to 100000000: the search stops once it knows one more; without it all are looked for",
+    )
 }
+
+// The arguments of which not all may be given together, as messages show them.
+const THE_TRACE: Named<'static> = Named {
+    id: TRACE,
+    shown: "<TRACE>",
+};
+
+const THE_CONDITION: Named<'static> = Named {
+    id: UNTIL,
+    shown: "--until <COND>",
+};
+
+const THE_OUTPUT: Named<'static> = Named {
+    id: OUTPUT,
+    shown: "--output <PREFIX>",
+};
+
+const THE_OTHER: Named<'static> = Named {
+    id: WITHIN,
+    shown: "--within <OTHER>",
+};
+
+const THE_PARTS: Named<'static> = Named {
+    id: ONLY,
+    shown: "--only <PARTS>",
+};
+
+/// Which arguments exclude each other, and which need others.
+pub const BONDS: [Bond<'static>; 6] = [
+    Bond::Excludes(THE_OTHER, THE_CONDITION),
+    Bond::Excludes(THE_PARTS, THE_CONDITION),
+    Bond::NeedsUnless(THE_TRACE, THE_CONDITION, WITHIN, ONLY),
+    Bond::NeedsUnless(THE_OUTPUT, THE_CONDITION, WITHIN, ONLY),
+    Bond::Needs(THE_CONDITION, THE_TRACE),
+    Bond::Needs(THE_OUTPUT, THE_TRACE),
+];
 
 /// The command with its arguments.
-pub fn with_arguments<'a>(alloc: Global, command: Command<'a>) -> Result<Command<'a>, AllocError> {
-    command
-        .arg(image_arg(alloc))?
-        .arg(trace_arg(alloc)?)?
-        .arg(until_arg(alloc).requires_arg(TRACE)?)?
-        .arg(states_arg(alloc))?
-        .arg(switches_arg(alloc))?
-        .arg(private_arg(alloc))?
-        .arg(seconds_arg(alloc))?
-        .arg(max_arg(alloc))?
-        .arg(random_arg(alloc))?
-        .arg(profile_arg(alloc))?
-        .arg(input_arg(alloc))?
-        .arg(output_arg(alloc).requires_arg(UNTIL)?)?
-        .arg(within_arg(alloc).conflicts_with(UNTIL)?)?
-        .arg(only_arg(alloc).conflicts_with(UNTIL)?)
+pub fn with_arguments<'a>(alloc: Global, command: Command<'a>) -> Result<Command<'a>, AllocError>
+    ensures { IfOk result (λ c. app_in c ≡ and_rules (app_in command.entry) (rules_of sub.Explore)) }
+{
+    let command = with_arg(command, image_arg(alloc))?;
+    let command = with_arg(command, trace_arg(alloc))?;
+    let command = with_arg(command, until_arg(alloc))?;
+    let command = with_arg(command, states_arg(alloc))?;
+    let command = with_arg(command, switches_arg(alloc))?;
+    let command = with_arg(command, private_arg(alloc))?;
+    let command = with_arg(command, seconds_arg(alloc))?;
+    let command = with_arg(command, max_arg(alloc))?;
+    let command = with_arg(command, random_arg(alloc))?;
+    let command = with_arg(command, profile_arg(alloc))?;
+    let command = with_arg(command, input_arg(alloc))?;
+    let command = with_arg(command, output_arg(alloc))?;
+    let command = with_arg(command, within_arg(alloc))?;
+    with_arg(command, only_arg(alloc))
 }
 
-fn trace_arg<'a>(alloc: Global) -> Result<Arg<'a>, AllocError> {
-    Arg::new(alloc, TRACE)
-        .help("The file that the trace of the outcome is written to, with --until")
-        .requires_arg(UNTIL)
+fn trace_arg<'a>(alloc: Global) -> Arg<'a>
+    ensures { IsArgument result (place (codes "TRACE")) }
+{
+    place_arg(
+        alloc,
+        TRACE,
+        "The file that the trace of the outcome is written to, with --until",
+    )
 }
 
 // The number that the value of an option is, or else what is wrong with it.
@@ -241,9 +301,10 @@ fn number_in_option(
     least: u64,
     most: u64,
 ) -> Result<Result<u64, String>, AllocError>
-    ensures { IfOk result (λ read. IfOk read (λ number. (least ≤ number) × (number ≤ most))) }
+    ensures value { IfOk result (λ read. result_ok read ≡ number_within least most (text_for (rows_in matches.now) option.now)) }
+    ensures within { IfOk result (λ read. IfOk read (λ number. (least ≤ number) × (number ≤ most))) }
 {
-    let value = matches.get_str(option).unwrap_or_default();
+    let value = text_for(matches, option);
     match number_within(least, most, value) {
         Some(number) => Ok(Ok(number)),
         None => Ok(Err(format!(in alloc;
@@ -253,11 +314,10 @@ fn number_in_option(
 }
 
 // The most switches that are asked for, if any are.
-fn switches_of(
-    alloc: Global,
-    matches: &ArgMatches<'_>,
-) -> Result<Result<usize, String>, AllocError> {
-    if matches.get_str(SWITCHES).is_none() {
+fn switches_of(alloc: Global, matches: &ArgMatches<'_>) -> Result<Result<usize, String>, AllocError>
+    ensures { IfOk result (λ read. result_ok read ≡ switches_given (given (rows_in matches.now) (codes "switches"))) }
+{
+    if given(matches, SWITCHES).is_none() {
         return Ok(Ok(usize::MAX));
     }
     match number_in_option(alloc, matches, SWITCHES, 0, MOST_SWITCHES)? {
@@ -270,8 +330,10 @@ fn switches_of(
 fn seconds_of(
     alloc: Global,
     matches: &ArgMatches<'_>,
-) -> Result<Result<Option<u32>, String>, AllocError> {
-    if matches.get_str(SECONDS).is_none() {
+) -> Result<Result<Option<u32>, String>, AllocError>
+    ensures { IfOk result (λ read. result_ok read ≡ seconds_in (rows_in matches.now)) }
+{
+    if given(matches, SECONDS).is_none() {
         return Ok(Ok(None));
     }
     match number_in_option(alloc, matches, SECONDS, 1, MOST_SECONDS)? {
@@ -284,8 +346,10 @@ fn seconds_of(
 fn outcomes_of(
     alloc: Global,
     matches: &ArgMatches<'_>,
-) -> Result<Result<Option<usize>, String>, AllocError> {
-    if matches.get_str(MAX).is_none() {
+) -> Result<Result<Option<usize>, String>, AllocError>
+    ensures { IfOk result (λ read. result_ok read ≡ outcomes_in (rows_in matches.now)) }
+{
+    if given(matches, MAX).is_none() {
         return Ok(Ok(None));
     }
     match number_in_option(alloc, matches, MAX, 1, MOST_OUTCOMES)? {
@@ -294,8 +358,31 @@ fn outcomes_of(
     }
 }
 
-// How far a guest is explored, or what is wrong with an option.
-fn reach_of(alloc: Global, matches: &ArgMatches<'_>) -> Result<Result<Reach, String>, AllocError> {
+// The most seconds and outcomes that are asked for, if they are, or what is wrong with one of the numbers.
+fn ends_of(
+    alloc: Global,
+    matches: &ArgMatches<'_>,
+) -> Result<Result<(Option<u32>, Option<usize>), String>, AllocError>
+    ensures { IfOk result (λ read. result_ok read ≡ ends_in (rows_in matches.now)) }
+{
+    let seconds = match seconds_of(alloc, matches)? {
+        Ok(seconds) => seconds,
+        Err(why) => return Ok(Err(why)),
+    };
+    match outcomes_of(alloc, matches)? {
+        Ok(outcomes) => Ok(Ok((seconds, outcomes))),
+        Err(why) => Ok(Err(why)),
+    }
+}
+
+/// How far a guest is explored, or what is wrong with an option.
+#[tactic(auto, unfolding(crate::specs::Exploring::reach_in))]
+pub fn reach_of(
+    alloc: Global,
+    matches: &ArgMatches<'_>,
+) -> Result<Result<Reach, String>, AllocError>
+    ensures { IfOk result (λ read. option_map (λ r. (r.states, r.private, r.switches, r.seconds, r.outcomes)) (result_ok read) ≡ reach_in (rows_in matches.now)) }
+{
     let states = match number_in_option(alloc, matches, STATES, 1, MOST_STATES)? {
         Ok(states) => states,
         Err(why) => return Ok(Err(why)),
@@ -308,12 +395,8 @@ fn reach_of(alloc: Global, matches: &ArgMatches<'_>) -> Result<Result<Reach, Str
         Ok(switches) => switches,
         Err(why) => return Ok(Err(why)),
     };
-    let seconds = match seconds_of(alloc, matches)? {
-        Ok(seconds) => seconds,
-        Err(why) => return Ok(Err(why)),
-    };
-    let outcomes = match outcomes_of(alloc, matches)? {
-        Ok(outcomes) => outcomes,
+    let (seconds, outcomes) = match ends_of(alloc, matches)? {
+        Ok(ends) => ends,
         Err(why) => return Ok(Err(why)),
     };
     Ok(Ok(Reach {
@@ -323,102 +406,4 @@ fn reach_of(alloc: Global, matches: &ArgMatches<'_>) -> Result<Result<Reach, Str
         seconds,
         outcomes,
     }))
-}
-
-// Which guest is explored, how far, and what answers it, or what is wrong with an option.
-fn arguments_of(
-    alloc: Global,
-    matches: &ArgMatches<'_>,
-) -> Result<Result<ExploreArguments, String>, AllocError> {
-    let reach = match reach_of(alloc, matches)? {
-        Ok(reach) => reach,
-        Err(why) => return Ok(Err(why)),
-    };
-    let random = match random_in(alloc, matches)? {
-        Ok(random) => random,
-        Err(why) => return Ok(Err(why)),
-    };
-    let profile = match profile_in(alloc, matches)? {
-        Ok(profile) => profile,
-        Err(why) => return Ok(Err(why)),
-    };
-    Ok(Ok(ExploreArguments {
-        image: text_of(alloc, matches, IMAGE)?,
-        reach,
-        profile,
-        random,
-        input: given_text(alloc, matches, INPUT)?,
-    }))
-}
-
-// The conditions that an outcome has to fulfil, if no hang is looked for, or what is wrong with one.
-fn conditions_besides(
-    alloc: Global,
-    matches: &ArgMatches<'_>,
-    hang: bool,
-) -> Result<Result<Vec<ConditionText>, String>, AllocError> {
-    if hang {
-        return Ok(Ok(Vec::new(alloc)));
-    }
-    outcome_conditions_of(alloc, matches)
-}
-
-// The comparison that is asked for, or what is wrong with what counts.
-fn within_asked(
-    alloc: Global,
-    matches: &ArgMatches<'_>,
-    explore: ExploreArguments,
-) -> Result<Asked, AllocError> {
-    match counted_of(alloc, matches)? {
-        Ok(counted) => Ok(Asked::Explore(Explored::Within(WithinArguments {
-            explore,
-            other: other_of(alloc, matches)?,
-            counted,
-        }))),
-        Err(why) => Ok(Asked::Nothing(why)),
-    }
-}
-
-// The outcomes by classes, or what is wrong with what counts.
-fn classes_asked(
-    alloc: Global,
-    matches: &ArgMatches<'_>,
-    explore: ExploreArguments,
-) -> Result<Asked, AllocError> {
-    match counted_of(alloc, matches)? {
-        Ok(counted) => Ok(Asked::Explore(Explored::Classes(ClassesArguments { explore, counted }))),
-        Err(why) => Ok(Asked::Nothing(why)),
-    }
-}
-
-/// What its arguments ask for.
-pub fn asked(alloc: Global, matches: &ArgMatches<'_>) -> Result<Asked, AllocError> {
-    let explore = match arguments_of(alloc, matches)? {
-        Ok(explore) => explore,
-        Err(why) => return Ok(Asked::Nothing(why)),
-    };
-    if matches.get_str(WITHIN).is_some() {
-        return within_asked(alloc, matches, explore);
-    }
-    if matches.get_str(ONLY).is_some() {
-        return classes_asked(alloc, matches, explore);
-    }
-    let hang = match hang_by(alloc, matches)? {
-        Ok(hang) => hang,
-        Err(why) => return Ok(Asked::Nothing(why)),
-    };
-    let until = match conditions_besides(alloc, matches, hang)? {
-        Ok(until) => until,
-        Err(why) => return Ok(Asked::Nothing(why)),
-    };
-    match given_text(alloc, matches, TRACE)? {
-        Some(trace) => Ok(Asked::Until(UntilArguments {
-            explore,
-            trace,
-            until,
-            hang,
-            output: given_text(alloc, matches, OUTPUT)?,
-        })),
-        None => Ok(Asked::Explore(Explored::Outcomes(explore))),
-    }
 }

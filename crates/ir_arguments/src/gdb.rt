@@ -1,7 +1,15 @@
 //! The arguments of `ir gdb`.
 
+ghost use Rattle.std.specs.Prelude.{◌≡◌, IfOk, codes};
+ghost use Rattle.ir_arguments.specs.Asking.{gdb_asked};
+ghost use Rattle.ir_arguments.specs.Values.{rows_in};
+ghost use Rattle.ir_arguments.specs.Views.{request_of};
+ghost use Rattle.ir_arguments.specs.Parser.{and_rules, app_in, rules_of};
+ghost use Rattle.ir_arguments.specs.declared.subcommands.Subcommand.TheVariants as sub;
+
 use crate::asked::Asked;
 use crate::debug::DebugArguments;
+use crate::forms::with_arg;
 use crate::subcommands::Row;
 use crate::values::{IMAGE, TRACE, file_arg, image_arg, text_of};
 use clap::{ArgMatches, Command};
@@ -26,7 +34,9 @@ Exit status: 0 done, 1 a fault, 2 bad arguments, 3 a refused image or trace, 4 a
 ";
 
 /// What the help says of it, beside its arguments.
-pub fn row<'a>() -> Row<'a> {
+pub fn row<'a>() -> Row<'a>
+    ensures { result.name.now ≡ codes "gdb" }
+{
     Row {
         name: "gdb",
         about: "Lets gdb debug a recorded run, forwards and backwards",
@@ -35,14 +45,17 @@ pub fn row<'a>() -> Row<'a> {
 }
 
 /// The command with its arguments.
-pub fn with_arguments<'a>(alloc: Global, command: Command<'a>) -> Result<Command<'a>, AllocError> {
-    command
-        .arg(image_arg(alloc))?
-        .arg(file_arg(alloc, TRACE, "The file with the trace"))
+pub fn with_arguments<'a>(alloc: Global, command: Command<'a>) -> Result<Command<'a>, AllocError>
+    ensures { IfOk result (λ c. app_in c ≡ and_rules (app_in command.entry) (rules_of sub.Gdb)) }
+{
+    let command = with_arg(command, image_arg(alloc))?;
+    with_arg(command, file_arg(alloc, TRACE, "The file with the trace"))
 }
 
 /// What its arguments ask for.
-pub fn asked(alloc: Global, matches: &ArgMatches<'_>) -> Result<Asked, AllocError> {
+pub fn asked(alloc: Global, matches: &ArgMatches<'_>) -> Result<Asked, AllocError>
+    ensures { IfOk result (λ asked. request_of asked ≡ gdb_asked (rows_in matches.now)) }
+{
     Ok(Asked::Gdb(DebugArguments {
         image: text_of(alloc, matches, IMAGE)?,
         trace: text_of(alloc, matches, TRACE)?,

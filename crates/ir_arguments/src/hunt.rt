@@ -1,13 +1,23 @@
 //! The arguments of `ir hunt`.
 
+ghost use Rattle.std.specs.Prelude.{◌≡◌, codes, option_map, IfOk};
+ghost use Rattle.std.specs.Result.{result_ok};
+ghost use Rattle.ir_arguments.specs.Asking.{bounds_in, hunt_asked, jobs_given, seconds_in, wanted_in};
+ghost use Rattle.ir_arguments.specs.Values.{rows_in, given};
+ghost use Rattle.ir_arguments.specs.Views.{request_of};
+ghost use Rattle.ir_arguments.specs.Parser.{IsArgument, and_rules, app_in, flag, needed_repeated, option, option_or, rules_of};
+ghost use Rattle.ir_arguments.specs.declared.subcommands.Subcommand.TheVariants as sub;
+
 use crate::asked::Asked;
 use crate::condition_text::ConditionText;
 use crate::conditions::{conditions_of, stale_by};
-use crate::recording::{RecordingOptions, options_of, with_options};
+use crate::forms::{flag_arg, needed_repeated_arg, option_arg, option_or_arg, with_arg};
+use crate::options::options_of;
+use crate::recording::{RecordingOptions, with_options};
 use crate::seeds::{by_arg, seeds_by, way_by};
 use crate::subcommands::Row;
-use crate::values::{IMAGE, TRACE, UNTIL, file_arg, image_arg, text_of};
-use clap::{Arg, ArgAction, ArgMatches, Command};
+use crate::values::{IMAGE, TRACE, UNTIL, file_arg, given, has_flag, image_arg, text_for, text_of};
+use clap::{Arg, ArgMatches, Command};
 use ir_record_command::number_within;
 use ir_schedule::{Seeds, Way};
 use std::alloc::{AllocError, Global};
@@ -59,7 +69,9 @@ that were followed, and some were left out because their runs have too many turn
 ";
 
 /// What the help says of it, beside its arguments.
-pub fn row<'a>() -> Row<'a> {
+pub fn row<'a>() -> Row<'a>
+    ensures { result.name.now ≡ codes "hunt" }
+{
     Row {
         name: "hunt",
         about: "Records the first of many seeds' orders that fulfils conditions",
@@ -92,69 +104,84 @@ pub struct HuntArguments {
     pub options: RecordingOptions,
 }
 
-fn seeds_arg<'a>(alloc: Global) -> Arg<'a> {
-    Arg::new(alloc, SEEDS)
-        .long(SEEDS)
-        .value_name("SEEDS")
-        .default_value("0+10000")
-        .help("The seeds that are tried: A..B, from A to B, or A+N, N from A on")
+fn seeds_arg<'a>(alloc: Global) -> Arg<'a>
+    ensures { IsArgument result (option_or (codes "seeds") (codes "0+10000")) }
+{
+    option_or_arg(
+        alloc,
+        SEEDS,
+        "SEEDS",
+        "0+10000",
+        "The seeds that are tried: A..B, from A to B, or A+N, N from A on",
+    )
 }
 
-fn until_arg<'a>(alloc: Global) -> Arg<'a> {
-    Arg::new(alloc, UNTIL)
-        .long(UNTIL)
-        .value_name("COND")
-        .required(true)
-        .action(ArgAction::Append)
-        .help("What has to hold of a run; given more than once, all of it")
+fn until_arg<'a>(alloc: Global) -> Arg<'a>
+    ensures { IsArgument result (needed_repeated (codes "until")) }
+{
+    needed_repeated_arg(
+        alloc,
+        UNTIL,
+        "COND",
+        "What has to hold of a run; given more than once, all of it",
+    )
 }
 
-fn jobs_arg<'a>(alloc: Global) -> Arg<'a> {
-    Arg::new(alloc, JOBS)
-        .long(JOBS)
-        .value_name("N")
-        .allow_negative_numbers(true)
-        .help(
-            "The most seeds that are run at once, from 1 to 64; without it as many as there are processors",
-        )
+fn jobs_arg<'a>(alloc: Global) -> Arg<'a>
+    ensures { IsArgument result (option (codes "jobs")) }
+{
+    option_arg(
+        alloc,
+        JOBS,
+        "N",
+        "The most seeds that are run at once, from 1 to 64; without it as many as there are processors",
+    )
 }
 
-fn seconds_arg<'a>(alloc: Global) -> Arg<'a> {
-    Arg::new(alloc, SECONDS)
-        .long(SECONDS)
-        .value_name("N")
-        .allow_negative_numbers(true)
-        .help(
-            "The seconds after which no further seeds are begun, from 1 to 1000000; without it all seeds are tried",
-        )
+fn seconds_arg<'a>(alloc: Global) -> Arg<'a>
+    ensures { IsArgument result (option (codes "seconds")) }
+{
+    option_arg(
+        alloc,
+        SECONDS,
+        "N",
+        "The seconds after which no further seeds are begun, from 1 to 1000000; without it all seeds are tried",
+    )
 }
 
-fn shrink_arg<'a>(alloc: Global) -> Arg<'a> {
-    Arg::new(alloc, SHRINK)
-        .long(SHRINK)
-        .action(ArgAction::SetTrue)
-        .help(
-            "Then shrinks what was found, as `ir shrink` does: TRACE is of the run with fewer context switches",
-        )
+fn shrink_arg<'a>(alloc: Global) -> Arg<'a>
+    ensures { IsArgument result (flag (codes "shrink")) }
+{
+    flag_arg(
+        alloc,
+        SHRINK,
+        "Then shrinks what was found, as `ir shrink` does: TRACE is of the run with fewer context switches",
+    )
 }
 
 /// The command with its arguments.
-pub fn with_arguments<'a>(alloc: Global, command: Command<'a>) -> Result<Command<'a>, AllocError> {
-    let command = command
-        .arg(image_arg(alloc))?
-        .arg(file_arg(alloc, TRACE, "The file that the trace is written to"))?
-        .arg(seeds_arg(alloc))?
-        .arg(until_arg(alloc))?
-        .arg(by_arg(alloc))?
-        .arg(jobs_arg(alloc))?
-        .arg(seconds_arg(alloc))?
-        .arg(shrink_arg(alloc))?;
+pub fn with_arguments<'a>(alloc: Global, command: Command<'a>) -> Result<Command<'a>, AllocError>
+    ensures { IfOk result (λ c. app_in c ≡ and_rules (app_in command.entry) (rules_of sub.Hunt)) }
+{
+    let command = with_arg(command, image_arg(alloc))?;
+    let command = with_arg(
+        command,
+        file_arg(alloc, TRACE, "The file that the trace is written to"),
+    )?;
+    let command = with_arg(command, seeds_arg(alloc))?;
+    let command = with_arg(command, until_arg(alloc))?;
+    let command = with_arg(command, by_arg(alloc))?;
+    let command = with_arg(command, jobs_arg(alloc))?;
+    let command = with_arg(command, seconds_arg(alloc))?;
+    let command = with_arg(command, shrink_arg(alloc))?;
     with_options(alloc, command)
 }
 
 // The most threads that are asked for, or what is wrong with their number.
-fn jobs_by(alloc: Global, matches: &ArgMatches<'_>) -> Result<Result<usize, String>, AllocError> {
-    let Some(text) = matches.get_str(JOBS) else {
+fn jobs_by(alloc: Global, matches: &ArgMatches<'_>) -> Result<Result<usize, String>, AllocError>
+    ensures { IfOk result (λ read. result_ok read ≡ jobs_given (given (rows_in matches.now) (codes "jobs"))) }
+{
+    let Some(text) = given(matches, JOBS) else {
         return Ok(Ok(usize::MAX));
     };
     match number_within(1, MOST_JOBS, text) {
@@ -169,8 +196,10 @@ fn jobs_by(alloc: Global, matches: &ArgMatches<'_>) -> Result<Result<usize, Stri
 fn seconds_by(
     alloc: Global,
     matches: &ArgMatches<'_>,
-) -> Result<Result<Option<u32>, String>, AllocError> {
-    let Some(text) = matches.get_str(SECONDS) else {
+) -> Result<Result<Option<u32>, String>, AllocError>
+    ensures { IfOk result (λ read. result_ok read ≡ seconds_in (rows_in matches.now)) }
+{
+    let Some(text) = given(matches, SECONDS) else {
         return Ok(Ok(None));
     };
     match number_within(1, MOST_SECONDS, text) {
@@ -185,7 +214,9 @@ fn seconds_by(
 fn bounds_by(
     alloc: Global,
     matches: &ArgMatches<'_>,
-) -> Result<Result<(usize, Option<u32>), String>, AllocError> {
+) -> Result<Result<(usize, Option<u32>), String>, AllocError>
+    ensures { IfOk result (λ read. result_ok read ≡ bounds_in (rows_in matches.now)) }
+{
     let jobs = match jobs_by(alloc, matches)? {
         Ok(jobs) => jobs,
         Err(why) => return Ok(Err(why)),
@@ -200,7 +231,9 @@ fn bounds_by(
 fn wanted_by(
     alloc: Global,
     matches: &ArgMatches<'_>,
-) -> Result<Result<(Vec<ConditionText>, Option<bool>), String>, AllocError> {
+) -> Result<Result<(Vec<ConditionText>, Option<bool>), String>, AllocError>
+    ensures { IfOk result (λ read. option_map (λ w. (w.0.items, w.1)) (result_ok read) ≡ wanted_in (rows_in matches.now)) }
+{
     let until = match conditions_of(alloc, matches)? {
         Ok(until) => until,
         Err(why) => return Ok(Err(why)),
@@ -212,12 +245,15 @@ fn wanted_by(
 }
 
 /// What its arguments ask for.
-pub fn asked(alloc: Global, matches: &ArgMatches<'_>) -> Result<Asked, AllocError> {
+#[tactic(auto, unfolding(crate::specs::Asking::hunt_in))]
+pub fn asked(alloc: Global, matches: &ArgMatches<'_>) -> Result<Asked, AllocError>
+    ensures { IfOk result (λ asked. request_of asked ≡ hunt_asked (rows_in matches.now)) }
+{
     let options = match options_of(alloc, matches)? {
         Ok(options) => options,
         Err(why) => return Ok(Asked::Nothing(why)),
     };
-    let seeds = match seeds_by(alloc, SEEDS, matches.get_str(SEEDS).unwrap_or_default())? {
+    let seeds = match seeds_by(alloc, SEEDS, text_for(matches, SEEDS))? {
         Ok(seeds) => seeds,
         Err(why) => return Ok(Asked::Nothing(why)),
     };
@@ -242,7 +278,7 @@ pub fn asked(alloc: Global, matches: &ArgMatches<'_>) -> Result<Asked, AllocErro
         stale,
         jobs,
         seconds,
-        shrinks: matches.get_flag(SHRINK),
+        shrinks: has_flag(matches, SHRINK),
         options,
     }))
 }

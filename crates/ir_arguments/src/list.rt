@@ -1,6 +1,14 @@
 //! The arguments of `ir list`.
 
+ghost use Rattle.std.specs.Prelude.{◌≡◌, IfOk, codes};
+ghost use Rattle.ir_arguments.specs.Asking.{code_asked};
+ghost use Rattle.ir_arguments.specs.Values.{rows_in};
+ghost use Rattle.ir_arguments.specs.Views.{request_of};
+ghost use Rattle.ir_arguments.specs.Parser.{and_rules, app_in, rules_of};
+ghost use Rattle.ir_arguments.specs.declared.subcommands.Subcommand.TheVariants as sub;
+
 use crate::asked::{Asked, Print};
+use crate::forms::with_arg;
 use crate::subcommands::Row;
 use crate::values::{IMAGE, MAP, given_text, image_arg, names_arg, text_of};
 use clap::{ArgMatches, Command};
@@ -18,7 +26,9 @@ image, or a line of MAP that is no symbol.
 ";
 
 /// What the help says of it, beside its arguments.
-pub fn row<'a>() -> Row<'a> {
+pub fn row<'a>() -> Row<'a>
+    ensures { result.name.now ≡ codes "list" }
+{
     Row {
         name: "list",
         about: "Prints the code of an image as text",
@@ -36,12 +46,17 @@ pub struct ListArguments {
 }
 
 /// The command with its arguments.
-pub fn with_arguments<'a>(alloc: Global, command: Command<'a>) -> Result<Command<'a>, AllocError> {
-    command.arg(image_arg(alloc))?.arg(names_arg(alloc))
+pub fn with_arguments<'a>(alloc: Global, command: Command<'a>) -> Result<Command<'a>, AllocError>
+    ensures { IfOk result (λ c. app_in c ≡ and_rules (app_in command.entry) (rules_of sub.List)) }
+{
+    let command = with_arg(command, image_arg(alloc))?;
+    with_arg(command, names_arg(alloc))
 }
 
 /// What its arguments ask for.
-pub fn asked(alloc: Global, matches: &ArgMatches<'_>) -> Result<Asked, AllocError> {
+pub fn asked(alloc: Global, matches: &ArgMatches<'_>) -> Result<Asked, AllocError>
+    ensures { IfOk result (λ asked. request_of asked ≡ code_asked (rows_in matches.now)) }
+{
     Ok(Asked::Print(Print::Code(ListArguments {
         image: text_of(alloc, matches, IMAGE)?,
         map: given_text(alloc, matches, MAP)?,

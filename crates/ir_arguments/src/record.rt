@@ -1,13 +1,22 @@
 //! The arguments of `ir record`.
 
-ghost use Rattle.std.specs.Prelude.{◌≡◌, option_map};
+ghost use Rattle.std.specs.Prelude.{◌≡◌, Some, option_map, IfOk, codes};
+ghost use Rattle.std.specs.Result.{result_ok};
+ghost use Rattle.ir_arguments.specs.Asking.{chaos_by, chaos_in, recording_asked};
+ghost use Rattle.ir_arguments.specs.Values.{rows_in};
+ghost use Rattle.ir_arguments.specs.Views.{request_of};
+ghost use Rattle.ir_arguments.specs.Parser.{IsArgument, and_rules, app_in, flag, option, option_or, rules_of};
+ghost use Rattle.ir_arguments.specs.declared.subcommands.Subcommand.TheVariants as sub;
 
 use crate::asked::Asked;
-use crate::recording::{RecordingOptions, no_number, options_of, with_options};
-use crate::seeds::{by_arg, way_by};
+use crate::bonds::{Bond, Named};
+use crate::forms::{flag_arg, option_arg, with_arg};
+use crate::options::{no_number, options_of};
+use crate::recording::{RecordingOptions, with_options};
+use crate::seeds::{BY, by_arg, way_by};
 use crate::subcommands::Row;
-use crate::values::{IMAGE, TRACE, file_arg, given_text, image_arg, text_of};
-use clap::{Arg, ArgAction, ArgMatches, Command};
+use crate::values::{IMAGE, TRACE, file_arg, given, given_text, has_flag, image_arg, text_of};
+use clap::{Arg, ArgMatches, Command};
 use ir_record_command::{RecordPlan, number_within};
 use ir_schedule::Way;
 use std::alloc::{AllocError, Global};
@@ -66,7 +75,9 @@ with --status 5 if it is recorded, and a thread doesn't end by END with code 0:
 ";
 
 /// What the help says of it, beside its arguments.
-pub fn row<'a>() -> Row<'a> {
+pub fn row<'a>() -> Row<'a>
+    ensures { result.name.now ≡ codes "record" }
+{
     Row {
         name: "record",
         about: "Records a guest, and prints a line for each thread",
@@ -109,79 +120,133 @@ impl RecordArguments {
     }
 }
 
-fn order_arg<'a>(alloc: Global) -> Arg<'a> {
-    Arg::new(alloc, ORDER)
-        .long(ORDER)
-        .value_name("LIST")
-        .allow_hyphen_values(true)
-        .help(
-            "Which thread takes each next step; without it, --order-file and --chaos the guest runs on real threads",
-        )
+fn order_arg<'a>(alloc: Global) -> Arg<'a>
+    ensures { IsArgument result (option (codes "order")) }
+{
+    option_arg(
+        alloc,
+        ORDER,
+        "LIST",
+        "Which thread takes each next step; without it, --order-file and --chaos the guest runs on real threads",
+    )
 }
 
-fn order_file_arg<'a>(alloc: Global) -> Arg<'a> {
-    Arg::new(alloc, ORDER_FILE)
-        .long(ORDER_FILE)
-        .value_name("LISTFILE")
-        .help("The file with LIST, in place of --order")
+fn order_file_arg<'a>(alloc: Global) -> Arg<'a>
+    ensures { IsArgument result (option (codes "order-file")) }
+{
+    option_arg(
+        alloc,
+        ORDER_FILE,
+        "LISTFILE",
+        "The file with LIST, in place of --order",
+    )
 }
 
-fn status_arg<'a>(alloc: Global) -> Arg<'a> {
-    Arg::new(alloc, STATUS)
-        .long(STATUS)
-        .action(ArgAction::SetTrue)
-        .help("Exits with status 5 if a thread doesn't end by END with code 0")
+fn status_arg<'a>(alloc: Global) -> Arg<'a>
+    ensures { IsArgument result (flag (codes "status")) }
+{
+    flag_arg(
+        alloc,
+        STATUS,
+        "Exits with status 5 if a thread doesn't end by END with code 0",
+    )
 }
 
-fn chaos_arg<'a>(alloc: Global) -> Arg<'a> {
-    Arg::new(alloc, CHAOS)
-        .long(CHAOS)
-        .value_name("SEED")
-        .allow_negative_numbers(true)
-        .help("The seed that gives the order, at most 18446744073709551615")
+fn chaos_arg<'a>(alloc: Global) -> Arg<'a>
+    ensures { IsArgument result (option (codes "chaos")) }
+{
+    option_arg(
+        alloc,
+        CHAOS,
+        "SEED",
+        "The seed that gives the order, at most 18446744073709551615",
+    )
 }
+
+// The arguments of which not all may be given together, as messages show them.
+const THE_ORDER: Named<'static> = Named {
+    id: ORDER,
+    shown: "--order <LIST>",
+};
+
+const THE_ORDER_FILE: Named<'static> = Named {
+    id: ORDER_FILE,
+    shown: "--order-file <LISTFILE>",
+};
+
+const THE_CHAOS: Named<'static> = Named {
+    id: CHAOS,
+    shown: "--chaos <SEED>",
+};
+
+const THE_WAY: Named<'static> = Named {
+    id: BY,
+    shown: "--by <WAY>",
+};
+
+/// Which arguments exclude each other, and which need others.
+pub const BONDS: [Bond<'static>; 6] = [
+    Bond::Excludes(THE_ORDER_FILE, THE_ORDER),
+    Bond::Excludes(THE_CHAOS, THE_ORDER),
+    Bond::Excludes(THE_CHAOS, THE_ORDER_FILE),
+    Bond::Excludes(THE_WAY, THE_ORDER),
+    Bond::Excludes(THE_WAY, THE_ORDER_FILE),
+    Bond::Needs(THE_WAY, THE_CHAOS),
+];
 
 /// The command with its arguments.
-pub fn with_arguments<'a>(alloc: Global, command: Command<'a>) -> Result<Command<'a>, AllocError> {
-    let command = command
-        .arg(image_arg(alloc))?
-        .arg(file_arg(alloc, TRACE, "The file that the trace is written to"))?
-        .arg(order_arg(alloc))?
-        .arg(order_file_arg(alloc).conflicts_with(ORDER)?)?
-        .arg(
-            chaos_arg(alloc)
-                .conflicts_with(ORDER)?
-                .conflicts_with(ORDER_FILE)?,
-        )?
-        .arg(
-            by_arg(alloc)
-                .requires_arg(CHAOS)?
-                .conflicts_with(ORDER)?
-                .conflicts_with(ORDER_FILE)?,
-        )?;
-    with_options(alloc, command)?.arg(status_arg(alloc))
+pub fn with_arguments<'a>(alloc: Global, command: Command<'a>) -> Result<Command<'a>, AllocError>
+    ensures { IfOk result (λ c. app_in c ≡ and_rules (app_in command.entry) (rules_of sub.Record)) }
+{
+    let command = with_arg(command, image_arg(alloc))?;
+    let command = with_arg(
+        command,
+        file_arg(alloc, TRACE, "The file that the trace is written to"),
+    )?;
+    let command = with_arg(command, order_arg(alloc))?;
+    let command = with_arg(command, order_file_arg(alloc))?;
+    let command = with_arg(command, chaos_arg(alloc))?;
+    let command = with_arg(command, by_arg(alloc))?;
+    let command = with_options(alloc, command)?;
+    with_arg(command, status_arg(alloc))
 }
 
-// The seed that gives the order and how, if it is given, or else what is wrong with it.
-fn chaos_of(
+// The seed that a text is and this way, or else what is wrong with the text.
+fn chaos_by(
     alloc: Global,
-    matches: &ArgMatches<'_>,
-) -> Result<Result<Option<Chaos>, String>, AllocError> {
-    let way = match way_by(alloc, matches)? {
-        Ok(way) => way,
-        Err(why) => return Ok(Err(why)),
-    };
-    let Some(text) = matches.get_str(CHAOS) else {
-        return Ok(Ok(None));
-    };
+    text: &str,
+    way: Way,
+) -> Result<Result<Option<Chaos>, String>, AllocError>
+    ensures { IfOk result (λ read. result_ok read ≡ option_map (λ chaos. Some chaos) (chaos_by way text.now)) }
+{
     match number_within(0, u64::MAX, text) {
         Some(seed) => Ok(Ok(Some(Chaos { seed, way }))),
         None => Ok(Err(no_number(alloc, CHAOS, text, u64::MAX)?)),
     }
 }
 
+// The seed that gives the order and how, if it is given, or else what is wrong with it.
+fn chaos_of(
+    alloc: Global,
+    matches: &ArgMatches<'_>,
+) -> Result<Result<Option<Chaos>, String>, AllocError>
+    ensures { IfOk result (λ read. result_ok read ≡ chaos_in (rows_in matches.now)) }
+{
+    let way = match way_by(alloc, matches)? {
+        Ok(way) => way,
+        Err(why) => return Ok(Err(why)),
+    };
+    match given(matches, CHAOS) {
+        Some(text) => chaos_by(alloc, text, way),
+        None => Ok(Ok(None)),
+    }
+}
+
 /// What its arguments ask for.
-pub fn asked(alloc: Global, matches: &ArgMatches<'_>) -> Result<Asked, AllocError> {
+#[tactic(auto, unfolding(crate::specs::Asking::recording_in))]
+pub fn asked(alloc: Global, matches: &ArgMatches<'_>) -> Result<Asked, AllocError>
+    ensures { IfOk result (λ asked. request_of asked ≡ recording_asked (rows_in matches.now)) }
+{
     let options = match options_of(alloc, matches)? {
         Ok(options) => options,
         Err(why) => return Ok(Asked::Nothing(why)),
@@ -197,6 +262,6 @@ pub fn asked(alloc: Global, matches: &ArgMatches<'_>) -> Result<Asked, AllocErro
         order_file: given_text(alloc, matches, ORDER_FILE)?,
         chaos,
         options,
-        status: matches.get_flag(STATUS),
+        status: has_flag(matches, STATUS),
     }))
 }

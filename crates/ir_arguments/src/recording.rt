@@ -1,19 +1,23 @@
 //! Options that say how a guest is recorded, by whatever order.
 
-ghost use Rattle.std.specs.Prelude.{◌≡◌, ◌≤◌, option_map};
+ghost use Rattle.std.specs.Prelude.{◌≡◌, ◌≤◌, option_map, IfOk, codes};
 ghost use Rattle.ir_thread.specs.State.{most_budget};
+ghost use Rattle.ir_arguments.specs.Parser.{IsArgument, and_rules, app_in, option, option_or, recording_rules};
 
-use crate::values::given_text;
-use clap::{Arg, ArgMatches, Command};
-use ir_record_command::{RecordPlan, number_within};
-use ir_thread::{MOST_BUDGET, Profile};
+use crate::forms::{option_arg, option_or_arg, with_arg};
+use clap::{Arg, Command};
+use ir_record_command::RecordPlan;
+use ir_thread::Profile;
 use std::alloc::{AllocError, Global};
 
-const BUDGET: &str = "budget";
+/// The option that bounds the steps of each thread.
+pub const BUDGET: &str = "budget";
 
-const RANDOM: &str = "random";
+/// The option that says where random words start.
+pub const RANDOM: &str = "random";
 
-const PROFILE: &str = "profile";
+/// The option that says which system calls there are.
+pub const PROFILE: &str = "profile";
 
 /// The option that names the file that guests read.
 pub const INPUT: &str = "input";
@@ -52,131 +56,70 @@ impl RecordingOptions {
     }
 }
 
-fn budget_arg<'a>(alloc: Global) -> Arg<'a> {
-    Arg::new(alloc, BUDGET)
-        .long(BUDGET)
-        .value_name("B")
-        .default_value("1000000")
-        .allow_negative_numbers(true)
-        .help("The most steps of each thread, at most 1000000000000")
+fn budget_arg<'a>(alloc: Global) -> Arg<'a>
+    ensures { IsArgument result (option_or (codes "budget") (codes "1000000")) }
+{
+    option_or_arg(
+        alloc,
+        BUDGET,
+        "B",
+        "1000000",
+        "The most steps of each thread, at most 1000000000000",
+    )
 }
 
 /// The option that says where random words start.
-pub fn random_arg<'a>(alloc: Global) -> Arg<'a> {
-    Arg::new(alloc, RANDOM)
-        .long(RANDOM)
-        .value_name("S")
-        .default_value("0")
-        .allow_negative_numbers(true)
-        .help("Where random words start, at most 18446744073709551615")
+pub fn random_arg<'a>(alloc: Global) -> Arg<'a>
+    ensures { IsArgument result (option_or (codes "random") (codes "0")) }
+{
+    option_or_arg(
+        alloc,
+        RANDOM,
+        "S",
+        "0",
+        "Where random words start, at most 18446744073709551615",
+    )
 }
 
 /// The option that says which system calls there are.
-pub fn profile_arg<'a>(alloc: Global) -> Arg<'a> {
-    Arg::new(alloc, PROFILE)
-        .long(PROFILE)
-        .value_name("P")
-        .default_value("1")
-        .allow_negative_numbers(true)
-        .help("Which system calls there are: 1, calls 1 to 12, or 2, TRY_WRITE too")
+pub fn profile_arg<'a>(alloc: Global) -> Arg<'a>
+    ensures { IsArgument result (option_or (codes "profile") (codes "1")) }
+{
+    option_or_arg(
+        alloc,
+        PROFILE,
+        "P",
+        "1",
+        "Which system calls there are: 1, calls 1 to 12, or 2, TRY_WRITE too",
+    )
 }
 
 /// The option that names the file that guests read.
-pub fn input_arg<'a>(alloc: Global) -> Arg<'a> {
-    Arg::new(alloc, INPUT)
-        .long(INPUT)
-        .value_name("FILE")
-        .help("The file that guests read")
+pub fn input_arg<'a>(alloc: Global) -> Arg<'a>
+    ensures { IsArgument result (option (codes "input")) }
+{
+    option_arg(alloc, INPUT, "FILE", "The file that guests read")
 }
 
 /// The option that asks for what threads print.
-pub fn output_arg<'a>(alloc: Global) -> Arg<'a> {
-    Arg::new(alloc, OUTPUT)
-        .long(OUTPUT)
-        .value_name("PREFIX")
-        .help("What each thread T prints is written to the file PREFIX.T")
+pub fn output_arg<'a>(alloc: Global) -> Arg<'a>
+    ensures { IsArgument result (option (codes "output")) }
+{
+    option_arg(
+        alloc,
+        OUTPUT,
+        "PREFIX",
+        "What each thread T prints is written to the file PREFIX.T",
+    )
 }
 
 /// The command with these options.
-pub fn with_options<'a>(alloc: Global, command: Command<'a>) -> Result<Command<'a>, AllocError> {
-    command
-        .arg(budget_arg(alloc))?
-        .arg(random_arg(alloc))?
-        .arg(profile_arg(alloc))?
-        .arg(input_arg(alloc))?
-        .arg(output_arg(alloc))
-}
-
-/// That the value of an option is no number up to the most.
-pub fn no_number(
-    alloc: Global,
-    option: &str,
-    value: &str,
-    most: u64,
-) -> Result<String, AllocError> {
-    format!(in alloc; "--{option}: '{value}' is no number up to {most}")
-}
-
-// The profile that the value of the option names.
-fn profile_of(value: &str) -> Option<Profile> {
-    match value {
-        "1" => Some(Profile::One),
-        "2" => Some(Profile::Two),
-        _ => None,
-    }
-}
-
-// That the value of the option names no profile.
-fn no_profile(alloc: Global, option: &str, value: &str) -> Result<String, AllocError> {
-    format!(in alloc; "--{option}: '{value}' is neither 1 nor 2")
-}
-
-/// The profile that its option names, or else what is wrong with it.
-pub fn profile_in(
-    alloc: Global,
-    matches: &ArgMatches<'_>,
-) -> Result<Result<Profile, String>, AllocError> {
-    let profile = matches.get_str(PROFILE).unwrap_or_default();
-    match profile_of(profile) {
-        Some(calls) => Ok(Ok(calls)),
-        None => Ok(Err(no_profile(alloc, PROFILE, profile)?)),
-    }
-}
-
-/// Where random words start, or else what is wrong with the option.
-pub fn random_in(
-    alloc: Global,
-    matches: &ArgMatches<'_>,
-) -> Result<Result<u64, String>, AllocError> {
-    let random = matches.get_str(RANDOM).unwrap_or_default();
-    match number_within(0, u64::MAX, random) {
-        Some(start) => Ok(Ok(start)),
-        None => Ok(Err(no_number(alloc, RANDOM, random, u64::MAX)?)),
-    }
-}
-
-/// The values of these options, or else what is wrong with one.
-pub fn options_of(
-    alloc: Global,
-    matches: &ArgMatches<'_>,
-) -> Result<Result<RecordingOptions, String>, AllocError> {
-    let budget = matches.get_str(BUDGET).unwrap_or_default();
-    let Some(most) = number_within(0, MOST_BUDGET, budget) else {
-        return Ok(Err(no_number(alloc, BUDGET, budget, MOST_BUDGET)?));
-    };
-    let start = match random_in(alloc, matches)? {
-        Ok(start) => start,
-        Err(why) => return Ok(Err(why)),
-    };
-    let calls = match profile_in(alloc, matches)? {
-        Ok(calls) => calls,
-        Err(why) => return Ok(Err(why)),
-    };
-    Ok(Ok(RecordingOptions {
-        budget: most,
-        random: start,
-        profile: calls,
-        input: given_text(alloc, matches, INPUT)?,
-        output: given_text(alloc, matches, OUTPUT)?,
-    }))
+pub fn with_options<'a>(alloc: Global, command: Command<'a>) -> Result<Command<'a>, AllocError>
+    ensures { IfOk result (λ c. app_in c ≡ and_rules (app_in command.entry) recording_rules) }
+{
+    let command = with_arg(command, budget_arg(alloc))?;
+    let command = with_arg(command, random_arg(alloc))?;
+    let command = with_arg(command, profile_arg(alloc))?;
+    let command = with_arg(command, input_arg(alloc))?;
+    with_arg(command, output_arg(alloc))
 }

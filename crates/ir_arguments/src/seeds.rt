@@ -1,39 +1,69 @@
 //! Seeds, and how they choose.
 
+ghost use Rattle.std.specs.Prelude.{◌≡◌, ◌≤◌, codes, IfOk};
+ghost use Rattle.std.specs.Result.{result_ok};
+ghost use Rattle.ir_arguments.specs.Reading.{counted_seeds, depth_named, number_after, seeds_between, seeds_from, seeds_named, way_named};
+ghost use Rattle.ir_arguments.specs.Values.{rows_in, text_for};
+ghost use Rattle.ir_arguments.specs.Parser.{IsArgument, option_or};
+
+use crate::forms::option_or_arg;
+use crate::texts::cut;
+use crate::values::text_for;
 use clap::{Arg, ArgMatches};
 use ir_record_command::number_within;
 use ir_schedule::{Seeds, Way};
 use std::alloc::{AllocError, Global};
 
-const BY: &str = "by";
+/// The option that says how seeds choose.
+pub const BY: &str = "by";
 
 // The most places of change and one.
 const MOST_DEPTH: u64 = 1000;
 
 /// The option that says how seeds choose.
-pub fn by_arg<'a>(alloc: Global) -> Arg<'a> {
-    Arg::new(alloc, BY)
-        .long(BY)
-        .value_name("WAY")
-        .default_value("mix")
-        .help("How a seed chooses: walk, pct:D with D from 1 to 1000, or mix")
+pub fn by_arg<'a>(alloc: Global) -> Arg<'a>
+    ensures { IsArgument result (option_or (codes "by") (codes "mix")) }
+{
+    option_or_arg(
+        alloc,
+        BY,
+        "WAY",
+        "mix",
+        "How a seed chooses: walk, pct:D with D from 1 to 1000, or mix",
+    )
+}
+
+// The way by priorities, of so many places and one, that two texts give.
+fn depth_of(name: &str, depth: &str) -> Option<Way>
+    ensures { result ≡ depth_named (name.now, depth.now) }
+{
+    if name != "pct" {
+        return None;
+    }
+    let depth = number_within(1, MOST_DEPTH, depth)?;
+    Some(Way::Priorities(depth as u32))
 }
 
 // The way that a text names.
-fn way_of(text: &str) -> Option<Way> {
+#[tactic(auto, unfolding(crate::specs::Reading::way_named))]
+fn way_of(text: &str) -> Option<Way>
+    ensures { result ≡ way_named text.now }
+{
     match text {
         "mix" => Some(Way::Mix),
         "walk" => Some(Way::Walk),
         _ => {
-            let depth = number_within(1, MOST_DEPTH, text.strip_prefix("pct:")?)?;
-            Some(Way::Priorities(depth as u32))
+            let (name, depth) = cut(text, ':')?;
+            depth_of(name, depth)
         }
     }
 }
 
 /// How seeds choose, or that the option names no way.
-pub fn way_by(alloc: Global, matches: &ArgMatches<'_>) -> Result<Result<Way, String>, AllocError> {
-    let text = matches.get_str(BY).unwrap_or_default();
+pub fn way_by(alloc: Global, matches: &ArgMatches<'_>) -> Result<Result<Way, String>, AllocError>
+    ensures { IfOk result (λ read. result_ok read ≡ way_named (text_for (rows_in matches.now) (codes "by"))) }
+{
+    let text = text_for(matches, BY);
     match way_of(text) {
         Some(way) => Ok(Ok(way)),
         None => {
@@ -46,21 +76,53 @@ pub fn way_by(alloc: Global, matches: &ArgMatches<'_>) -> Result<Result<Way, Str
 }
 
 // So many seeds from this one on.
-fn counted(first: u64, count: u64) -> Option<Seeds> {
-    let last = first.checked_add(count.checked_sub(1)?)?;
+fn counted(first: u64, count: u64) -> Option<Seeds>
+    requires { 1 ≤ count }
+    ensures { result ≡ seeds_from first count }
+{
+    let last = first.checked_add(count - 1)?;
     Some(Seeds { first, last })
 }
 
-// The seeds that a text names: A..B, from A to B; or A+N, N from A on.
-fn seeds_of(text: &str) -> Option<Seeds> {
-    if let Some((first, count)) = text.split_once('+') {
-        let first = number_within(0, u64::MAX, first)?;
-        return counted(first, number_within(1, u64::MAX, count)?);
-    }
-    let (first, last) = text.split_once('.')?;
+// The seeds that `A+N` names, cut at its plus.
+#[tactic(auto, unfolding(crate::specs::Reading::counted_seeds))]
+fn counted_seeds(first: &str, count: &str) -> Option<Seeds>
+    ensures { result ≡ counted_seeds (first.now, count.now) }
+{
     let first = number_within(0, u64::MAX, first)?;
-    let last = number_within(0, u64::MAX, last.strip_prefix('.')?)?;
+    counted(first, number_within(1, u64::MAX, count)?)
+}
+
+// The number after a full stop with nothing before it.
+fn number_after(before: &str, after: &str) -> Option<u64>
+    ensures { result ≡ number_after (before.now, after.now) }
+{
+    if !before.is_empty() {
+        return None;
+    }
+    number_within(0, u64::MAX, after)
+}
+
+// The seeds that `A..B` names.
+#[tactic(auto, unfolding(crate::specs::Reading::seeds_between))]
+fn seeds_between(text: &str) -> Option<Seeds>
+    ensures { result ≡ seeds_between text.now }
+{
+    let (first, rest) = cut(text, '.')?;
+    let first = number_within(0, u64::MAX, first)?;
+    let (before, last) = cut(rest, '.')?;
+    let last = number_after(before, last)?;
     (first <= last).then_some(Seeds { first, last })
+}
+
+// The seeds that a text names: A..B, from A to B; or A+N, N from A on.
+fn seeds_of(text: &str) -> Option<Seeds>
+    ensures { result ≡ seeds_named text.now }
+{
+    match cut(text, '+') {
+        Some((first, count)) => counted_seeds(first, count),
+        None => seeds_between(text),
+    }
 }
 
 /// The seeds that the value of an option names, or that it names none.
@@ -68,7 +130,9 @@ pub fn seeds_by(
     alloc: Global,
     option: &str,
     text: &str,
-) -> Result<Result<Seeds, String>, AllocError> {
+) -> Result<Result<Seeds, String>, AllocError>
+    ensures { IfOk result (λ read. result_ok read ≡ seeds_named text.now) }
+{
     match seeds_of(text) {
         Some(seeds) => Ok(Ok(seeds)),
         None => {

@@ -1,12 +1,22 @@
 //! The arguments of `ir shrink`.
 
+ghost use Rattle.std.specs.Prelude.{◌≡◌, IfOk, codes};
+ghost use Rattle.std.specs.Result.{result_ok};
+ghost use Rattle.ir_arguments.specs.Asking.{seconds_in, shrinking_asked};
+ghost use Rattle.ir_arguments.specs.Values.{rows_in};
+ghost use Rattle.ir_arguments.specs.Views.{request_of};
+ghost use Rattle.ir_arguments.specs.Parser.{IsArgument, and_rules, app_in, needed_repeated, option, rules_of};
+ghost use Rattle.ir_arguments.specs.declared.subcommands.Subcommand.TheVariants as sub;
+
 use crate::asked::Asked;
 use crate::condition_text::ConditionText;
 use crate::conditions::{conditions_of, stale_by};
-use crate::recording::{INPUT, OUTPUT, input_arg, output_arg, random_arg, random_in};
+use crate::forms::{needed_repeated_arg, option_arg, with_arg};
+use crate::options::random_in;
+use crate::recording::{INPUT, OUTPUT, input_arg, output_arg, random_arg};
 use crate::subcommands::Row;
-use crate::values::{IMAGE, TRACE, UNTIL, file_arg, given_text, image_arg, text_of};
-use clap::{Arg, ArgAction, ArgMatches, Command};
+use crate::values::{IMAGE, TRACE, UNTIL, file_arg, given, given_text, image_arg, text_of};
+use clap::{Arg, ArgMatches, Command};
 use ir_record_command::number_within;
 use std::alloc::{AllocError, Global};
 
@@ -40,7 +50,9 @@ and a line says which, 6 the time was over: OUT is the best run so far.
 ";
 
 /// What the help says of it, beside its arguments.
-pub fn row<'a>() -> Row<'a> {
+pub fn row<'a>() -> Row<'a>
+    ensures { result.name.now ≡ codes "shrink" }
+{
     Row {
         name: "shrink",
         about: "Records a run with fewer context switches that fulfils the same conditions",
@@ -71,48 +83,57 @@ pub struct ShrinkArguments {
     pub output: Option<String>,
 }
 
-fn until_arg<'a>(alloc: Global) -> Arg<'a> {
-    Arg::new(alloc, UNTIL)
-        .long(UNTIL)
-        .value_name("COND")
-        .required(true)
-        .action(ArgAction::Append)
-        .help("What has to hold of a run; given more than once, all of it")
+fn until_arg<'a>(alloc: Global) -> Arg<'a>
+    ensures { IsArgument result (needed_repeated (codes "until")) }
+{
+    needed_repeated_arg(
+        alloc,
+        UNTIL,
+        "COND",
+        "What has to hold of a run; given more than once, all of it",
+    )
 }
 
-fn seconds_arg<'a>(alloc: Global) -> Arg<'a> {
-    Arg::new(alloc, SECONDS)
-        .long(SECONDS)
-        .value_name("N")
-        .allow_negative_numbers(true)
-        .help(
-            "The seconds after which no further run is begun, from 1 to 1000000; without it the search goes on to its end",
-        )
+fn seconds_arg<'a>(alloc: Global) -> Arg<'a>
+    ensures { IsArgument result (option (codes "seconds")) }
+{
+    option_arg(
+        alloc,
+        SECONDS,
+        "N",
+        "The seconds after which no further run is begun, from 1 to 1000000; without it the search goes on to its end",
+    )
 }
 
 /// The command with its arguments.
-pub fn with_arguments<'a>(alloc: Global, command: Command<'a>) -> Result<Command<'a>, AllocError> {
-    command
-        .arg(image_arg(alloc))?
-        .arg(file_arg(alloc, TRACE, "The file with the trace"))?
-        .arg(file_arg(
+pub fn with_arguments<'a>(alloc: Global, command: Command<'a>) -> Result<Command<'a>, AllocError>
+    ensures { IfOk result (λ c. app_in c ≡ and_rules (app_in command.entry) (rules_of sub.Shrink)) }
+{
+    let command = with_arg(command, image_arg(alloc))?;
+    let command = with_arg(command, file_arg(alloc, TRACE, "The file with the trace"))?;
+    let command = with_arg(
+        command,
+        file_arg(
             alloc,
             OUT,
             "The file that the trace of the shrunk run is written to",
-        ))?
-        .arg(until_arg(alloc))?
-        .arg(seconds_arg(alloc))?
-        .arg(random_arg(alloc))?
-        .arg(input_arg(alloc))?
-        .arg(output_arg(alloc))
+        ),
+    )?;
+    let command = with_arg(command, until_arg(alloc))?;
+    let command = with_arg(command, seconds_arg(alloc))?;
+    let command = with_arg(command, random_arg(alloc))?;
+    let command = with_arg(command, input_arg(alloc))?;
+    with_arg(command, output_arg(alloc))
 }
 
 // The most seconds that are asked for, if they are, or what is wrong with their number.
 fn seconds_by(
     alloc: Global,
     matches: &ArgMatches<'_>,
-) -> Result<Result<Option<u32>, String>, AllocError> {
-    let Some(text) = matches.get_str(SECONDS) else {
+) -> Result<Result<Option<u32>, String>, AllocError>
+    ensures { IfOk result (λ read. result_ok read ≡ seconds_in (rows_in matches.now)) }
+{
+    let Some(text) = given(matches, SECONDS) else {
         return Ok(Ok(None));
     };
     match number_within(1, MOST_SECONDS, text) {
@@ -124,7 +145,10 @@ fn seconds_by(
 }
 
 /// What its arguments ask for.
-pub fn asked(alloc: Global, matches: &ArgMatches<'_>) -> Result<Asked, AllocError> {
+#[tactic(auto, unfolding(crate::specs::Asking::shrinking_in))]
+pub fn asked(alloc: Global, matches: &ArgMatches<'_>) -> Result<Asked, AllocError>
+    ensures { IfOk result (λ asked. request_of asked ≡ shrinking_asked (rows_in matches.now)) }
+{
     let until = match conditions_of(alloc, matches)? {
         Ok(until) => until,
         Err(why) => return Ok(Asked::Nothing(why)),

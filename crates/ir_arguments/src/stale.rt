@@ -1,6 +1,14 @@
 //! The arguments of `ir stale`.
 
+ghost use Rattle.std.specs.Prelude.{◌≡◌, IfOk, codes};
+ghost use Rattle.ir_arguments.specs.Asking.{stale_asked};
+ghost use Rattle.ir_arguments.specs.Values.{rows_in};
+ghost use Rattle.ir_arguments.specs.Views.{request_of};
+ghost use Rattle.ir_arguments.specs.Parser.{and_rules, app_in, rules_of};
+ghost use Rattle.ir_arguments.specs.declared.subcommands.Subcommand.TheVariants as sub;
+
 use crate::asked::{Asked, Print};
+use crate::forms::with_arg;
 use crate::subcommands::Row;
 use crate::values::{FROM_IMAGE, TRACE, file_arg, from_image_arg, given_text, text_of};
 use clap::{ArgMatches, Command};
@@ -30,7 +38,9 @@ written, 2 bad arguments, 3 a refused image or trace, 4 an incoherent trace, or 
 ";
 
 /// What the help says of it, beside its arguments.
-pub fn row<'a>() -> Row<'a> {
+pub fn row<'a>() -> Row<'a>
+    ensures { result.name.now ≡ codes "stale" }
+{
     Row {
         name: "stale",
         about: "Prints the writes that may rest on a read that was written over",
@@ -48,17 +58,23 @@ pub struct StaleArguments {
 }
 
 /// The command with its arguments.
-pub fn with_arguments<'a>(alloc: Global, command: Command<'a>) -> Result<Command<'a>, AllocError> {
-    command
-        .arg(file_arg(alloc, TRACE, "The file with the trace"))?
-        .arg(from_image_arg(
+pub fn with_arguments<'a>(alloc: Global, command: Command<'a>) -> Result<Command<'a>, AllocError>
+    ensures { IfOk result (λ c. app_in c ≡ and_rules (app_in command.entry) (rules_of sub.Stale)) }
+{
+    let command = with_arg(command, file_arg(alloc, TRACE, "The file with the trace"))?;
+    with_arg(
+        command,
+        from_image_arg(
             alloc,
             "The file with the image, or an ELF file of the guest: only writes that rest on what was read",
-        ))
+        ),
+    )
 }
 
 /// What its arguments ask for.
-pub fn asked(alloc: Global, matches: &ArgMatches<'_>) -> Result<Asked, AllocError> {
+pub fn asked(alloc: Global, matches: &ArgMatches<'_>) -> Result<Asked, AllocError>
+    ensures { IfOk result (λ asked. request_of asked ≡ stale_asked (rows_in matches.now)) }
+{
     Ok(Asked::Print(Print::Stale(StaleArguments {
         trace: text_of(alloc, matches, TRACE)?,
         image: given_text(alloc, matches, FROM_IMAGE)?,

@@ -1,9 +1,18 @@
 //! The subcommands, in one table.
 
+ghost use Rattle.std.specs.Prelude.{◌≡◌, find, IfOk};
+ghost use Rattle.std.specs.Option.{is_none};
+ghost use Rattle.ir_arguments.specs.Bonds.{may_be_given};
+ghost use Rattle.ir_arguments.specs.Parser.{and_rules, app_in, bare_app, rules_of, with_subcommands};
+ghost use Rattle.ir_arguments.specs.Subcommands.{asked_by, asked_if_given, is_named, name_of, subcommand_named};
+ghost use Rattle.ir_arguments.specs.Values.{rows_in};
+ghost use Rattle.ir_arguments.specs.Views.{request_of};
+
 use crate::asked::Asked;
+use crate::bonds::broken;
 use crate::{
-    assemble, debug, diff, elf, events, explore, gdb, hunt, list, record, shrink, stale, trace,
-    view, who, why,
+    assemble, debug, diff, elf, events, explore, exploring, gdb, hunt, list, record, shrink, stale,
+    trace, view, who, why,
 };
 use clap::{ArgMatches, Command};
 use std::alloc::{AllocError, Global};
@@ -57,9 +66,20 @@ pub struct Row<'a> {
     pub after: &'a str,
 }
 
+// A subcommand without its arguments.
+fn bare_command<'a>(alloc: Global, row: Row<'a>) -> Command<'a>
+    ensures { app_in result ≡ bare_app row.entry.name.now }
+{
+    Command::new(alloc, row.name)
+        .about(row.about)
+        .after_help(row.after)
+}
+
 impl Subcommand {
     /// Its name, what it does, and what follows its help.
-    pub fn row<'a>(self) -> Row<'a> {
+    pub fn row<'a>(self) -> Row<'a>
+        ensures { result.name.now ≡ name_of self }
+    {
         match self {
             Subcommand::Assemble => assemble::row(),
             Subcommand::Elf => elf::row(),
@@ -81,11 +101,10 @@ impl Subcommand {
     }
 
     /// The parser of its arguments.
-    pub fn command<'a>(self, alloc: Global) -> Result<Command<'a>, AllocError> {
-        let row = self.row();
-        let command = Command::new(alloc, row.name)
-            .about(row.about)
-            .after_help(row.after);
+    pub fn command<'a>(self, alloc: Global) -> Result<Command<'a>, AllocError>
+        ensures { IfOk result (λ c. app_in c ≡ and_rules (bare_app (name_of self)) (rules_of self)) }
+    {
+        let command = bare_command(alloc, self.row());
         match self {
             Subcommand::Assemble => assemble::with_arguments(alloc, command),
             Subcommand::Elf => elf::with_arguments(alloc, command),
@@ -106,8 +125,44 @@ impl Subcommand {
         }
     }
 
-    /// What its arguments ask for.
-    pub fn asked(self, alloc: Global, matches: &ArgMatches<'_>) -> Result<Asked, AllocError> {
+    // Why its arguments may not be given together, if they may not.
+    fn broken(self, alloc: Global, matches: &ArgMatches<'_>) -> Result<Option<String>, AllocError>
+        ensures { IfOk result (λ why. is_none why ≡ may_be_given self (rows_in matches.now)) }
+    {
+        match self {
+            Subcommand::Record => broken(alloc, matches, record::BONDS.as_slice()),
+            Subcommand::Explore => broken(alloc, matches, explore::BONDS.as_slice()),
+            Subcommand::Who => broken(alloc, matches, who::BONDS.as_slice()),
+            Subcommand::Why => broken(alloc, matches, why::BONDS.as_slice()),
+            Subcommand::View => broken(alloc, matches, view::BONDS.as_slice()),
+            Subcommand::Assemble => Ok(None),
+            Subcommand::Elf => Ok(None),
+            Subcommand::List => Ok(None),
+            Subcommand::Hunt => Ok(None),
+            Subcommand::Shrink => Ok(None),
+            Subcommand::Debug => Ok(None),
+            Subcommand::Gdb => Ok(None),
+            Subcommand::Trace => Ok(None),
+            Subcommand::Events => Ok(None),
+            Subcommand::Stale => Ok(None),
+            Subcommand::Diff => Ok(None),
+        }
+    }
+
+    /// What its arguments ask for, if they may be given together.
+    pub fn asked(self, alloc: Global, matches: &ArgMatches<'_>) -> Result<Asked, AllocError>
+        ensures { IfOk result (λ asked. request_of asked ≡ asked_if_given self (rows_in matches.now)) }
+    {
+        match self.broken(alloc, matches)? {
+            Some(why) => Ok(Asked::Nothing(why)),
+            None => self.asked_so(alloc, matches),
+        }
+    }
+
+    // What its arguments ask for.
+    fn asked_so(self, alloc: Global, matches: &ArgMatches<'_>) -> Result<Asked, AllocError>
+        ensures { IfOk result (λ asked. request_of asked ≡ asked_by self (rows_in matches.now)) }
+    {
         match self {
             Subcommand::Assemble => assemble::asked(alloc, matches),
             Subcommand::Elf => elf::asked(alloc, matches),
@@ -115,7 +170,7 @@ impl Subcommand {
             Subcommand::Record => record::asked(alloc, matches),
             Subcommand::Hunt => hunt::asked(alloc, matches),
             Subcommand::Shrink => shrink::asked(alloc, matches),
-            Subcommand::Explore => explore::asked(alloc, matches),
+            Subcommand::Explore => exploring::asked(alloc, matches),
             Subcommand::Debug => debug::asked(alloc, matches),
             Subcommand::Gdb => gdb::asked(alloc, matches),
             Subcommand::Trace => trace::asked(alloc, matches),
@@ -127,4 +182,43 @@ impl Subcommand {
             Subcommand::View => view::asked(alloc, matches),
         }
     }
+}
+
+/// The command with these subcommands too.
+///
+/// # Errors
+/// Out of memory.
+#[tactic(auto, using(crate::proofs::Apps::subcommand_added, crate::proofs::Apps::subcommands_at_end))]
+pub fn with_subcommands<'a>(
+    alloc: Global,
+    command: Command<'a>,
+    subcommands: &[Subcommand],
+) -> Result<Command<'a>, AllocError>
+    ensures { IfOk result (λ c. app_in c ≡ with_subcommands (app_in command.entry) subcommands.now) }
+{
+    let mut command = command;
+    'subcommands: for &subcommand in subcommands {
+        command = command.subcommand(subcommand.command(alloc)?)?;
+    }
+    Ok(command)
+}
+
+// The first of these subcommands that has the name.
+#[tactic(auto, using(crate::proofs::Names::found_here, crate::proofs::Names::found_later, crate::proofs::Names::found_nowhere))]
+fn first_named(subcommands: &[Subcommand], name: &str) -> Option<Subcommand>
+    ensures { result ≡ find (is_named name.now) subcommands.now }
+{
+    'subcommands: for &subcommand in subcommands {
+        if subcommand.row().name == name {
+            return Some(subcommand);
+        }
+    }
+    None
+}
+
+/// The subcommand of this name, if there is one.
+pub fn subcommand_named(name: &str) -> Option<Subcommand>
+    ensures { result ≡ subcommand_named name.now }
+{
+    first_named(SUBCOMMANDS.as_slice(), name)
 }

@@ -1,6 +1,14 @@
 //! The arguments of `ir trace`.
 
+ghost use Rattle.std.specs.Prelude.{◌≡◌, IfOk, codes};
+ghost use Rattle.ir_arguments.specs.Asking.{trace_asked};
+ghost use Rattle.ir_arguments.specs.Values.{rows_in};
+ghost use Rattle.ir_arguments.specs.Views.{request_of};
+ghost use Rattle.ir_arguments.specs.Parser.{and_rules, app_in, rules_of};
+ghost use Rattle.ir_arguments.specs.declared.subcommands.Subcommand.TheVariants as sub;
+
 use crate::asked::{Asked, Print};
+use crate::forms::with_arg;
 use crate::subcommands::Row;
 use crate::values::{TRACE, file_arg, text_of};
 use clap::{ArgMatches, Command};
@@ -23,7 +31,9 @@ Exit status: 0 printed, 1 a file that can't be read or standard output that can'
 ";
 
 /// What the help says of it, beside its arguments.
-pub fn row<'a>() -> Row<'a> {
+pub fn row<'a>() -> Row<'a>
+    ensures { result.name.now ≡ codes "trace" }
+{
     Row {
         name: "trace",
         about: "Prints a trace in lines",
@@ -39,12 +49,16 @@ pub struct TraceArguments {
 }
 
 /// The command with its arguments.
-pub fn with_arguments<'a>(alloc: Global, command: Command<'a>) -> Result<Command<'a>, AllocError> {
-    command.arg(file_arg(alloc, TRACE, "The file with the trace"))
+pub fn with_arguments<'a>(alloc: Global, command: Command<'a>) -> Result<Command<'a>, AllocError>
+    ensures { IfOk result (λ c. app_in c ≡ and_rules (app_in command.entry) (rules_of sub.Trace)) }
+{
+    with_arg(command, file_arg(alloc, TRACE, "The file with the trace"))
 }
 
 /// What its arguments ask for.
-pub fn asked(alloc: Global, matches: &ArgMatches<'_>) -> Result<Asked, AllocError> {
+pub fn asked(alloc: Global, matches: &ArgMatches<'_>) -> Result<Asked, AllocError>
+    ensures { IfOk result (λ asked. request_of asked ≡ trace_asked (rows_in matches.now)) }
+{
     Ok(Asked::Print(Print::Trace(TraceArguments {
         trace: text_of(alloc, matches, TRACE)?,
     })))

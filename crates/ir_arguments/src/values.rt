@@ -1,5 +1,14 @@
 //! Arguments that more than one subcommand has, and how their values are read.
 
+ghost use Rattle.std.specs.Prelude.{◌≡◌, codes, map, option_map, IfOk};
+ghost use Rattle.std.specs.String.{string_bytes};
+ghost use Rattle.std.specs.Result.{result_ok};
+ghost use Rattle.ir_arguments.specs.Parser.{IsArgument, image_rule, needed_place, option};
+ghost use Rattle.ir_arguments.specs.Reading.{if_given, large_numbers, small_number};
+ghost use Rattle.ir_arguments.specs.Values.{rows_in, given, text_for, texts_for, has_flag};
+
+use crate::forms::option_arg;
+use crate::texts::first_part;
 use clap::{Arg, ArgMatches};
 use ir_record_command::number_within;
 use std::alloc::{AllocError, Global};
@@ -23,12 +32,17 @@ pub const UNTIL: &str = "until";
 pub const EXPLAIN: &str = "explain";
 
 /// A file that has to be named.
-pub fn file_arg<'a>(alloc: Global, name: &'a str, help: &'a str) -> Arg<'a> {
+#[tactic(auto, using(crate::proofs::Rules::needed_place_made))]
+pub fn file_arg<'a>(alloc: Global, name: &'a str, help: &'a str) -> Arg<'a>
+    ensures { IsArgument result (needed_place name.now) }
+{
     Arg::new(alloc, name).required(true).help(help)
 }
 
 /// The file of an image, which has to be named.
-pub fn image_arg<'a>(alloc: Global) -> Arg<'a> {
+pub fn image_arg<'a>(alloc: Global) -> Arg<'a>
+    ensures { IsArgument result image_rule }
+{
     file_arg(
         alloc,
         IMAGE,
@@ -37,16 +51,53 @@ pub fn image_arg<'a>(alloc: Global) -> Arg<'a> {
 }
 
 /// The option that names the file of an image.
-pub fn from_image_arg<'a>(alloc: Global, help: &'a str) -> Arg<'a> {
-    Arg::new(alloc, FROM_IMAGE)
-        .long(FROM_IMAGE)
-        .value_name("IMAGE")
-        .help(help)
+pub fn from_image_arg<'a>(alloc: Global, help: &'a str) -> Arg<'a>
+    ensures { IsArgument result (option (codes "image")) }
+{
+    option_arg(alloc, FROM_IMAGE, "IMAGE", help)
+}
+
+/// The text that is given for an argument, if one is.
+#[tactic(auto, using(crate::proofs::Rows::first_value_in_rows))]
+pub fn given<'a>(matches: &ArgMatches<'a>, name: &str) -> Option<&'a str>
+    ensures { option_map (λ s. s.now) result ≡ given (rows_in matches.now) name.now }
+{
+    matches.get_str(name)
+}
+
+/// The text that is given for an argument, or the empty text.
+pub fn text_for<'a>(matches: &ArgMatches<'a>, name: &str) -> &'a str
+    ensures { result.now ≡ text_for (rows_in matches.now) name.now }
+{
+    match given(matches, name) {
+        Some(text) => text,
+        None => "",
+    }
+}
+
+/// All the texts that are given for an argument.
+#[tactic(auto, using(crate::proofs::Rows::raw_values_in_rows))]
+pub fn texts_for<'m>(matches: &'m ArgMatches<'_>, name: &str) -> &'m [&'m str]
+    ensures { map (λ s. s.now) result.now ≡ texts_for (rows_in matches.now) name.now }
+{
+    matches.get_strs(name).unwrap_or_default()
+}
+
+/// Whether a flag is given.
+pub fn has_flag(matches: &ArgMatches<'_>, name: &str) -> bool
+    ensures { result ≡ has_flag (rows_in matches.now) name.now }
+{
+    match given(matches, name) {
+        Some(value) => value == "true",
+        None => false,
+    }
 }
 
 /// The text of an argument, empty where it isn't given.
-pub fn text_of(alloc: Global, matches: &ArgMatches<'_>, name: &str) -> Result<String, AllocError> {
-    String::from_str(alloc, matches.get_str(name).unwrap_or_default())
+pub fn text_of(alloc: Global, matches: &ArgMatches<'_>, name: &str) -> Result<String, AllocError>
+    ensures { IfOk result (λ text. string_bytes text ≡ text_for (rows_in matches.now) name.now) }
+{
+    String::from_str(alloc, text_for(matches, name))
 }
 
 /// The text of an option, if it is given.
@@ -54,42 +105,75 @@ pub fn given_text(
     alloc: Global,
     matches: &ArgMatches<'_>,
     name: &str,
-) -> Result<Option<String>, AllocError> {
-    match matches.get_str(name) {
+) -> Result<Option<String>, AllocError>
+    ensures { IfOk result (λ text. option_map string_bytes text ≡ given (rows_in matches.now) name.now) }
+{
+    match given(matches, name) {
         Some(text) => Ok(Some(String::from_str(alloc, text)?)),
         None => Ok(None),
     }
 }
 
 /// The option that names the file with the names of addresses.
-pub fn names_arg<'a>(alloc: Global) -> Arg<'a> {
-    Arg::new(alloc, MAP).long(MAP).value_name("MAP").help(
+pub fn names_arg<'a>(alloc: Global) -> Arg<'a>
+    ensures { IsArgument result (option (codes "map")) }
+{
+    option_arg(
+        alloc,
+        MAP,
+        "MAP",
         "The file with the names of addresses, as `nm -n` prints them",
     )
 }
 
 /// The numbers up to 18446744073709551615 that a text lists with commas, or else what is wrong with the argument of this name.
+#[tactic(auto, using(crate::proofs::Numbers::numbers_at_end, crate::proofs::Numbers::numbers_after_part, crate::proofs::Numbers::numbers_fail))]
 pub fn numbers_in(
     alloc: Global,
     name: &str,
     text: &str,
-) -> Result<Result<Vec<u64>, String>, AllocError> {
+) -> Result<Result<Vec<u64>, String>, AllocError>
+    ensures { IfOk result (λ read. option_map (λ v. v.items) (result_ok read) ≡ large_numbers text.now) }
+{
     let mut numbers = Vec::new(alloc);
-    for part in text.split(',') {
+    let mut rest = Some(text);
+    'parts: while let Some(text) = rest {
+        let (part, others) = first_part(text, ',');
         let Some(number) = number_within(0, u64::MAX, part) else {
             return Ok(Err(format!(in alloc;
                 "{name}: '{part}' is no number up to 18446744073709551615"
             )?));
         };
         numbers.push(number)?;
+        rest = others;
     }
     Ok(Ok(numbers))
 }
 
 /// The number up to 4294967295 that a text is, or else what is wrong with the argument of this name.
-pub fn number_in(alloc: Global, name: &str, text: &str) -> Result<Result<u32, String>, AllocError> {
+pub fn number_in(alloc: Global, name: &str, text: &str) -> Result<Result<u32, String>, AllocError>
+    ensures { IfOk result (λ read. result_ok read ≡ small_number text.now) }
+{
     match number_within(0, u32::MAX as u64, text) {
         Some(number) => Ok(Ok(number as u32)),
         None => Ok(Err(format!(in alloc; "{name}: '{text}' is no number up to 4294967295")?)),
+    }
+}
+
+/// The number up to 4294967295 that an argument is, if it is given, or else what is wrong with it.
+pub fn given_number(
+    alloc: Global,
+    matches: &ArgMatches<'_>,
+    argument: &str,
+    name: &str,
+) -> Result<Result<Option<u32>, String>, AllocError>
+    ensures { IfOk result (λ read. result_ok read ≡ if_given small_number (given (rows_in matches.now) argument.now)) }
+{
+    let Some(text) = given(matches, argument) else {
+        return Ok(Ok(None));
+    };
+    match number_in(alloc, name, text)? {
+        Ok(number) => Ok(Ok(Some(number))),
+        Err(why) => Ok(Err(why)),
     }
 }

@@ -1,10 +1,24 @@
 //! The arguments of `ir view`.
 
+ghost use Rattle.std.specs.Prelude.{◌≡◌, codes, map, IfOk};
+ghost use Rattle.std.specs.Result.{result_ok};
+ghost use Rattle.ir_arguments.specs.Reading.{large_number};
+ghost use Rattle.ir_arguments.specs.Asking.{picture_asked, part_in, part_of_texts};
+ghost use Rattle.ir_arguments.specs.Values.{rows_in, text_for};
+ghost use Rattle.ir_arguments.specs.Views.{request_of};
+ghost use Rattle.ir_arguments.specs.Parser.{IsArgument, and_rules, app_in, flag, option_or, pair, rules_of};
+ghost use Rattle.ir_arguments.specs.declared.subcommands.Subcommand.TheVariants as sub;
+
 use crate::asked::{Asked, Print};
-use crate::recording::no_number;
+use crate::bonds::{Bond, Named};
+use crate::forms::{flag_arg, option_or_arg, with_arg};
+use crate::options::no_number;
 use crate::subcommands::Row;
-use crate::values::{FROM_IMAGE, TRACE, file_arg, from_image_arg, given_text, number_in, text_of};
-use clap::{Arg, ArgAction, ArgMatches, Command};
+use crate::values::{
+    FROM_IMAGE, TRACE, file_arg, from_image_arg, given_text, has_flag, number_in, text_for,
+    text_of, texts_for,
+};
+use clap::{Arg, ArgMatches, Command};
 use ir_record_command::number_within;
 use std::alloc::{AllocError, Global};
 
@@ -29,7 +43,9 @@ boxes.
 ";
 
 /// What the help says of it, beside its arguments.
-pub fn row<'a>() -> Row<'a> {
+pub fn row<'a>() -> Row<'a>
+    ensures { result.name.now ≡ codes "view" }
+{
     Row {
         name: "view",
         about: "Prints a picture of a trace as an HTML page",
@@ -71,71 +87,106 @@ pub struct ViewArguments {
     pub image: Option<String>,
 }
 
-fn json_arg<'a>(alloc: Global) -> Arg<'a> {
-    Arg::new(alloc, JSON)
-        .long(JSON)
-        .action(ArgAction::SetTrue)
-        .help("Prints only the data of the page")
+fn json_arg<'a>(alloc: Global) -> Arg<'a>
+    ensures { IsArgument result (flag (codes "json")) }
+{
+    flag_arg(alloc, JSON, "Prints only the data of the page")
 }
 
-fn chrome_arg<'a>(alloc: Global) -> Arg<'a> {
-    Arg::new(alloc, CHROME)
-        .long(CHROME)
-        .action(ArgAction::SetTrue)
-        .help("Prints events in the Trace Event format")
+fn chrome_arg<'a>(alloc: Global) -> Arg<'a>
+    ensures { IsArgument result (flag (codes "chrome")) }
+{
+    flag_arg(alloc, CHROME, "Prints events in the Trace Event format")
 }
 
-fn around_arg<'a>(alloc: Global) -> Arg<'a> {
+#[tactic(auto, using(crate::proofs::Rules::pair_made))]
+fn around_arg<'a>(alloc: Global) -> Arg<'a>
+    ensures { IsArgument result (pair (codes "around")) }
+{
     Arg::new(alloc, AROUND)
         .long(AROUND)
         .num_args(2)
         .value_names(&["T", "E"])
-        .allow_negative_numbers(true)
         .help("Shows only the boxes near event E of thread T")
 }
 
-fn span_arg<'a>(alloc: Global) -> Arg<'a> {
-    Arg::new(alloc, SPAN)
-        .long(SPAN)
-        .value_name("N")
-        .default_value("1000")
-        .allow_negative_numbers(true)
-        .help("How near: boxes that start at most N places left or right of that event's box")
+fn span_arg<'a>(alloc: Global) -> Arg<'a>
+    ensures { IsArgument result (option_or (codes "span") (codes "1000")) }
+{
+    option_or_arg(
+        alloc,
+        SPAN,
+        "N",
+        "1000",
+        "How near: boxes that start at most N places left or right of that event's box",
+    )
 }
 
+// The arguments of which not all may be given together, as messages show them.
+const THE_JSON: Named<'static> = Named {
+    id: JSON,
+    shown: "--json",
+};
+
+const THE_CHROME: Named<'static> = Named {
+    id: CHROME,
+    shown: "--chrome",
+};
+
+const THE_SPAN: Named<'static> = Named {
+    id: SPAN,
+    shown: "--span <N>",
+};
+
+const THE_EVENT: Named<'static> = Named {
+    id: AROUND,
+    shown: "--around <T> <E>",
+};
+
+/// Which arguments exclude each other, and which need others.
+pub const BONDS: [Bond<'static>; 2] = [
+    Bond::Excludes(THE_CHROME, THE_JSON),
+    Bond::Needs(THE_SPAN, THE_EVENT),
+];
+
 /// The command with its arguments.
-pub fn with_arguments<'a>(alloc: Global, command: Command<'a>) -> Result<Command<'a>, AllocError> {
-    command
-        .arg(file_arg(alloc, TRACE, "The file with the trace"))?
-        .arg(json_arg(alloc))?
-        .arg(chrome_arg(alloc).conflicts_with(JSON)?)?
-        .arg(around_arg(alloc))?
-        .arg(span_arg(alloc).requires_arg(AROUND)?)?
-        .arg(from_image_arg(
+pub fn with_arguments<'a>(alloc: Global, command: Command<'a>) -> Result<Command<'a>, AllocError>
+    ensures { IfOk result (λ c. app_in c ≡ and_rules (app_in command.entry) (rules_of sub.View)) }
+{
+    let command = with_arg(command, file_arg(alloc, TRACE, "The file with the trace"))?;
+    let command = with_arg(command, json_arg(alloc))?;
+    let command = with_arg(command, chrome_arg(alloc))?;
+    let command = with_arg(command, around_arg(alloc))?;
+    let command = with_arg(command, span_arg(alloc))?;
+    with_arg(
+        command,
+        from_image_arg(
             alloc,
             "The file with the image, or an ELF file of the guest: boxes from entering to leaving, their steps, and only stale writes that rest on what was read",
-        ))
+        ),
+    )
 }
 
 // How far the part goes, or else what is wrong with the number.
-fn span_of(alloc: Global, matches: &ArgMatches<'_>) -> Result<Result<u64, String>, AllocError> {
-    let text = matches.get_str(SPAN).unwrap_or_default();
+fn span_of(alloc: Global, matches: &ArgMatches<'_>) -> Result<Result<u64, String>, AllocError>
+    ensures { IfOk result (λ read. result_ok read ≡ large_number (text_for (rows_in matches.now) (codes "span"))) }
+{
+    let text = text_for(matches, SPAN);
     match number_within(0, u64::MAX, text) {
         Some(span) => Ok(Ok(span)),
         None => Ok(Err(no_number(alloc, SPAN, text, u64::MAX)?)),
     }
 }
 
-// The part that is asked for, if one is, or else what is wrong with it.
-fn part_of(
+// The part around the event that two texts give, or else what is wrong with them.
+fn part_around(
     alloc: Global,
-    matches: &ArgMatches<'_>,
-) -> Result<Result<Option<Part>, String>, AllocError> {
-    let span = match span_of(alloc, matches)? {
-        Ok(span) => span,
-        Err(why) => return Ok(Err(why)),
-    };
-    let Some([thread, event]) = matches.get_strs(AROUND) else {
+    span: u64,
+    texts: &[&str],
+) -> Result<Result<Option<Part>, String>, AllocError>
+    ensures { IfOk result (λ read. result_ok read ≡ part_of_texts span (map (λ s. s.now) texts.now)) }
+{
+    let [thread, event] = texts else {
         return Ok(Ok(None));
     };
     let thread = match number_in(alloc, "--around", thread)? {
@@ -152,16 +203,32 @@ fn part_of(
     }
 }
 
+// The part that is asked for, if one is, or else what is wrong with it.
+fn part_of(
+    alloc: Global,
+    matches: &ArgMatches<'_>,
+) -> Result<Result<Option<Part>, String>, AllocError>
+    ensures { IfOk result (λ read. result_ok read ≡ part_in (rows_in matches.now)) }
+{
+    match span_of(alloc, matches)? {
+        Ok(span) => part_around(alloc, span, texts_for(matches, AROUND)),
+        Err(why) => Ok(Err(why)),
+    }
+}
+
 /// What its arguments ask for.
-pub fn asked(alloc: Global, matches: &ArgMatches<'_>) -> Result<Asked, AllocError> {
+#[tactic(auto, unfolding(crate::specs::Asking::picture_in))]
+pub fn asked(alloc: Global, matches: &ArgMatches<'_>) -> Result<Asked, AllocError>
+    ensures { IfOk result (λ asked. request_of asked ≡ picture_asked (rows_in matches.now)) }
+{
     let part = match part_of(alloc, matches)? {
         Ok(part) => part,
         Err(why) => return Ok(Asked::Nothing(why)),
     };
     Ok(Asked::Print(Print::View(ViewArguments {
         trace: text_of(alloc, matches, TRACE)?,
-        json: matches.get_flag(JSON),
-        chrome: matches.get_flag(CHROME),
+        json: has_flag(matches, JSON),
+        chrome: has_flag(matches, CHROME),
         part,
         image: given_text(alloc, matches, FROM_IMAGE)?,
     })))

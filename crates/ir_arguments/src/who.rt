@@ -1,8 +1,20 @@
 //! The arguments of `ir who`.
 
+ghost use Rattle.std.specs.Prelude.{◌≡◌, IfOk, codes};
+ghost use Rattle.ir_arguments.specs.Asking.{versions_asked};
+ghost use Rattle.ir_arguments.specs.Values.{rows_in};
+ghost use Rattle.ir_arguments.specs.Views.{request_of};
+ghost use Rattle.ir_arguments.specs.Parser.{IsArgument, and_rules, app_in, option, rules_of};
+ghost use Rattle.ir_arguments.specs.declared.subcommands.Subcommand.TheVariants as sub;
+
 use crate::asked::{Asked, Print};
+use crate::bonds::{Bond, Named};
+use crate::forms::{option_arg, place_arg, with_arg};
 use crate::subcommands::Row;
-use crate::values::{FROM_IMAGE, TRACE, file_arg, from_image_arg, given_text, number_in, text_of};
+use crate::values::{
+    FROM_IMAGE, TRACE, file_arg, from_image_arg, given_number, given_text, number_in, text_for,
+    text_of,
+};
 use clap::{Arg, ArgMatches, Command};
 use std::alloc::{AllocError, Global};
 
@@ -26,7 +38,9 @@ version or a word that isn't there, 3 a refused image or trace, 4 an incoherent 
 ";
 
 /// What the help says of it, beside its arguments.
-pub fn row<'a>() -> Row<'a> {
+pub fn row<'a>() -> Row<'a>
+    ensures { result.name.now ≡ codes "who" }
+{
     Row {
         name: "who",
         about: "Prints who made and who read the versions of an object",
@@ -58,50 +72,69 @@ pub struct WhoArguments {
     pub image: Option<String>,
 }
 
-fn word_arg<'a>(alloc: Global) -> Arg<'a> {
-    Arg::new(alloc, WORD)
-        .long(WORD)
-        .value_name("K")
-        .allow_negative_numbers(true)
-        .help("The number of a word of the object: only the versions that change it")
+fn word_arg<'a>(alloc: Global) -> Arg<'a>
+    ensures { IsArgument result (option (codes "word")) }
+{
+    option_arg(
+        alloc,
+        WORD,
+        "K",
+        "The number of a word of the object: only the versions that change it",
+    )
 }
+
+// The arguments of which not all may be given together, as messages show them.
+const THE_WORD: Named<'static> = Named {
+    id: WORD,
+    shown: "--word <K>",
+};
+
+const THE_VERSION: Named<'static> = Named {
+    id: VERSION_NUMBER,
+    shown: "[V]",
+};
+
+const THE_IMAGE: Named<'static> = Named {
+    id: FROM_IMAGE,
+    shown: "--image <IMAGE>",
+};
+
+/// Which arguments exclude each other, and which need others.
+pub const BONDS: [Bond<'static>; 2] = [
+    Bond::Excludes(THE_WORD, THE_VERSION),
+    Bond::Needs(THE_WORD, THE_IMAGE),
+];
 
 /// The command with its arguments.
-pub fn with_arguments<'a>(alloc: Global, command: Command<'a>) -> Result<Command<'a>, AllocError> {
-    command
-        .arg(file_arg(alloc, TRACE, "The file with the trace"))?
-        .arg(file_arg(alloc, OBJECT, "The number of the object"))?
-        .arg(Arg::new(alloc, VERSION_NUMBER).help(
+pub fn with_arguments<'a>(alloc: Global, command: Command<'a>) -> Result<Command<'a>, AllocError>
+    ensures { IfOk result (λ c. app_in c ≡ and_rules (app_in command.entry) (rules_of sub.Who)) }
+{
+    let command = with_arg(command, file_arg(alloc, TRACE, "The file with the trace"))?;
+    let command = with_arg(command, file_arg(alloc, OBJECT, "The number of the object"))?;
+    let command = with_arg(
+        command,
+        place_arg(
+            alloc,
+            VERSION_NUMBER,
             "The number of the version; without it all versions are printed",
-        ))?
-        .arg(from_image_arg(
+        ),
+    )?;
+    let command = with_arg(
+        command,
+        from_image_arg(
             alloc,
             "The file with the image, or an ELF file of the guest: the steps of the events",
-        ))?
-        .arg(
-            word_arg(alloc)
-                .requires_arg(FROM_IMAGE)?
-                .conflicts_with(VERSION_NUMBER)?,
-        )
-}
-
-// The number of an argument, if it is given, or else what is wrong with it.
-fn given_number(
-    alloc: Global,
-    matches: &ArgMatches<'_>,
-    argument: &str,
-    name: &str,
-) -> Result<Result<Option<u32>, String>, AllocError> {
-    let Some(text) = matches.get_str(argument) else {
-        return Ok(Ok(None));
-    };
-    Ok(number_in(alloc, name, text)?.map(Some))
+        ),
+    )?;
+    with_arg(command, word_arg(alloc))
 }
 
 /// What its arguments ask for.
-pub fn asked(alloc: Global, matches: &ArgMatches<'_>) -> Result<Asked, AllocError> {
-    let text = matches.get_str(OBJECT).unwrap_or_default();
-    let object = match number_in(alloc, OBJECT, text)? {
+#[tactic(auto, unfolding(crate::specs::Asking::versions_in))]
+pub fn asked(alloc: Global, matches: &ArgMatches<'_>) -> Result<Asked, AllocError>
+    ensures { IfOk result (λ asked. request_of asked ≡ versions_asked (rows_in matches.now)) }
+{
+    let object = match number_in(alloc, OBJECT, text_for(matches, OBJECT))? {
         Ok(object) => object,
         Err(why) => return Ok(Asked::Nothing(why)),
     };

@@ -1,9 +1,21 @@
 //! The arguments of `ir why`.
 
+ghost use Rattle.std.specs.Prelude.{◌≡◌, codes, option_map, IfOk};
+ghost use Rattle.std.specs.Result.{result_ok};
+ghost use Rattle.ir_arguments.specs.Reading.{if_given, large_numbers, small_number};
+ghost use Rattle.ir_arguments.specs.Asking.{reasons_asked};
+ghost use Rattle.ir_arguments.specs.Values.{rows_in, given, text_for};
+ghost use Rattle.ir_arguments.specs.Views.{request_of};
+ghost use Rattle.ir_arguments.specs.Parser.{IsArgument, and_rules, app_in, option, option_or, rules_of};
+ghost use Rattle.ir_arguments.specs.declared.subcommands.Subcommand.TheVariants as sub;
+
 use crate::asked::{Asked, Print};
+use crate::bonds::{Bond, Named};
+use crate::forms::{option_arg, option_or_arg, with_arg};
 use crate::subcommands::Row;
 use crate::values::{
-    FROM_IMAGE, TRACE, file_arg, from_image_arg, given_text, number_in, numbers_in, text_of,
+    FROM_IMAGE, TRACE, file_arg, from_image_arg, given, given_text, number_in, numbers_in,
+    text_for, text_of,
 };
 use clap::{Arg, ArgMatches, Command};
 use std::alloc::{AllocError, Global};
@@ -32,7 +44,9 @@ or a trace of no run of the image.
 ";
 
 /// What the help says of it, beside its arguments.
-pub fn row<'a>() -> Row<'a> {
+pub fn row<'a>() -> Row<'a>
+    ensures { result.name.now ≡ codes "why" }
+{
     Row {
         name: "why",
         about: "Prints what an event needs, and the chain of waits that led to it",
@@ -67,40 +81,64 @@ pub struct WhyArguments {
     pub at: Option<Vec<u64>>,
 }
 
-fn lines_arg<'a>(alloc: Global) -> Arg<'a> {
-    Arg::new(alloc, LINES)
-        .long(LINES)
-        .value_name("N")
-        .default_value("20")
-        .help("The most lines of the chain of waits")
+fn lines_arg<'a>(alloc: Global) -> Arg<'a>
+    ensures { IsArgument result (option_or (codes "lines") (codes "20")) }
+{
+    option_or_arg(
+        alloc,
+        LINES,
+        "N",
+        "20",
+        "The most lines of the chain of waits",
+    )
 }
 
-fn at_arg<'a>(alloc: Global) -> Arg<'a> {
-    Arg::new(alloc, AT)
-        .long(AT)
-        .value_name("P0,P1,..")
-        .allow_negative_numbers(true)
-        .help(
-            "The positions of a consistent cut, a position for each thread: tells if what is needed has been left there",
-        )
+fn at_arg<'a>(alloc: Global) -> Arg<'a>
+    ensures { IsArgument result (option (codes "at")) }
+{
+    option_arg(
+        alloc,
+        AT,
+        "P0,P1,..",
+        "The positions of a consistent cut, a position for each thread: tells if what is needed has been left there",
+    )
 }
+
+/// Which arguments need others.
+pub const BONDS: [Bond<'static>; 1] = [Bond::Needs(
+    Named {
+        id: AT,
+        shown: "--at <P0,P1,..>",
+    },
+    Named {
+        id: FROM_IMAGE,
+        shown: "--image <IMAGE>",
+    },
+)];
 
 /// The command with its arguments.
-pub fn with_arguments<'a>(alloc: Global, command: Command<'a>) -> Result<Command<'a>, AllocError> {
-    command
-        .arg(file_arg(alloc, TRACE, "The file with the trace"))?
-        .arg(file_arg(alloc, THREAD, "The number of the thread"))?
-        .arg(file_arg(
+pub fn with_arguments<'a>(alloc: Global, command: Command<'a>) -> Result<Command<'a>, AllocError>
+    ensures { IfOk result (λ c. app_in c ≡ and_rules (app_in command.entry) (rules_of sub.Why)) }
+{
+    let command = with_arg(command, file_arg(alloc, TRACE, "The file with the trace"))?;
+    let command = with_arg(command, file_arg(alloc, THREAD, "The number of the thread"))?;
+    let command = with_arg(
+        command,
+        file_arg(
             alloc,
             EVENT,
             "The number of the event in the thread's log, from 0",
-        ))?
-        .arg(lines_arg(alloc))?
-        .arg(from_image_arg(
+        ),
+    )?;
+    let command = with_arg(command, lines_arg(alloc))?;
+    let command = with_arg(
+        command,
+        from_image_arg(
             alloc,
             "The file with the image, or an ELF file of the guest: the steps of the events and of the leaves, the least cut that has the event, and waits of threads that held an object",
-        ))?
-        .arg(at_arg(alloc).requires_arg(FROM_IMAGE)?)
+        ),
+    )?;
+    with_arg(command, at_arg(alloc))
 }
 
 // The number of an argument, or else what is wrong with it.
@@ -109,12 +147,33 @@ fn number_of(
     matches: &ArgMatches<'_>,
     argument: &str,
     name: &str,
-) -> Result<Result<u32, String>, AllocError> {
-    number_in(alloc, name, matches.get_str(argument).unwrap_or_default())
+) -> Result<Result<u32, String>, AllocError>
+    ensures { IfOk result (λ read. result_ok read ≡ small_number (text_for (rows_in matches.now) argument.now)) }
+{
+    number_in(alloc, name, text_for(matches, argument))
+}
+
+// The positions of a cut, if they are given, or else what is wrong with them.
+fn positions_of(
+    alloc: Global,
+    matches: &ArgMatches<'_>,
+) -> Result<Result<Option<Vec<u64>>, String>, AllocError>
+    ensures { IfOk result (λ read. option_map (option_map (λ v. v.items)) (result_ok read) ≡ if_given large_numbers (given (rows_in matches.now) (codes "at"))) }
+{
+    let Some(text) = given(matches, AT) else {
+        return Ok(Ok(None));
+    };
+    match numbers_in(alloc, "--at", text)? {
+        Ok(positions) => Ok(Ok(Some(positions))),
+        Err(why) => Ok(Err(why)),
+    }
 }
 
 /// What its arguments ask for.
-pub fn asked(alloc: Global, matches: &ArgMatches<'_>) -> Result<Asked, AllocError> {
+#[tactic(auto, unfolding(crate::specs::Asking::reasons_in))]
+pub fn asked(alloc: Global, matches: &ArgMatches<'_>) -> Result<Asked, AllocError>
+    ensures { IfOk result (λ asked. request_of asked ≡ reasons_asked (rows_in matches.now)) }
+{
     let thread = match number_of(alloc, matches, THREAD, THREAD)? {
         Ok(thread) => thread,
         Err(why) => return Ok(Asked::Nothing(why)),
@@ -127,12 +186,9 @@ pub fn asked(alloc: Global, matches: &ArgMatches<'_>) -> Result<Asked, AllocErro
         Ok(lines) => lines,
         Err(why) => return Ok(Asked::Nothing(why)),
     };
-    let at = match matches.get_str(AT) {
-        None => None,
-        Some(text) => match numbers_in(alloc, "--at", text)? {
-            Ok(positions) => Some(positions),
-            Err(why) => return Ok(Asked::Nothing(why)),
-        },
+    let at = match positions_of(alloc, matches)? {
+        Ok(at) => at,
+        Err(why) => return Ok(Asked::Nothing(why)),
     };
     Ok(Asked::Print(Print::Why(WhyArguments {
         trace: text_of(alloc, matches, TRACE)?,

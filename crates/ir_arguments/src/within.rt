@@ -1,7 +1,17 @@
 //! The arguments of `ir explore --within` and `--only`.
 
+ghost use Rattle.std.specs.Prelude.{◌≡◌, Some, None, codes, option_map, IfOk, MatchBool};
+ghost use Rattle.std.specs.Result.{result_ok};
+ghost use Rattle.std.specs.String.{string_bytes};
+ghost use Rattle.ir_arguments.specs.Exploring.{parts_given, parts_listed, parts_of, with_part};
+ghost use Rattle.ir_arguments.specs.Values.{rows_in, given, text_for};
+ghost use Rattle.ir_arguments.specs.Views.{parts_view, taken_view};
+ghost use Rattle.ir_arguments.specs.Parser.{IsArgument, option};
+
 use crate::explore::ExploreArguments;
-use crate::values::text_of;
+use crate::forms::option_arg;
+use crate::texts::first_part;
+use crate::values::{UNTIL, given, text_of};
 use clap::{Arg, ArgMatches};
 use ir_record_command::number_within;
 use std::alloc::{AllocError, Global};
@@ -46,68 +56,98 @@ pub struct ClassesArguments {
     pub counted: Counted,
 }
 
-pub fn within_arg<'a>(alloc: Global) -> Arg<'a> {
-    Arg::new(alloc, WITHIN)
-        .long(WITHIN)
-        .value_name("OTHER")
-        .help(
-            "The file with the image of another guest, or its ELF file: print the outcomes that it doesn't have",
-        )
+pub fn within_arg<'a>(alloc: Global) -> Arg<'a>
+    ensures { IsArgument result (option (codes "within")) }
+{
+    option_arg(
+        alloc,
+        WITHIN,
+        "OTHER",
+        "The file with the image of another guest, or its ELF file: print the outcomes that it doesn't have",
+    )
 }
 
-pub fn only_arg<'a>(alloc: Global) -> Arg<'a> {
-    Arg::new(alloc, ONLY).long(ONLY).value_name("PARTS").help(
+pub fn only_arg<'a>(alloc: Global) -> Arg<'a>
+    ensures { IsArgument result (option (codes "only")) }
+{
+    option_arg(
+        alloc,
+        ONLY,
+        "PARTS",
         "What of outcomes counts, with commas between: out, codes, objects, or the number of an object",
     )
 }
 
+// What counts by the parts so far.
+#[derive(Drop)]
+struct Taken {
+    outputs: bool,
+    ends: bool,
+    // Whether all objects count, and else which.
+    all: bool,
+    objects: Vec<u8>,
+}
+
 // Takes a part of what counts; whether it is one.
-fn take_part(
-    counted: &mut Counted,
-    objects: &mut Vec<u8>,
-    all: &mut bool,
-    part: &str,
-) -> Result<bool, AllocError> {
+#[tactic(auto, unfolding(crate::specs::Exploring::with_part))]
+fn take_part(taken: &mut Taken, part: &str) -> Result<bool, AllocError>
+    ensures taken { IfOk result (λ is_part. MatchBool is_part (with_part (taken_view taken.old) part.now ≡ Some (taken_view taken.new)) (with_part (taken_view taken.old) part.now ≡ None)) }
+{
     match part {
-        "out" => counted.outputs = true,
-        "codes" => counted.ends = true,
-        "objects" => *all = true,
+        "out" => taken.outputs = true,
+        "codes" => taken.ends = true,
+        "objects" => taken.all = true,
         number => match number_within(0, LAST_OBJECT, number) {
-            Some(object) => objects.push(object as u8)?,
+            Some(object) => taken.objects.push(object as u8)?,
             None => return Ok(false),
         },
     }
     Ok(true)
 }
 
+// What counts of outcomes by what was taken.
+fn counted_by(taken: Taken) -> Counted
+    ensures { parts_view result ≡ parts_of (taken_view taken) }
+{
+    Counted {
+        outputs: taken.outputs,
+        ends: taken.ends,
+        objects: if taken.all { None } else { Some(taken.objects) },
+    }
+}
+
 // What counts by the parts that a text lists, or what is wrong with it.
-fn counted_in(alloc: Global, text: &str) -> Result<Result<Counted, String>, AllocError> {
-    let mut counted = Counted {
+#[tactic(auto, using(crate::proofs::Parts::parts_after_part, crate::proofs::Parts::parts_fail))]
+fn counted_in(alloc: Global, text: &str) -> Result<Result<Counted, String>, AllocError>
+    ensures { IfOk result (λ read. option_map parts_view (result_ok read) ≡ parts_listed text.now) }
+{
+    let mut taken = Taken {
         outputs: false,
         ends: false,
-        objects: None,
+        all: false,
+        objects: Vec::new(alloc),
     };
-    let mut objects = Vec::new(alloc);
-    let mut all = false;
-    for part in text.split(',') {
-        if !take_part(&mut counted, &mut objects, &mut all, part)? {
+    let mut rest = Some(text);
+    'parts: while let Some(text) = rest {
+        let (part, others) = first_part(text, ',');
+        if !take_part(&mut taken, part)? {
             return Ok(Err(format!(in alloc;
                 "--{ONLY}: '{part}' isn't out, codes, objects or the number of an object up to {LAST_OBJECT}"
             )?));
         }
+        rest = others;
     }
-    if !all {
-        counted.objects = Some(objects);
-    }
-    Ok(Ok(counted))
+    Ok(Ok(counted_by(taken)))
 }
 
 /// What counts of outcomes, all of them without the option; or what is wrong with it.
 pub fn counted_of(
     alloc: Global,
     matches: &ArgMatches<'_>,
-) -> Result<Result<Counted, String>, AllocError> {
-    match matches.get_str(ONLY) {
+) -> Result<Result<Counted, String>, AllocError>
+    ensures { IfOk result (λ read. option_map parts_view (result_ok read) ≡ parts_given (given (rows_in matches.now) (codes "only"))) }
+{
+    match given(matches, ONLY) {
         Some(text) => counted_in(alloc, text),
         None => Ok(Ok(Counted {
             outputs: true,
@@ -118,6 +158,8 @@ pub fn counted_of(
 }
 
 /// The file of the other guest's image.
-pub fn other_of(alloc: Global, matches: &ArgMatches<'_>) -> Result<String, AllocError> {
+pub fn other_of(alloc: Global, matches: &ArgMatches<'_>) -> Result<String, AllocError>
+    ensures { IfOk result (λ text. string_bytes text ≡ text_for (rows_in matches.now) (codes "within")) }
+{
     text_of(alloc, matches, WITHIN)
 }

@@ -3,4 +3,5 @@ pub mod Connecting
 pub mod Doing
 pub mod Leaving
 pub mod Refused
+pub mod Serving
 pub mod Taking

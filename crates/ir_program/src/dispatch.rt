@@ -1,11 +1,13 @@
 //! What the program does by its arguments, over streams and a folder.
 
-ghost use Rattle.std.specs.Prelude.{◌≡◌, ◌≢◌, false};
+ghost use Rattle.std.specs.Prelude.{◌≡◌, ◌≢◌, false, map};
+ghost use Rattle.std.specs.String.{string_bytes};
 ghost use Rattle.ir_files.specs.Writers.{writer_of};
 ghost use Rattle.ir_files.specs.declared.exit_status.ExitStatus.TheVariants as exit;
 ghost use Rattle.ir_commands.specs.Files.{TellsFault};
 ghost use Rattle.ir_files.specs.Given.{IsStored};
 ghost use Rattle.ir_program.specs.Doing.{Does, HeldBundle, HoldsSession, HoldsConnection, MakesImage, Prints, PrintsOutcomes, Shows};
+ghost use Rattle.ir_program.specs.Serving.{ServesWords};
 ghost use Rattle.ir_program.specs.Taking.{TakenReader};
 
 use crate::bundles::bundle;
@@ -314,6 +316,9 @@ where
     requires reads { I.broken input ≡ false }
     requires writes { O.broken out.old ≡ false }
     requires reports { E.broken faults.old ≡ false }
+    ensures { ServesWords (D.bytes_at around.entry.folder.now) (λ place bytes. IsStored (D.knows around.entry.folder.now) (D.was_put around.entry.folder.now) place bytes)
+        (map string_bytes invocation.now.arguments.now) result (I.left input) (writer_of (O.written out.old) (O.written out.new) (O.broken out.new))
+        (writer_of (E.written faults.old) (E.written faults.new) (E.broken faults.new)) (out.new ≡ out.old) }
 {
     let alloc = around.rt.alloc();
     let mut asked = parsed(alloc, invocation.arguments);

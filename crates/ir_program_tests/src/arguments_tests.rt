@@ -14,7 +14,7 @@ fn asked(rt: &HostRuntime, line: &str) -> Result<Asked, Fail> {
     Ok(parsed(rt.alloc(), arguments.as_slice()))
 }
 
-const WRONG: [(&str, &str); 11] = [
+const WRONG: [(&str, &str); 21] = [
     (
         "ir asm",
         "the following required arguments were not provided: <SOURCE> <IMAGE>",
@@ -28,8 +28,12 @@ const WRONG: [(&str, &str); 11] = [
         "--budget: 'x' is no number up to 1000000000000",
     ),
     (
-        "ir record a.img a.trc --budget -1",
+        "ir record a.img a.trc --budget=-1",
         "--budget: '-1' is no number up to 1000000000000",
+    ),
+    (
+        "ir record a.img a.trc --budget -1",
+        "unexpected argument '-1' found",
     ),
     (
         "ir record a.img a.trc --random 1x",
@@ -40,7 +44,7 @@ const WRONG: [(&str, &str); 11] = [
         "--profile: '3' is neither 1 nor 2",
     ),
     (
-        "ir record a.img a.trc --profile -1",
+        "ir record a.img a.trc --profile=-1",
         "--profile: '-1' is neither 1 nor 2",
     ),
     (
@@ -56,6 +60,42 @@ const WRONG: [(&str, &str); 11] = [
         "unexpected value '1' for '--explain' found; no more were expected",
     ),
     ("ir play", "unrecognized subcommand 'play': see ir --help"),
+    (
+        "ir explore a.img --output p",
+        "the following required arguments were not provided: --until <COND> <TRACE>",
+    ),
+    (
+        "ir explore a.img a.trc",
+        "the following required arguments were not provided: --until <COND>",
+    ),
+    (
+        "ir explore a.img --until fault --within b.img --only out",
+        "the argument '--until <COND>' cannot be used with: --within <OTHER> --only <PARTS>",
+    ),
+    (
+        "ir record a.img a.trc --by mix --order-file f --order 0",
+        "the argument '--by <WAY>' cannot be used with: --order-file <LISTFILE> --order <LIST>",
+    ),
+    (
+        "ir record a.img a.trc --order 0 --by walk",
+        "the argument '--order <LIST>' cannot be used with '--by <WAY>'",
+    ),
+    (
+        "ir record a.img a.trc --by walk",
+        "the following required arguments were not provided: --chaos <SEED>",
+    ),
+    (
+        "ir who a.trc 0 --word 2 1",
+        "the argument '--word <K>' cannot be used with '[V]'",
+    ),
+    (
+        "ir view a.trc --chrome --json --span 3",
+        "the argument '--chrome' cannot be used with '--json'",
+    ),
+    (
+        "ir view a.trc --span 3",
+        "the following required arguments were not provided: --around <T> <E>",
+    ),
 ];
 
 #[test]
@@ -71,7 +111,7 @@ fn wrong_arguments_are_named(rt: HostRuntime) -> Result<(), Fail> {
 
 #[test]
 fn a_list_may_begin_with_a_hyphen(rt: HostRuntime) -> Result<(), Fail> {
-    match asked(&rt, "ir record a.img a.trc --order -1")? {
+    match asked(&rt, "ir record a.img a.trc --order=-1")? {
         Asked::Record(arguments) => {
             assert_eq!(rt;
                 arguments.order.as_ref().map(|list| list.as_str()),

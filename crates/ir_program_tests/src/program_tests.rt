@@ -394,7 +394,7 @@ const ROWS: [(&str, u8, &str); 58] = [
         "ir: LIST: the item '1' names no thread of the image\n",
     ),
     (
-        "ir record d.img d.trc --order -1",
+        "ir record d.img d.trc --order=-1",
         3,
         "ir: LIST: the item '-1' is none of T, TxN, T! and T!xN\n",
     ),

@@ -96,10 +96,10 @@ const ROWS: [(&str, u8, &str, &str); 14] = [
         "ir view lost.trc --around 1 -1",
         2,
         "",
-        "ir: --around: '-1' is no number up to 4294967295\n",
+        "ir: unexpected argument '-1' found\n",
     ),
     (
-        "ir view lost.trc --around 1 1 --span -1",
+        "ir view lost.trc --around 1 1 --span=-1",
         2,
         "",
         "ir: --span: '-1' is no number up to 18446744073709551615\n",

@@ -1,0 +1,12 @@
+mod Apps
+mod Cuts
+mod Hangs
+mod Marks
+mod Names
+mod Numbers
+mod Obeyed
+mod Parts
+mod Requested
+mod Rows
+mod Rules
+mod Wishes

@@ -1,0 +1,11 @@
+pub mod Asking
+pub mod Bonds
+pub mod Conditions
+pub mod Exploring
+pub mod Parser
+pub mod Parsing
+pub mod Reading
+pub mod Requests
+pub mod Subcommands
+pub mod Values
+pub mod Views

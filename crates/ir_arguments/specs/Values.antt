@@ -1,0 +1,34 @@
+-- What is given for the arguments of a command, by the rows of clap's matches.
+use Rattle.std.specs.Prelude.{ℕ, Bool, false, List, [], codes, Option, Some, None, unwrap_or, Result, Ok, Err}
+use Rattle.std.specs.Option.{option_map_or}
+use Rattle.std.specs.Str.{bytes_eq}
+use Rattle.clap.specs.Words.{Row, Text, all_of, first_of, found_of, rows_of}
+use Rattle.clap.specs.declared.parser.matches.ArgMatches.{ArgMatches}
+
+-- a row for each argument that has a value
+abbrev pub Rows : Type 0
+Rows = List Row
+
+abbrev pub rows_in : ArgMatches → Rows
+rows_in matches = rows_of (found_of matches)
+
+-- the text that is given for an argument, the first of several
+abbrev pub given : Rows → Text → Option Text
+given rows id = first_of id rows
+
+-- the same, empty where none is given
+abbrev pub text_for : Rows → Text → Text
+text_for rows id = unwrap_or (first_of id rows) []
+
+-- all the texts that are given for an argument
+abbrev pub texts_for : Rows → Text → List Text
+texts_for rows id = unwrap_or (all_of id rows) []
+
+-- a flag is given
+abbrev pub has_flag : Rows → Text → Bool
+has_flag rows id = option_map_or (λ value. bytes_eq value (codes "true")) (first_of id rows) false
+
+-- what was read, seen by a function, or nothing where a text says what is wrong
+abbrev pub seen : {T S E : Type 0} → (T → S) → Result T E → Option S
+seen view (Ok value) = Some (view value)
+seen view (Err why) = None

@@ -1,0 +1,227 @@
+//! Arguments that exclude each other or need others.
+
+ghost use Rattle.std.specs.Prelude.{◌≡◌, map, IfOk};
+ghost use Rattle.std.specs.List.{list_all};
+ghost use Rattle.std.specs.Option.{is_none};
+ghost use Rattle.clap.specs.Takes.{is_given};
+ghost use Rattle.ir_arguments.specs.Bonds.{is_obeyed, rule_by};
+ghost use Rattle.ir_arguments.specs.Values.{rows_in};
+
+use clap::ArgMatches;
+use clap::parser::ValueSource;
+use std::alloc::{AllocError, Global};
+
+/// An argument by its name, and as messages show it.
+#[derive(Clone, Copy)]
+pub struct Named<'a> {
+    pub id: &'a str,
+    pub shown: &'a str,
+}
+
+/// A rule on arguments.
+#[derive(Clone, Copy)]
+pub enum Bond<'a> {
+    /// Not both are given.
+    Excludes(Named<'a>, Named<'a>),
+    /// The first is given only with the second.
+    Needs(Named<'a>, Named<'a>),
+    /// The first is given only with the second, or with one of the last two, which exclude the second.
+    NeedsUnless(Named<'a>, Named<'a>, &'a str, &'a str),
+}
+
+// Whether an argument is given, and not by its default.
+#[tactic(auto, using(crate::proofs::Obeyed::not_given_by_default, crate::proofs::Obeyed::given_by_words, crate::proofs::Obeyed::given_by_entry))]
+fn is_given(matches: &ArgMatches<'_>, name: &str) -> bool
+    ensures { result ≡ is_given name.now (rows_in matches.now) }
+{
+    match matches.value_source(name) {
+        Some(ValueSource::DefaultValue) => false,
+        Some(ValueSource::CommandLine) => true,
+        None => matches.contains_id(name),
+    }
+}
+
+// Whether the arguments that are given obey the rule.
+fn is_obeyed(matches: &ArgMatches<'_>, bond: Bond<'_>) -> bool
+    ensures { result ≡ is_obeyed (rows_in matches.now) (rule_by bond.entry) }
+{
+    match bond {
+        Bond::Excludes(one, other) => {
+            let (one, other) = (is_given(matches, one.id), is_given(matches, other.id));
+            !(one && other)
+        }
+        Bond::Needs(one, other) => {
+            let (one, other) = (is_given(matches, one.id), is_given(matches, other.id));
+            !one || other
+        }
+        Bond::NeedsUnless(one, other, first, second) => {
+            let (one, other) = (is_given(matches, one.id), is_given(matches, other.id));
+            let (first, second) = (is_given(matches, first), is_given(matches, second));
+            !one || (other || (first || second))
+        }
+    }
+}
+
+// Whether the arguments that are given obey all rules.
+#[tactic(auto, using(crate::proofs::Obeyed::obeyed_so_far, crate::proofs::Obeyed::obeyed_not, crate::proofs::Obeyed::obeyed_at_end))]
+fn all_obeyed(matches: &ArgMatches<'_>, bonds: &[Bond<'_>]) -> bool
+    ensures { result ≡ list_all (is_obeyed (rows_in matches.now)) (map rule_by bonds.now) }
+{
+    'bonds: for &bond in bonds {
+        if !is_obeyed(matches, bond) {
+            return false;
+        }
+    }
+    true
+}
+
+// The place of an argument among the words.
+fn place_of(matches: &ArgMatches<'_>, name: &str) -> usize {
+    matches.index_of(name).unwrap_or(usize::MAX)
+}
+
+// The argument that comes first of those that aren't given together.
+fn first_excluded<'a>(matches: &ArgMatches<'_>, bonds: &[Bond<'a>]) -> Option<Named<'a>> {
+    let mut first = None;
+    let mut least = usize::MAX;
+    for &bond in bonds {
+        let Bond::Excludes(one, other) = bond else {
+            continue;
+        };
+        if is_obeyed(matches, bond) {
+            continue;
+        }
+        for named in [one, other] {
+            let place = place_of(matches, named.id);
+            if place < least {
+                first = Some(named);
+                least = place;
+            }
+        }
+    }
+    first
+}
+
+// The argument that the rule doesn't let be given together with this one, if it is given.
+fn excluded_by<'a>(matches: &ArgMatches<'_>, bond: Bond<'a>, name: &str) -> Option<Named<'a>> {
+    let Bond::Excludes(one, other) = bond else {
+        return None;
+    };
+    if is_obeyed(matches, bond) {
+        return None;
+    }
+    if one.id == name {
+        return Some(other);
+    }
+    (other.id == name).then_some(one)
+}
+
+// The next argument behind this place that isn't given together with the one of this name.
+fn next_excluded<'a>(
+    matches: &ArgMatches<'_>,
+    bonds: &[Bond<'a>],
+    name: &str,
+    place: usize,
+) -> Option<Named<'a>> {
+    let mut next = None;
+    let mut least = usize::MAX;
+    for &bond in bonds {
+        if let Some(named) = excluded_by(matches, bond, name) {
+            let at = place_of(matches, named.id);
+            if place < at && at < least {
+                next = Some(named);
+                least = at;
+            }
+        }
+    }
+    next
+}
+
+// That an argument isn't given together with others.
+fn excluded_line(
+    alloc: Global,
+    matches: &ArgMatches<'_>,
+    bonds: &[Bond<'_>],
+    first: Named<'_>,
+) -> Result<String, AllocError> {
+    let mut others = String::new(alloc);
+    let mut several = false;
+    let mut place = 0;
+    for _ in bonds {
+        if let Some(next) = next_excluded(matches, bonds, first.id, place) {
+            if !others.is_empty() {
+                others.push(' ')?;
+                several = true;
+            }
+            others.push_str(next.shown)?;
+            place = place_of(matches, next.id);
+        }
+    }
+    let (first, others) = (first.shown, others.as_str());
+    if several {
+        format!(in alloc; "the argument '{first}' cannot be used with: {others}")
+    } else {
+        format!(in alloc; "the argument '{first}' cannot be used with '{others}'")
+    }
+}
+
+// The argument that another needs, if it isn't given.
+fn needed<'a>(matches: &ArgMatches<'_>, bond: Bond<'a>) -> Option<Named<'a>> {
+    let (one, other) = match bond {
+        Bond::Excludes(_, _) => return None,
+        Bond::Needs(one, other) => (one, other),
+        Bond::NeedsUnless(one, other, _, _) => (one, other),
+    };
+    (is_given(matches, one.id) && !is_given(matches, other.id)).then_some(other)
+}
+
+// That arguments are needed.
+fn needed_line(
+    alloc: Global,
+    matches: &ArgMatches<'_>,
+    bonds: &[Bond<'_>],
+) -> Result<String, AllocError> {
+    let mut others = String::new(alloc);
+    for &bond in bonds {
+        if let Some(named) = needed(matches, bond) {
+            if others.as_str().contains(named.shown) {
+                continue;
+            }
+            if !others.is_empty() {
+                others.push(' ')?;
+            }
+            others.push_str(named.shown)?;
+        }
+    }
+    let others = others.as_str();
+    format!(in alloc; "the following required arguments were not provided: {others}")
+}
+
+// Why the arguments may not be given so.
+fn why_not(
+    alloc: Global,
+    matches: &ArgMatches<'_>,
+    bonds: &[Bond<'_>],
+) -> Result<String, AllocError> {
+    match first_excluded(matches, bonds) {
+        Some(first) => excluded_line(alloc, matches, bonds, first),
+        None => needed_line(alloc, matches, bonds),
+    }
+}
+
+/// Why the arguments that are given may not be given together, if they may not.
+///
+/// # Errors
+/// Out of memory.
+pub fn broken(
+    alloc: Global,
+    matches: &ArgMatches<'_>,
+    bonds: &[Bond<'_>],
+) -> Result<Option<String>, AllocError>
+    ensures { IfOk result (λ why. is_none why ≡ list_all (is_obeyed (rows_in matches.now)) (map rule_by bonds.now)) }
+{
+    if all_obeyed(matches, bonds) {
+        return Ok(None);
+    }
+    Ok(Some(why_not(alloc, matches, bonds)?))
+}

@@ -1,0 +1,96 @@
+//! How the options of recordings are read.
+
+ghost use Rattle.std.specs.Prelude.{◌≡◌, codes, option_map, IfOk};
+ghost use Rattle.std.specs.Result.{result_ok};
+ghost use Rattle.ir_arguments.specs.Asking.{options_in, random_in};
+ghost use Rattle.ir_arguments.specs.Reading.{profile_named};
+ghost use Rattle.ir_arguments.specs.Values.{rows_in, text_for};
+ghost use Rattle.ir_arguments.specs.Views.{options_view};
+
+use crate::recording::{BUDGET, INPUT, OUTPUT, PROFILE, RANDOM, RecordingOptions};
+use crate::values::{given_text, text_for};
+use clap::ArgMatches;
+use ir_record_command::number_within;
+use ir_thread::{MOST_BUDGET, Profile};
+use std::alloc::{AllocError, Global};
+
+/// That the value of an option is no number up to the most.
+pub fn no_number(
+    alloc: Global,
+    option: &str,
+    value: &str,
+    most: u64,
+) -> Result<String, AllocError> {
+    format!(in alloc; "--{option}: '{value}' is no number up to {most}")
+}
+
+// The profile that the value of the option names.
+#[tactic(auto, unfolding(crate::specs::Reading::profile_named))]
+fn profile_of(value: &str) -> Option<Profile>
+    ensures { result ≡ profile_named value.now }
+{
+    match value {
+        "1" => Some(Profile::One),
+        "2" => Some(Profile::Two),
+        _ => None,
+    }
+}
+
+// That the value of the option names no profile.
+fn no_profile(alloc: Global, option: &str, value: &str) -> Result<String, AllocError> {
+    format!(in alloc; "--{option}: '{value}' is neither 1 nor 2")
+}
+
+/// The profile that its option names, or else what is wrong with it.
+pub fn profile_in(
+    alloc: Global,
+    matches: &ArgMatches<'_>,
+) -> Result<Result<Profile, String>, AllocError>
+    ensures { IfOk result (λ read. result_ok read ≡ profile_named (text_for (rows_in matches.now) (codes "profile"))) }
+{
+    let profile = text_for(matches, PROFILE);
+    match profile_of(profile) {
+        Some(calls) => Ok(Ok(calls)),
+        None => Ok(Err(no_profile(alloc, PROFILE, profile)?)),
+    }
+}
+
+/// Where random words start, or else what is wrong with the option.
+pub fn random_in(alloc: Global, matches: &ArgMatches<'_>) -> Result<Result<u64, String>, AllocError>
+    ensures { IfOk result (λ read. result_ok read ≡ random_in (rows_in matches.now)) }
+{
+    let random = text_for(matches, RANDOM);
+    match number_within(0, u64::MAX, random) {
+        Some(start) => Ok(Ok(start)),
+        None => Ok(Err(no_number(alloc, RANDOM, random, u64::MAX)?)),
+    }
+}
+
+/// The values of these options, or else what is wrong with one.
+#[tactic(auto, unfolding(crate::specs::Asking::options_in))]
+pub fn options_of(
+    alloc: Global,
+    matches: &ArgMatches<'_>,
+) -> Result<Result<RecordingOptions, String>, AllocError>
+    ensures { IfOk result (λ read. option_map options_view (result_ok read) ≡ options_in (rows_in matches.now)) }
+{
+    let budget = text_for(matches, BUDGET);
+    let Some(most) = number_within(0, MOST_BUDGET, budget) else {
+        return Ok(Err(no_number(alloc, BUDGET, budget, MOST_BUDGET)?));
+    };
+    let start = match random_in(alloc, matches)? {
+        Ok(start) => start,
+        Err(why) => return Ok(Err(why)),
+    };
+    let calls = match profile_in(alloc, matches)? {
+        Ok(calls) => calls,
+        Err(why) => return Ok(Err(why)),
+    };
+    Ok(Ok(RecordingOptions {
+        budget: most,
+        random: start,
+        profile: calls,
+        input: given_text(alloc, matches, INPUT)?,
+        output: given_text(alloc, matches, OUTPUT)?,
+    }))
+}

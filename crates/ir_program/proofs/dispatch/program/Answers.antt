@@ -1,0 +1,12 @@
+use Rattle.std.proofs.Common.{ap, sym}
+use Rattle.ir_files.specs.Writers.{writer_of}
+use Rattle.ir_program.proofs.dispatch.program.Goals as goal
+
+pub returns : goal.returns
+returns g c = record {
+  asked = c.parsed.result;
+  is_asked = c.parsed.ensures;
+  told = writer_of (g.E.Sink.written c.args.faults.now) (g.E.Sink.written c.serve.new.faults) (g.E.Sink.broken c.serve.new.faults);
+  done = c.serve.ensures;
+  no_more = λ other. ap (λ w. writer_of (g.E.Sink.written c.args.faults.now) (g.E.Sink.written w) (g.E.Sink.broken w)) (sym (c.explain.ensures other));
+}

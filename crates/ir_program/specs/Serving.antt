@@ -1,0 +1,22 @@
+-- What the program does by the words of its command line.
+use Rattle.std.specs.Prelude.{◌≡◌, ◌≢◌, ℕ, List, Option}
+use Rattle.clap.specs.Words.{Text}
+use Rattle.ir_arguments.specs.Parsing.{IsAskedBy}
+use Rattle.ir_arguments.specs.Views.{request_of}
+use Rattle.ir_arguments.specs.declared.asked.Asked.{Asked}
+use Rattle.ir_commands.specs.Printing.{Paths}
+use Rattle.ir_commands.specs.Writing.{Storing}
+use Rattle.ir_files.specs.Writers.{Writer}
+use Rattle.ir_files.specs.declared.exit_status.ExitStatus.{ExitStatus}
+use Rattle.ir_files.specs.declared.exit_status.ExitStatus.TheVariants.{Refused}
+use Rattle.ir_program.specs.Doing.{Does}
+
+-- The words, of which the first is the program's name, ask for a request, and it was done: the program ended with this status, had this input left
+-- before, and these took what it wrote. After that standard error may say what a refused image is.
+pub record ServesWords (at : Paths) (stored : Storing) (words : List Text) (answered : ExitStatus) (input : Option (List ℕ)) (out faults : Writer)
+    (unprinted : Type 0) : Type 0 where
+  pub asked : Asked
+  pub is_asked : IsAskedBy words (request_of asked)
+  pub told : Writer
+  pub done : Does at stored asked answered input out told unprinted
+  pub no_more : answered ≢ Refused → told ≡ faults
