@@ -125,6 +125,14 @@ ROWS = [
     ("lost.s --only out", 3, None, "the image is refused"),
     ("lost.img x.trc --until fault --only out", 2, None, "cannot be used with"),
     ("lost.img x.trc --until fault --within checked.img", 2, None, "cannot be used with"),
+    ("lost.img x.trc --only out", 2, None, "--within <OTHER>"),
+    ("lost.img x.trc", 2, None, "--within <OTHER>"),
+    ("lost.img x.trc --within lost.img", 0, "within", ""),
+    ("lost.img x.trc --within checked.img --states 2", 6, "unknown", ""),
+    ("lost.img x.trc --within lost.s", 3, None, "OTHER: the image is refused"),
+    ("lost.img lost.img --within checked.img", 2, None, "lost.img: TRACE would be written over IMAGE"),
+    ("lost.img checked.img --within checked.img", 2, None, "checked.img: TRACE would be written over OTHER"),
+    ("lost.img none/x.trc --within checked.img", 1, "outside 1", "none/x.trc"),
 ]
 
 
@@ -139,6 +147,27 @@ def check_row(folder, row):
         raise Wrong(f"{words}: {ended.stderr!r} lacks {told!r}")
 
 
+def check_recorded(folder, words):
+    """With a trace: the lines are those without it, then those of `ir record`; and the trace is of a run with the first printed outcome."""
+    plain = run(["explore", "fine.img", "--within", "coarse.img", *words], folder).stdout.decode().splitlines()
+    (folder / "first.trc").write_bytes(b"as it was")
+    ended = run(["explore", "fine.img", "first.trc", "--within", "coarse.img", *words], folder)
+    lines = ended.stdout.decode().splitlines()
+    wants(f"status with TRACE {words}", ended.returncode, 5 if plain[-1].startswith("outside") else 0)
+    wants(f"lines with TRACE {words}", lines[:len(plain)], plain)
+    if not plain[-1].startswith("outside"):
+        wants("nothing is recorded", ((folder / "first.trc").read_bytes(), lines), (b"as it was", plain))
+        return
+    first = plain[0].split()
+    again = run(["record", "fine.img", "again.trc", "--order", first[-1], "--budget", "1000000000000"], folder)
+    wants("the trace by the first list", (folder / "first.trc").read_bytes(), (folder / "again.trc").read_bytes())
+    wants("the lines of the recording", lines[len(plain):], again.stdout.decode().splitlines())
+    shown = run(["events", "fine.img", "first.trc"], folder)
+    wants("the run of the trace", shown.returncode, 0)
+    ends = [line.split()[3:6:2] for line in plain[1:] if line.startswith("thread ")][:2]
+    wants("the ends of the threads", [line.split()[3:6:2] for line in lines[len(plain):]], ends)
+
+
 def main():
     parser = parser_of(__doc__)
     parser.add_argument("--pairs", type=int, default=300, help="how many pairs of random guests")
@@ -150,7 +179,10 @@ def main():
         folder = Path(place)
         assembled(folder, "lost", source_of(LOST, 1))
         assembled(folder, "checked", source_of(KEPT, 1))
-        checks = [*(lambda row=row: check_row(folder, row) for row in ROWS), *(lambda: check_pair(folder, chance) for _ in range(asked.pairs))]
+        assembled(folder, "fine", source_of(LOST, 1))
+        assembled(folder, "coarse", source_of(KEPT, 1))
+        recorded = [lambda words=words: check_recorded(folder, words) for words in ([], ["--only", "0"], ["--only", "codes"])]
+        checks = [*(lambda row=row: check_row(folder, row) for row in ROWS), *recorded, *(lambda: check_pair(folder, chance) for _ in range(asked.pairs))]
         for check in checks:
             try:
                 check()

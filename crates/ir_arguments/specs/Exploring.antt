@@ -10,7 +10,7 @@ use Rattle.ir_schedule.specs.Spelling.{condition_of}
 use Rattle.ir_arguments.specs.Asking.{or_nothing, random_in, seconds_in}
 use Rattle.ir_arguments.specs.Conditions.{conditions_in, stale_named}
 use Rattle.ir_arguments.specs.Reading.{◌>>=◌, if_given, last_large, profile_named}
-use Rattle.ir_arguments.specs.Requests.{Classes, Comparison, Compare, Exploration, Explore, Nothing, Parts, Request, Search, SearchFor, ShowClasses}
+use Rattle.ir_arguments.specs.Requests.{Classes, Comparison, Compare, Exploration, Explore, Nothing, Parts, RecordOutside, Request, Search, SearchFor, ShowClasses}
 use Rattle.ir_arguments.specs.Values.{Rows, given, text_for, texts_for}
 
 -- a condition asks for a spent budget
@@ -138,13 +138,17 @@ outcomes_asked explore rows = do
     output = given rows (codes "output");
   })) (given rows (codes "TRACE")) (Explore explore))
 
--- outcomes that another guest doesn't have
+-- outcomes that another guest doesn't have, of which the first is recorded in TRACE, if it is given
+abbrev pub comparison_into : Comparison → Option Text → Request
+comparison_into comparison None = Compare comparison
+comparison_into comparison (Some trace) = RecordOutside (record { comparison = comparison; trace = trace })
+
 abbrev pub comparison_asked : Exploration → Rows → Option Request
-comparison_asked explore rows = option_map (λ parts. Compare (record {
+comparison_asked explore rows = option_map (λ parts. comparison_into (record {
   explore = explore;
   other = text_for rows (codes "within");
   counted = parts;
-})) (parts_given (given rows (codes "only")))
+}) (given rows (codes "TRACE"))) (parts_given (given rows (codes "only")))
 
 -- outcomes by classes
 abbrev pub classes_asked : Exploration → Rows → Option Request

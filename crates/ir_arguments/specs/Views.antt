@@ -3,7 +3,7 @@ use Rattle.std.specs.Prelude.{ℕ, List, Option, map, option_map, String}
 use Rattle.std.specs.String.{string_bytes}
 use Rattle.ir_arguments.specs.Requests.{Exploration, Options, Parts, Request, Session, Assemble, Convert, Record, HuntFor, Shrink, Debug, Gdb}
 use Rattle.ir_arguments.specs.Requests.{ShowCode, ShowTrace, ShowEvents, ShowStale, ShowVersions, ShowReasons, ShowDifference, ShowPicture, Explore}
-use Rattle.ir_arguments.specs.Requests.{SearchFor, ShowClasses, Compare, Help, Nothing, NoMemory}
+use Rattle.ir_arguments.specs.Requests.{SearchFor, ShowClasses, Compare, RecordOutside, Comparison, Help, Nothing, NoMemory}
 use Rattle.ir_arguments.specs.declared.recording.RecordingOptions.{RecordingOptions}
 use Rattle.ir_arguments.specs.declared.asked.Asked.{Asked}
 use Rattle.ir_arguments.specs.declared.asked.Asked.TheVariants as asked
@@ -16,6 +16,7 @@ use Rattle.ir_arguments.specs.declared.asked.Explored.TheVariants as explored
 use Rattle.ir_arguments.specs.declared.explore.ExploreArguments.{ExploreArguments}
 use Rattle.ir_arguments.specs.declared.within.Counted.{Counted}
 use Rattle.ir_arguments.specs.declared.within.Taken as within
+use Rattle.ir_arguments.specs.declared.within.WithinArguments.{WithinArguments}
 use Rattle.ir_arguments.specs.Exploring.{Taken}
 
 abbrev pub options_view : RecordingOptions → Options
@@ -88,14 +89,13 @@ parts_view c = record { outputs = c.outputs; ends = c.ends; objects = option_map
 abbrev pub taken_view : within.Taken → Taken
 taken_view t = record { outputs = t.outputs; ends = t.ends; all = t.all; objects = t.objects.items }
 
+abbrev pub comparison_view : WithinArguments → Comparison
+comparison_view a = record { explore = exploration_view a.explore; other = string_bytes a.other; counted = parts_view a.counted }
+
 abbrev pub explored_request : Explored → Request
 explored_request (explored.Outcomes a) = Explore (exploration_view a)
 explored_request (explored.Classes a) = ShowClasses (record { explore = exploration_view a.explore; counted = parts_view a.counted })
-explored_request (explored.Within a) = Compare (record {
-  explore = exploration_view a.explore;
-  other = string_bytes a.other;
-  counted = parts_view a.counted;
-})
+explored_request (explored.Within a) = Compare (comparison_view a)
 
 abbrev pub request_of : Asked → Request
 request_of asked.Session = Session
@@ -139,6 +139,7 @@ request_of (asked.Until a) = SearchFor (record {
   hang = a.hang;
   output = option_map string_bytes a.output;
 })
+request_of (asked.Outside a) = RecordOutside (record { comparison = comparison_view a.within; trace = string_bytes a.trace })
 request_of (asked.Explore e) = explored_request e
 request_of (asked.Debug a) = Debug (record { image = string_bytes a.image; trace = string_bytes a.trace })
 request_of (asked.Gdb a) = Gdb (record { image = string_bytes a.image; trace = string_bytes a.trace })

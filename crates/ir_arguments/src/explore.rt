@@ -68,6 +68,9 @@ and one of
   within                                         each complete run of IMAGE comes to an outcome of OTHER
   outside M                                      M outcomes of IMAGE aren't any of OTHER's
   unknown                                        a search ended before either was known
+With TRACE too the lines of `ir record` follow after `outside M`: TRACE is of the run by the LIST of the first printed outcome, as
+`ir record IMAGE TRACE --order LIST --budget 1000000000000` writes it, with the same S, FILE and profile. After `within` and `unknown`
+it isn't written.
 PARTS says what of outcomes counts, so that guests with other objects can be compared: `out` what each thread prints, `codes` how it
 ends, `objects` the words of all objects, or a number the words of that object. Without --only all of it counts.
 With --only PARTS and without OTHER outcomes that are the same in PARTS are a class. Of each class only the outcome that is found
@@ -289,7 +292,7 @@ fn trace_arg<'a>(alloc: Global) -> Arg<'a>
     place_arg(
         alloc,
         TRACE,
-        "The file that the trace of the outcome is written to, with --until",
+        "The file that the trace of the outcome is written to, with --until or --within",
     )
 }
 

@@ -14,7 +14,9 @@ use crate::explore::{ExploreArguments, UntilArguments, reach_of};
 use crate::options::{profile_in, random_in};
 use crate::recording::{INPUT, OUTPUT};
 use crate::values::{IMAGE, TRACE, given, given_text, text_of};
-use crate::within::{ClassesArguments, ONLY, WITHIN, WithinArguments, counted_of, other_of};
+use crate::within::{
+    ClassesArguments, ONLY, OutsideArguments, WITHIN, WithinArguments, counted_of, other_of,
+};
 use clap::ArgMatches;
 use std::alloc::{AllocError, Global};
 
@@ -70,11 +72,17 @@ fn within_asked(
     ensures { IfOk result (λ asked. request_of asked ≡ or_nothing (comparison_asked (exploration_view explore) (rows_in matches.now))) }
 {
     match counted_of(alloc, matches)? {
-        Ok(counted) => Ok(Asked::Explore(Explored::Within(WithinArguments {
-            explore,
-            other: other_of(alloc, matches)?,
-            counted,
-        }))),
+        Ok(counted) => {
+            let within = WithinArguments {
+                explore,
+                other: other_of(alloc, matches)?,
+                counted,
+            };
+            match given_text(alloc, matches, TRACE)? {
+                Some(trace) => Ok(Asked::Outside(OutsideArguments { within, trace })),
+                None => Ok(Asked::Explore(Explored::Within(within))),
+            }
+        }
         Err(why) => Ok(Asked::Nothing(why)),
     }
 }

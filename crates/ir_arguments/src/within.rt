@@ -47,6 +47,15 @@ pub struct WithinArguments {
     pub counted: Counted,
 }
 
+/// Which guests are compared, and where a run with the first outcome that is outside goes.
+#[derive(Drop)]
+pub struct OutsideArguments {
+    /// Which guests are compared, and in what.
+    pub within: WithinArguments,
+    /// The file that the trace is written to.
+    pub trace: String,
+}
+
 /// Whose outcomes are told by classes, and in what they are the same.
 #[derive(Drop)]
 pub struct ClassesArguments {

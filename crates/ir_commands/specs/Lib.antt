@@ -5,3 +5,4 @@ pub mod Listing
 pub mod Printing
 pub mod Searching
 pub mod Writing
+pub mod Outside

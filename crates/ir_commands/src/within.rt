@@ -25,7 +25,7 @@ use ir_within::{Aspects, ClassesPlan, WithinPlan, classes_run, within_run};
 use std::alloc::Global;
 
 // What counts of outcomes.
-fn aspects_of(counted: &Counted) -> Aspects<'_>
+pub fn aspects_of(counted: &Counted) -> Aspects<'_>
     ensures { aspects_of result ≡ counted_asked counted.now }
 {
     Aspects {
@@ -90,13 +90,13 @@ fn lacks_counted<E: Sink>(
 
 // The bytes of the images of two guests.
 #[derive(Drop)]
-struct BothFiles {
-    image: Vec<u8>,
-    other: Vec<u8>,
+pub struct BothFiles {
+    pub image: Vec<u8>,
+    pub other: Vec<u8>,
 }
 
 // The images of two guests, as far as their bytes are any.
-fn both_images(alloc: Global, files: &BothFiles) -> (ParsedImage<'_>, ParsedImage<'_>)
+pub fn both_images(alloc: Global, files: &BothFiles) -> (ParsedImage<'_>, ParsedImage<'_>)
     ensures { (result.0 ≡ files.now.image.items) × (result.1 ≡ files.now.other.items) }
 {
     (
@@ -106,7 +106,7 @@ fn both_images(alloc: Global, files: &BothFiles) -> (ParsedImage<'_>, ParsedImag
 }
 
 // The images of the guests in two files; if there are none, the reason is reported.
-fn both_files<D: Folder, E: Sink>(
+pub fn both_files<D: Folder, E: Sink>(
     alloc: Global,
     folder: &D,
     arguments: &WithinArguments,
@@ -122,6 +122,25 @@ fn both_files<D: Folder, E: Sink>(
         image: image_in(alloc, folder, faults, arguments.explore.image.as_str())?,
         other: image_in(alloc, folder, faults, arguments.other.as_str())?,
     })
+}
+
+// Whether one of two guests lacks an object whose words count; that is reported.
+pub fn lacks_either<E: Sink>(
+    alloc: Global,
+    explore: &ExplorePlan<'_>,
+    both: &(ParsedImage<'_>, ParsedImage<'_>),
+    arguments: &WithinArguments,
+    faults: &mut E,
+) -> bool
+    ensures kept { result ≡ false → faults.new ≡ faults.old }
+    ensures told { result ≡ true → E.broken faults.old ≡ false → TellsFault (writer_of (E.written faults.old) (E.written faults.new) (E.broken faults.new)) }
+{
+    let counted = &arguments.counted;
+    let (path, other) = (arguments.explore.image.as_str(), arguments.other.as_str());
+    if lacks_counted(alloc, explore, &both.0, counted, path, faults) {
+        return true;
+    }
+    lacks_counted(alloc, explore, &both.1, counted, other, faults)
 }
 
 // Compares the outcomes of the guests in two files.

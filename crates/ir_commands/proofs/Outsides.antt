@@ -1,0 +1,27 @@
+-- What a comparison that records leaves where nothing is recorded.
+use Rattle.std.proofs.Common.{◌≡◌, ◌⊎◌, inl, inr}
+use Rattle.ir_files.specs.Writers.{Writer}
+use Rattle.ir_files.specs.declared.exit_status.ExitStatus.{ExitStatus}
+use Rattle.ir_record_command.specs.Stopping.{Tellings, Devices, lines_between}
+use Rattle.ir_explore.specs.Until.{recording}
+use Rattle.ir_within.specs.Faults.{Comparison, within_fault_status}
+use Rattle.ir_within.specs.Outside.{StopsOutside}
+use Rattle.ir_within.specs.declared.fault.WithinFault.{WithinFault}
+use Rattle.ir_within.specs.declared.fault.WithinFault.TheVariants as within
+use Rattle.ir_commands.specs.Outside.{TellsInside}
+use Rattle.ir_commands.specs.Searching.{TellsNoSearch}
+use Rattle.ir_commands.specs.Writing.{IsStatusOfNoRecording}
+use Rattle.ir_commands.proofs.Searched.{explore_fault_is, fault_is_no_recording}
+use Rattle.ir_commands.proofs.Stored.{reported_is_told}
+
+-- the status of a fault of a comparison is that of no recording
+within_fault_is : (e : WithinFault) {answered : ExitStatus} → answered ≡ within_fault_status e → IsStatusOfNoRecording answered
+within_fault_is (within.Image e) p = explore_fault_is e p
+within_fault_is (within.Other e) p = explore_fault_is e p
+within_fault_is (within.Unwritten e) p = explore_fault_is e p
+
+pub outside_tells_none : {W P O : Type 0} (d : Tellings W P O) (answered : ExitStatus) (c : Comparison) (old new : Devices W P O) (reports : Writer)
+    {same : Type 0} → StopsOutside d answered c old new reports same → TellsInside c answered (lines_between d old new) ⊎ TellsNoSearch answered reports
+outside_tells_none d answered c old new reports (inl h) = inl (h.3, h.4, h.5)
+outside_tells_none d answered c old new reports (inr (inl h)) = inr (within_fault_is h.0 h.1, (h.5, h.7))
+outside_tells_none d answered c old new reports (inr (inr h)) = inr (fault_is_no_recording h.0 h.1, reported_is_told h.0 c.image _ _ _ reports h.7.0)
