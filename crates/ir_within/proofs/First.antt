@@ -37,7 +37,7 @@ use Rattle.ir_world.specs.Sources.{Source, Gave, given, seed_of, source}
 use Rattle.ir_within.specs.Aspects.{Aspects}
 use Rattle.ir_within.specs.Faults.{Comparison, IsAnswerFor}
 use Rattle.ir_within.specs.Laws.{RecordedIsOutside}
-use Rattle.ir_within.specs.Outside.{IsFirstMark, IsFirstMarked, IsListOfFirst, IsListedAnswer, IsListedFor, IsOutsideAnswer, IsOutsideFor, IsOutsideRecorded, LeadsToOutcome}
+use Rattle.ir_within.specs.Outside.{IsFirstMarked, IsListOfFirst, IsListedAnswer, IsListedFor, IsOutsideAnswer, IsOutsideFor, IsOutsideRecorded, LeadsToOutcome}
 use Rattle.ir_within.specs.Within.{IsCompared, IsWithinAnswer, ending, marked_count, verdict_of, verdict_status}
 use Rattle.ir_within.specs.declared.verdict.Verdict.{Verdict}
 use Rattle.ir_within.specs.declared.verdict.Verdict.TheVariants.{Outside, Unknown}

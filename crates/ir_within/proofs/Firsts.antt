@@ -1,19 +1,16 @@
 -- Classes of outcomes: the first of each, and what it stands for.
-use Rattle.std.proofs.Common.{◌≡◌, ◌∙◌, ◌<◌, ℕ, zero, suc, Bool, true, false, List, [], ◌∷◌, ◌++◌, Some, length, take, length-append, refl, sym, ap, subst, arith, inl, inr}
+use Rattle.std.proofs.Common.{◌≡◌, ◌∙◌, ◌<◌, ℕ, zero, suc, Bool, true, false, List, Some, length, refl, sym, ap, subst, arith, inl, inr}
 use Rattle.std.specs.Prelude.{◌≤◌, slice_get}
 use Rattle.std.proofs.lemmas.Bool.{cases_lt}
 use Rattle.std.proofs.lemmas.Option.{same_Some, slice_get_within}
-use Rattle.ir_lemmas.proofs.CallerLemmas.{element_below_length, slice_get-push_cases, slice_get_append_kept}
+use Rattle.ir_lemmas.proofs.CallerLemmas.{element_below_length}
 use Rattle.ir_flat.specs.Flat.{tables}
-use Rattle.ir_graph.specs.Outcomes.{RunOutcome, run_outcome}
-use Rattle.ir_graph.specs.Setup.{IsCountedOf}
+use Rattle.ir_graph.specs.Outcomes.{run_outcome}
 use Rattle.ir_image.specs.Guest.{Guest}
-use Rattle.ir_outcomes.specs.Explored.{IsOutcomeOf, ShowsState}
+use Rattle.ir_outcomes.specs.Explored.{ShowsState}
 use Rattle.ir_outcomes.specs.Shown.{outcome_by, switches_by}
 use Rattle.ir_outcomes.specs.declared.shown.Shown.{Shown}
-use Rattle.ir_runs.specs.Run.{Step}
 use Rattle.ir_schedule.specs.Conditions.{EndState, end_state}
-use Rattle.ir_search.specs.declared.search.Ended.TheVariants.{Finished}
 use Rattle.ir_state_store.specs.Nodes.{SourcedFlat}
 use Rattle.ir_explore.specs.Plan.{ExplorePlan, setup_of}
 use Rattle.ir_explore.specs.Texts.{Known, AreKnown}
@@ -22,8 +19,8 @@ use Rattle.ir_explore.specs.Faults.{HasNoGuest}
 use Rattle.ir_explore.specs.declared.fault.ExploreFault.{ExploreFault}
 use Rattle.ir_explore.specs.declared.fault.ExploreFault.TheVariants.{Image, TooLarge, NoMem, Write}
 use Rattle.ir_files.specs.Writers.{Writer}
-use Rattle.ir_within.specs.Classes.{AreFirstSeen, AreClasses, HasEarlier, HasNoClasses}
-use Rattle.ir_within.specs.Judging.{AreSeen, HasSame}
+use Rattle.ir_within.specs.Classes.{AreFirstSeen, AreClasses, HasNoClasses}
+use Rattle.ir_within.specs.Judging.{AreSeen}
 use Rattle.ir_within.specs.Laws.{HasFirst, EachClassIsListed, ClassHasFewest}
 use Rattle.ir_within.proofs.Compared.{seen_by_state}
 

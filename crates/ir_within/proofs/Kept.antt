@@ -1,5 +1,5 @@
 -- What counts of outcomes, kept in a set.
-use Rattle.std.proofs.Common.{rules, ◌≡◌, ◌∙◌, ◌&&◌, ◌||◌, ◌==◌, ℕ, zero, suc, Bool, true, false, not, List, [], ◌∷◌, ◌++◌, Some, Option, map, refl, length-append, arith, sym, ap, subst, inl, inr}
+use Rattle.std.proofs.Common.{rules, ◌≡◌, ◌∙◌, ◌||◌, ◌==◌, ℕ, zero, suc, Bool, true, false, List, [], ◌∷◌, ◌++◌, Some, Option, map, refl, length-append, arith, sym, ap, subst, inl, inr}
 use Rattle.std.specs.Prelude.{slice_get, length, ◌<◌, ◌⊎◌, ◌↔◌, if◌then◌else◌}
 use Rattle.std.specs.List.{list_any}
 use Rattle.std.specs.Bool.{Decides}

@@ -1,6 +1,6 @@
 //! The first outcome of a guest that another guest doesn't have.
 
-ghost use Rattle.std.specs.Prelude.{length, option_map, IfOk};
+ghost use Rattle.std.specs.Prelude.{◌≡◌, length, option_map, IfOk};
 ghost use Rattle.std.specs.String.{string_bytes};
 ghost use Rattle.ir_explore.specs.Texts.{known_of};
 ghost use Rattle.ir_within.specs.Outside.{IsFirstMark, IsListOfFirst};

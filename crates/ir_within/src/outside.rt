@@ -39,6 +39,7 @@ fn recording<'a>(plan: &ExplorePlan<'a>, list: &'a str) -> RecordPlan<'a>
 }
 
 // Writes what is known: the list of the first outcome that is outside, or the exit status if none is known to be.
+#[tactic(auto, using(crate::proofs::First::answer_for_listed))]
 fn tell_outside<W: Observer, O: Sink>(
     alloc: Global,
     plan: &WithinPlan<'_, '_, '_, W>,

@@ -203,6 +203,7 @@ pub fn told_about<W: Observer>(
 }
 
 // Writes it; the exit status.
+#[tactic(auto, using(crate::proofs::First::answer_for_listed))]
 fn tell_within<W: Observer, O: Sink>(
     alloc: Global,
     plan: &WithinPlan<'_, '_, '_, W>,

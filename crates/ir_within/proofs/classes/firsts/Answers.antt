@@ -1,7 +1,7 @@
-use Rattle.std.proofs.Common.{◌≡◌, ◌∷◌, [], ◌++◌, List, Some, length, take, sym, ap, ◌∙◌, subst}
+use Rattle.std.proofs.Common.{◌≡◌, ◌∷◌, [], ◌++◌, Some, length, take, sym, ap, ◌∙◌, subst}
 use Rattle.std.proofs.lemmas.List.{take_more}
 use Rattle.std.proofs.lemmas.Option.{slice_get-get_or}
-use Rattle.ir_schedule.specs.Conditions.{EndState, end_state}
+use Rattle.ir_schedule.specs.Conditions.{end_state}
 use Rattle.ir_state_store.specs.Nodes.{SourcedFlat}
 use Rattle.ir_within.specs.Aspects.{what_counts}
 use Rattle.ir_within.specs.Classes.{AreFirstSeen}

@@ -1,4 +1,4 @@
-use Rattle.std.proofs.Common.{map, subst, sym, ap, ◌∙◌, not, false}
+use Rattle.std.proofs.Common.{map, subst, sym, ap, ◌∙◌, not}
 use Rattle.std.specs.Prelude.{List}
 use Rattle.std.specs.List.{list_any}
 use Rattle.indexmap.specs.IndexSet.{insert_key}

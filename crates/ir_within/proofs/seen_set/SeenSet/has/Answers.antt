@@ -1,4 +1,4 @@
-use Rattle.std.proofs.Common.{map, subst, sym, ap, ◌∙◌}
+use Rattle.std.proofs.Common.{subst, sym, ◌∙◌}
 use Rattle.ir_within.specs.Judging.{HasSame}
 use Rattle.ir_within.specs.Seen.{value_of}
 use Rattle.ir_within.specs.contracts.seen.SeenPartialEq.TheImpl as seen_eq
