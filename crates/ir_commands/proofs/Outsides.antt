@@ -8,7 +8,10 @@ use Rattle.ir_within.specs.Faults.{Comparison, within_fault_status}
 use Rattle.ir_within.specs.Outside.{StopsOutside}
 use Rattle.ir_within.specs.declared.fault.WithinFault.{WithinFault}
 use Rattle.ir_within.specs.declared.fault.WithinFault.TheVariants as within
+use Rattle.ir_arguments.specs.declared.within.WithinArguments.{WithinArguments}
+use Rattle.ir_commands.specs.Exploring.{IsStatusOfNoComparison}
 use Rattle.ir_commands.specs.Outside.{TellsInside}
+use Rattle.ir_commands.specs.Printing.{Paths}
 use Rattle.ir_commands.specs.Searching.{TellsNoSearch}
 use Rattle.ir_commands.specs.Writing.{IsStatusOfNoRecording}
 use Rattle.ir_commands.proofs.Searched.{explore_fault_is, fault_is_no_recording}
@@ -19,6 +22,15 @@ within_fault_is : (e : WithinFault) {answered : ExitStatus} → answered ≡ wit
 within_fault_is (within.Image e) p = explore_fault_is e p
 within_fault_is (within.Other e) p = explore_fault_is e p
 within_fault_is (within.Unwritten e) p = explore_fault_is e p
+
+-- nor is a status where two images aren't had
+pub no_comparison_no_recording : (at : Paths) (arguments : WithinArguments) {answered : ExitStatus} → IsStatusOfNoComparison at arguments answered
+    → IsStatusOfNoRecording answered
+no_comparison_no_recording at arguments (inl (inl failed)) = inr (inl failed)
+no_comparison_no_recording at arguments (inl (inr refused)) = inr (inr refused.0)
+no_comparison_no_recording at arguments (inr (inl (inl failed))) = inr (inl failed)
+no_comparison_no_recording at arguments (inr (inl (inr refused))) = inr (inr refused.0)
+no_comparison_no_recording at arguments (inr (inr bad)) = inl bad.0
 
 pub outside_tells_none : {W P O : Type 0} (d : Tellings W P O) (answered : ExitStatus) (c : Comparison) (old new : Devices W P O) (reports : Writer)
     {same : Type 0} → StopsOutside d answered c old new reports same → TellsInside c answered (lines_between d old new) ⊎ TellsNoSearch answered reports
