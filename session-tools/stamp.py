@@ -23,7 +23,7 @@ def crates_of(top):
                 pass
     return {c.name: c for c in known.values()}
 mine = crates_of(clone)
-tops = [clone_ for clone_ in glob.glob("/tmp/rt-copy-*/repo") + ["/tmp/w/gate", "/tmp/w/gate2", "/tmp/w/gate3", "/tmp/w/dev", "/tmp/w/lib"] + glob.glob("/tmp/w/h*") + glob.glob("/tmp/w/main*") + ["/tmp/w/f"] if os.path.isdir(f"{clone_}/crates") and os.path.isfile(f"{clone_}/crates.txt") and os.path.abspath(clone_) != clone]
+tops = [clone_ for clone_ in glob.glob("/tmp/rt-copy-*/repo") + ["/tmp/w/base", "/tmp/w/base2", "/tmp/w/m", "/tmp/w/n", "/tmp/w/me", "/tmp/w/a", "/tmp/w/b", "/tmp/w/c", "/tmp/w/gate", "/tmp/w/gate2", "/tmp/w/gate3", "/tmp/w/dev", "/tmp/w/lib"] + glob.glob("/tmp/w/h*") + glob.glob("/tmp/w/main*") + ["/tmp/w/f"] if os.path.isdir(f"{clone_}/crates") and os.path.isfile(f"{clone_}/crates.txt") and os.path.abspath(clone_) != clone]
 done = []
 for top in tops:
     try: other = crates_of(top)
@@ -36,7 +36,7 @@ for top in tops:
         try:
             if o.stamp() != c.stamp(): continue
             shutil.rmtree(f"{c.folder}/out/rlib", ignore_errors=True)
-            shutil.copytree(f"{o.folder}/out/rlib/{name}.rlib", f"{c.folder}/out/rlib/{name}.rlib")
+            os.makedirs(f"{c.folder}/out/rlib", exist_ok=True); __import__("subprocess").run(["cp", "-al", f"{o.folder}/out/rlib/{name}.rlib", f"{c.folder}/out/rlib/{name}.rlib"], check=True)
             with open(f"{c.folder}/out/rlib/stamp", "w") as f: f.write(c.stamp())
             done.append(name)
         except (OSError, shutil.Error) as e:
