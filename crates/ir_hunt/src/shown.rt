@@ -4,14 +4,14 @@ use ir_schedule::Seeds;
 use ir_world::millis_since;
 use std::time::{Clock, Instant};
 
-/// Erases the terminal's row from the cursor on (EL of ECMA-48).
-pub const ERASED: &str = "\x1b[K";
+/// Erases the terminal's row and goes to its first column (EL of ECMA-48).
+pub const ERASED: &str = "\r\x1b[K";
 
-/// Begins a line that stays in its row: the terminal cuts what is longer at its right edge (mode DECAWM of the VT100, off).
-pub const ROW: &str = "\x1b[K\x1b[?7l";
+/// Erases the row and begins a line that stays in it: the terminal cuts what is longer at its right edge (mode DECAWM of the VT100, off).
+pub const ROW: &str = "\r\x1b[K\x1b[?7l";
 
-/// Ends such a line, and goes back to the row's first column.
-pub const ROW_END: &str = "\x1b[?7h\r";
+/// Ends such a line. The cursor stays behind it, so if Ctrl-C ends the program there, the line stands whole and the shell begins another.
+pub const ROW_END: &str = "\x1b[?7h";
 
 /// What is shown of a hunt on the way, once a second.
 #[derive(Clone, Copy, Debug)]
