@@ -11,9 +11,9 @@ use Rattle.clap.specs.declared.builder.command.Command.TheViews.{out-Command as 
 use Rattle.clap.proofs.SimpleLemmas.{is_false}
 use Rattle.clap.proofs.WalkLemmas.{both}
 use Rattle.ir_arguments.specs.declared.subcommands.Subcommand.{Subcommand}
-use Rattle.ir_arguments.specs.Subcommands.{name_of, subcommands}
+use Rattle.ir_arguments.specs.Subcommands.{subcommand_name, subcommands}
 use Rattle.ir_arguments.specs.Parser.{and_rule, and_rules, app_in, bare_app, ir_app, rules_of, shape_for, with_subcommands, with_version}
-use Rattle.ir_arguments.specs.Parser.{flag, needed_place, needed_repeated, option, option_or, pair, place, repeated}
+use Rattle.ir_arguments.specs.Parser.{flag, needed_place, needed_repeated, option, option_or, pair, place, repeated_option}
 use Rattle.ir_arguments.proofs.Names.{drop_begins}
 
 pub bare_made : (a b c : Command) (name : Text) (about after : Bor Text) → app_of a ≡ new_app name
@@ -41,14 +41,14 @@ rules_in_order app [] = ap (λ rs. record app { top = record app.top { rules = r
 rules_in_order app (rule ∷ rules) = rules_in_order (and_rule app rule) rules
     ∙ ap (λ rs. record app { top = record app.top { rules = rs } }) (append_assoc app.top.rules (rule ∷ []) rules)
 
-shape_made : (c : Command) (s : Subcommand) → app_in c ≡ and_rules (bare_app (name_of s)) (rules_of s) → shape_of c ≡ shape_for s
+shape_made : (c : Command) (s : Subcommand) → app_in c ≡ and_rules (bare_app (subcommand_name s)) (rules_of s) → shape_of c ≡ shape_for s
 unfolding app_in bare_app
-shape_made c s e = ap (λ (a : App). a.top) (e ∙ rules_in_order (new_app (name_of s)) (rules_of s))
+shape_made c s e = ap (λ (a : App). a.top) (e ∙ rules_in_order (new_app (subcommand_name s)) (rules_of s))
 
 no_globals : (c : Command) → (shape_of c).is_plain ≡ true → (fields_of c).has_globals ≡ false
 no_globals c plain = is_false (fields_of c).has_globals (both _ _ (both _ _ (both _ _ plain).1).1).0
 
-shape_added : (old sub new : Command) (s : Subcommand) → AddsSubcommand old sub new → app_in sub ≡ and_rules (bare_app (name_of s)) (rules_of s)
+shape_added : (old sub new : Command) (s : Subcommand) → AddsSubcommand old sub new → app_in sub ≡ and_rules (bare_app (subcommand_name s)) (rules_of s)
     → app_in new ≡ with_subcommand (app_in old) (shape_for s)
 unfolding app_in
 shape_added old sub new s adds e =
@@ -56,7 +56,7 @@ shape_added old sub new s adds e =
     adds.shape (no_globals sub (ap (λ (x : Shape). x.is_plain) shape)) ∙ ap (with_subcommand (app_of old)) shape
 
 pub subcommand_added : (old sub new : Command) (s : Subcommand) (xs : List Subcommand) (i : ℕ) (app : App) → AddsSubcommand old sub new
-    → app_in sub ≡ and_rules (bare_app (name_of s)) (rules_of s) → with_subcommands (app_in old) (drop i xs) ≡ app → i < length xs
+    → app_in sub ≡ and_rules (bare_app (subcommand_name s)) (rules_of s) → with_subcommands (app_in old) (drop i xs) ≡ app → i < length xs
     → s ≡ get_or xs i s → with_subcommands (app_in new) (drop (i + 1) xs) ≡ app
 subcommand_added old sub new s xs i app adds e h l is =
     ap (λ a. with_subcommands a (drop (i + 1) xs)) (shape_added old sub new s adds e)
@@ -77,5 +77,5 @@ program_made (Err e) Q whole bare xs h is all made = h
 
 -- clap's contract gives the matches and the faults of the parser
 pub ir_app_is_simple : is_simple_and_free ir_app ≡ true
-unfolding ir_app with_version bare_app place needed_place option option_or repeated needed_repeated pair flag
+unfolding ir_app with_version bare_app place needed_place option option_or repeated_option needed_repeated pair flag
 ir_app_is_simple = refl

@@ -10,7 +10,7 @@ use Rattle.clap.proofs.WalkLemmas.{both}
 use Rattle.ir_arguments.specs.Parser.{app_in, ir_app}
 use Rattle.ir_arguments.specs.Parsing.{IsAskedBy, IsOrNoMemory, request_at_fault}
 use Rattle.ir_arguments.specs.Requests.{Request}
-use Rattle.ir_arguments.specs.Subcommands.{request_by}
+use Rattle.ir_arguments.specs.Subcommands.{request_by_name}
 use Rattle.ir_arguments.proofs.Apps.{ir_app_is_simple}
 
 pub is_simple_program : (c : Command) → app_in c ≡ ir_app → is_simple_and_free (app_of c) ≡ true
@@ -29,9 +29,9 @@ unfolding app_in
 faults_of_program c words same = ap (λ a. fault_of a words) (sym same)
 
 pub asked_by_matches : (c : Command) (words : List Text) (m : ArgMatches) (asked : Request) → app_in c ≡ ir_app → HasMatchesOf (app_of c) words m
-    → fault_of (app_of c) words ≡ [] → IsOrNoMemory (request_by (subcommand_rows_of m)) asked → IsAskedBy words asked
+    → fault_of (app_of c) words ≡ [] → IsOrNoMemory (request_by_name (subcommand_rows_of m)) asked → IsAskedBy words asked
 asked_by_matches c words m asked same has none h = elim h [
-  | inl is ↦ inr (inl (faults_of_program c words same ∙ none, is ∙ ap request_by (rows_of_program c words m same has)))
+  | inl is ↦ inr (inl (faults_of_program c words same ∙ none, is ∙ ap request_by_name (rows_of_program c words m same has)))
   | inr out ↦ inl out
 ]
 

@@ -8,7 +8,7 @@ use Rattle.clap.specs.declared.builder.arg.Arg.{Arg}
 use Rattle.clap.specs.declared.builder.command.Command.{Command}
 use Rattle.clap.specs.declared.builder.range.ValueRange.{ValueRange}
 use Rattle.clap.specs.declared.builder.texts.Texts.TheVariants.{Many, One}
-use Rattle.ir_arguments.specs.Parser.{IsArgument, and_rule, app_in, flag, needed_place, needed_repeated, option, option_or, pair, place, repeated, rule_in}
+use Rattle.ir_arguments.specs.Parser.{IsArgument, and_rule, app_in, flag, needed_place, needed_repeated, option, option_or, pair, place, repeated_option, rule_in}
 
 pub place_made : (a : Arg) (name help : Bor Text) → rule_of a ≡ new_rule name.now → rule_in (record a { help = Some help }) ≡ place name.now
 unfolding rule_in place
@@ -34,13 +34,13 @@ pub option_or_made : (a : Arg) (name default : Bor Text) → rule_in a ≡ optio
 unfolding rule_in option option_or
 option_or_made a name default e = ap (λ (r : Rule). record r { defaults = default.now ∷ [] }) e
 
-pub repeated_made : (a : Arg) (name : Bor Text) → rule_in a ≡ option name.now → rule_in (record a { action = Some Append }) ≡ repeated name.now
-unfolding rule_in option repeated
+pub repeated_made : (a : Arg) (name : Bor Text) → rule_in a ≡ option name.now → rule_in (record a { action = Some Append }) ≡ repeated_option name.now
+unfolding rule_in option repeated_option
 repeated_made a name e = ap (λ (r : Rule). record r { action = Some Append }) e
 
-pub needed_repeated_made : (a : Arg) (name : Bor Text) → rule_in a ≡ repeated name.now
+pub needed_repeated_made : (a : Arg) (name : Bor Text) → rule_in a ≡ repeated_option name.now
     → rule_in (record a { required = true }) ≡ needed_repeated name.now
-unfolding rule_in repeated needed_repeated
+unfolding rule_in repeated_option needed_repeated
 needed_repeated_made a name e = ap (λ (r : Rule). record r { required = true }) e
 
 pub flag_made : (a : Arg) (name help : Bor Text) → rule_of a ≡ new_rule name.now

@@ -8,7 +8,7 @@ use Rattle.std.proofs.lemmas.List.{drop_all}
 use Rattle.clap.specs.Words.{Text}
 use Rattle.ir_schedule.specs.Spelling.{condition_of}
 use Rattle.ir_arguments.specs.Exploring.{is_of_outcome}
-use Rattle.ir_arguments.specs.Conditions.{asked_also, conditions_in, stale_after, stale_named}
+use Rattle.ir_arguments.specs.Conditions.{asked_also, conditions_given, stale_after, stale_named}
 
 -- the texts behind references
 abbrev pub texts_of : List (Bor Text) → List Text
@@ -46,11 +46,11 @@ with_more texts more = option_map (λ ts. texts ++ ts) more
 
 pub conditions_after_stale : (texts : List (Bor Text)) (i : ℕ) (text : Bor Text) (found : List Text) (wanted : Option (List Text))
     → i < length texts → text ≡ get_or texts i text → is_some (stale_named text.now) ≡ true
-    → with_more found (conditions_in (texts_of (drop i texts))) ≡ wanted → with_more found (conditions_in (texts_of (drop (i + 1) texts))) ≡ wanted
+    → with_more found (conditions_given (texts_of (drop i texts))) ≡ wanted → with_more found (conditions_given (texts_of (drop (i + 1) texts))) ≡ wanted
 conditions_after_stale texts i text found wanted l is stale h =
     let rest = texts_of (drop (i + 1) texts) in
-    let step : conditions_in (text.now ∷ rest) ≡ conditions_in rest = rw stale refl in
-    sym (ap (with_more found) (ap conditions_in (texts_from texts i text l is) ∙ step)) ∙ h
+    let step : conditions_given (text.now ∷ rest) ≡ conditions_given rest = rw stale refl in
+    sym (ap (with_more found) (ap conditions_given (texts_from texts i text l is) ∙ step)) ∙ h
 
 joined_more : (found : List Text) (text : Text) (rest : Option (List Text))
     → with_more found (option_map (λ ts. text ∷ ts) rest) ≡ with_more (found ++ text ∷ []) rest
@@ -60,24 +60,24 @@ joined_more found text (Some ts) = ap (λ us. Some us) (sym (append_assoc found 
 pub conditions_after_text : (texts : List (Bor Text)) (i : ℕ) (text : Bor Text) (found more : List Text) (wanted : Option (List Text))
     → i < length texts → text ≡ get_or texts i text → is_some (stale_named text.now) ≡ false → is_some (condition_of text.now) ≡ true
     → more ≡ found ++ text.now ∷ []
-    → with_more found (conditions_in (texts_of (drop i texts))) ≡ wanted → with_more more (conditions_in (texts_of (drop (i + 1) texts))) ≡ wanted
+    → with_more found (conditions_given (texts_of (drop i texts))) ≡ wanted → with_more more (conditions_given (texts_of (drop (i + 1) texts))) ≡ wanted
 conditions_after_text texts i text found more wanted l is other some new h =
-    let rest = conditions_in (texts_of (drop (i + 1) texts)) in
-    let step : conditions_in (text.now ∷ texts_of (drop (i + 1) texts)) ≡ option_map (λ ts. text.now ∷ ts) rest = rw (other, some) refl in
+    let rest = conditions_given (texts_of (drop (i + 1) texts)) in
+    let step : conditions_given (text.now ∷ texts_of (drop (i + 1) texts)) ≡ option_map (λ ts. text.now ∷ ts) rest = rw (other, some) refl in
     ap (λ m. with_more m rest) new ∙ sym (joined_more found text.now rest)
-    ∙ sym (ap (with_more found) (ap conditions_in (texts_from texts i text l is) ∙ step)) ∙ h
+    ∙ sym (ap (with_more found) (ap conditions_given (texts_from texts i text l is) ∙ step)) ∙ h
 
 pub conditions_fail : (texts : List (Bor Text)) (i : ℕ) (text : Bor Text) (found : List Text) (wanted : Option (List Text))
     → i < length texts → text ≡ get_or texts i text → is_some (stale_named text.now) ≡ false → condition_of text.now ≡ None
-    → with_more found (conditions_in (texts_of (drop i texts))) ≡ wanted → None ≡ wanted
+    → with_more found (conditions_given (texts_of (drop i texts))) ≡ wanted → None ≡ wanted
 conditions_fail texts i text found wanted l is other none h =
-    let step : conditions_in (text.now ∷ texts_of (drop (i + 1) texts)) ≡ None = rw (other, none) refl in
-    sym (ap (with_more found) (ap conditions_in (texts_from texts i text l is) ∙ step)) ∙ h
+    let step : conditions_given (text.now ∷ texts_of (drop (i + 1) texts)) ≡ None = rw (other, none) refl in
+    sym (ap (with_more found) (ap conditions_given (texts_from texts i text l is) ∙ step)) ∙ h
 
 pub conditions_at_end : (texts : List (Bor Text)) (i : ℕ) (found : List Text) (wanted : Option (List Text)) → length texts ≤ i
-    → with_more found (conditions_in (texts_of (drop i texts))) ≡ wanted → Some found ≡ wanted
+    → with_more found (conditions_given (texts_of (drop i texts))) ≡ wanted → Some found ≡ wanted
 conditions_at_end texts i found wanted l h =
-    sym (ap (λ ts. with_more found (conditions_in (texts_of ts))) (drop_all i texts l) ∙ ap (λ ts. Some ts) (append-nil found)) ∙ h
+    sym (ap (λ ts. with_more found (conditions_given (texts_of ts))) (drop_all i texts l) ∙ ap (λ ts. Some ts) (append-nil found)) ∙ h
 
 pub outcomes_after_text : (texts : List (Bor Text)) (i : ℕ) (text : Bor Text) (all : Bool) → i < length texts → text ≡ get_or texts i text
     → is_of_outcome text.now ≡ true → list_all is_of_outcome (texts_of (drop i texts)) ≡ all → list_all is_of_outcome (texts_of (drop (i + 1) texts)) ≡ all

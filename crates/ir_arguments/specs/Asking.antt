@@ -5,12 +5,12 @@ use Rattle.ir_record_command.specs.Numerals.{number_within}
 use Rattle.ir_schedule.specs.declared.way.Way.{Way}
 use Rattle.ir_arguments.specs.declared.record.Chaos.{Chaos}
 use Rattle.ir_arguments.specs.declared.view.Part.{Part}
-use Rattle.ir_arguments.specs.Values.{Rows, given, has_flag, text_for, texts_for}
+use Rattle.ir_arguments.specs.Values.{Rows, first_given, has_flag, text_for, texts_for}
 use Rattle.ir_arguments.specs.Reading.{◌>>=◌, if_given, large_number, large_numbers, last_large, profile_named, seeds_named, small_number, way_named}
-use Rattle.ir_arguments.specs.Conditions.{conditions_in, stale_wanted}
+use Rattle.ir_arguments.specs.Conditions.{conditions_given, stale_wanted}
 use Rattle.ir_arguments.specs.Requests.{Options, Request, Assemble, Convert, Record, HuntFor, Shrink, Debug, Gdb, ShowCode, ShowTrace, ShowEvents}
 use Rattle.ir_arguments.specs.Requests.{ShowStale, ShowVersions, ShowReasons, ShowDifference, ShowPicture, Nothing, Versions, Reasons, Picture}
-use Rattle.ir_arguments.specs.Requests.{Recording, Hunt, Shrinking}
+use Rattle.ir_arguments.specs.Requests.{Recording, SeedHunt, Shrinking}
 
 -- a request, if all texts are read
 abbrev pub or_nothing : Option Request → Request
@@ -22,7 +22,7 @@ abbrev pub assembly_asked : Rows → Request
 assembly_asked rows = Assemble (record {
   source = text_for rows (codes "SOURCE");
   image = text_for rows (codes "IMAGE");
-  map = given rows (codes "map");
+  map = first_given rows (codes "map");
   explain = has_flag rows (codes "explain");
 })
 
@@ -36,7 +36,7 @@ conversion_asked rows = Convert (record {
 
 -- `ir list IMAGE`
 abbrev pub code_asked : Rows → Request
-code_asked rows = ShowCode (record { image = text_for rows (codes "IMAGE"); map = given rows (codes "map") })
+code_asked rows = ShowCode (record { image = text_for rows (codes "IMAGE"); map = first_given rows (codes "map") })
 
 -- `ir debug IMAGE TRACE`
 abbrev pub debug_asked : Rows → Request
@@ -55,12 +55,12 @@ abbrev pub events_asked : Rows → Request
 events_asked rows = ShowEvents (record {
   image = text_for rows (codes "IMAGE");
   trace = text_for rows (codes "TRACE");
-  map = given rows (codes "map");
+  map = first_given rows (codes "map");
 })
 
 -- `ir stale TRACE`
 abbrev pub stale_asked : Rows → Request
-stale_asked rows = ShowStale (record { trace = text_for rows (codes "TRACE"); image = given rows (codes "image") })
+stale_asked rows = ShowStale (record { trace = text_for rows (codes "TRACE"); image = first_given rows (codes "image") })
 
 -- `ir diff FIRST SECOND`
 abbrev pub difference_asked : Rows → Request
@@ -70,14 +70,14 @@ difference_asked rows = ShowDifference (record { first = text_for rows (codes "F
 unfoldable pub versions_in : Rows → Option Versions
 versions_in rows = do
   object ← small_number (text_for rows (codes "O"))
-  version ← if_given small_number (given rows (codes "V"))
-  word ← if_given small_number (given rows (codes "word"))
+  version ← if_given small_number (first_given rows (codes "V"))
+  word ← if_given small_number (first_given rows (codes "word"))
   Some (record {
     trace = text_for rows (codes "TRACE");
     object = object;
     version = version;
     word = word;
-    image = given rows (codes "image");
+    image = first_given rows (codes "image");
   })
 
 abbrev pub versions_asked : Rows → Request
@@ -89,13 +89,13 @@ reasons_in rows = do
   thread ← small_number (text_for rows (codes "T"))
   event ← small_number (text_for rows (codes "E"))
   lines ← small_number (text_for rows (codes "lines"))
-  at ← if_given large_numbers (given rows (codes "at"))
+  at ← if_given large_numbers (first_given rows (codes "at"))
   Some (record {
     trace = text_for rows (codes "TRACE");
     thread = thread;
     event = event;
     lines = lines;
-    image = given rows (codes "image");
+    image = first_given rows (codes "image");
     at = at;
   })
 
@@ -108,19 +108,19 @@ part_of_texts span (thread ∷ event ∷ []) = small_number thread >>= λ t. sma
     Some (Some (record { thread = t; event = e; span = span }))
 part_of_texts span texts = Some None
 
-abbrev pub part_in : Rows → Option (Option Part)
-part_in rows = large_number (text_for rows (codes "span")) >>= λ span. part_of_texts span (texts_for rows (codes "around"))
+abbrev pub part_asked : Rows → Option (Option Part)
+part_asked rows = large_number (text_for rows (codes "span")) >>= λ span. part_of_texts span (texts_for rows (codes "around"))
 
 -- `ir view TRACE`
 unfoldable pub picture_in : Rows → Option Picture
 picture_in rows = do
-  part ← part_in rows
+  part ← part_asked rows
   Some (record {
     trace = text_for rows (codes "TRACE");
     json = has_flag rows (codes "json");
     chrome = has_flag rows (codes "chrome");
     part = part;
-    image = given rows (codes "image");
+    image = first_given rows (codes "image");
   })
 
 abbrev pub picture_asked : Rows → Request
@@ -140,8 +140,8 @@ options_in rows = do
     budget = budget;
     random = random;
     profile = profile;
-    input = given rows (codes "input");
-    output = given rows (codes "output");
+    input = first_given rows (codes "input");
+    output = first_given rows (codes "output");
   })
 
 -- the seed that a text is, and how it chooses
@@ -150,7 +150,7 @@ chaos_by way text = option_map (λ seed. record { seed = seed; way = way }) (lar
 
 -- the seed that gives the order, and how; the way is read though no seed is given
 abbrev pub chaos_in : Rows → Option (Option Chaos)
-chaos_in rows = way_named (text_for rows (codes "by")) >>= λ way. if_given (chaos_by way) (given rows (codes "chaos"))
+chaos_in rows = way_named (text_for rows (codes "by")) >>= λ way. if_given (chaos_by way) (first_given rows (codes "chaos"))
 
 -- `ir record IMAGE TRACE`
 unfoldable pub recording_in : Rows → Option Recording
@@ -160,8 +160,8 @@ recording_in rows = do
   Some (record {
     image = text_for rows (codes "IMAGE");
     trace = text_for rows (codes "TRACE");
-    order = given rows (codes "order");
-    order_file = given rows (codes "order-file");
+    order = first_given rows (codes "order");
+    order_file = first_given rows (codes "order-file");
     chaos = chaos;
     options = options;
     status = has_flag rows (codes "status");
@@ -172,7 +172,7 @@ recording_asked rows = or_nothing (option_map (λ what. Record what) (recording_
 
 -- the seconds that a search may take, if they are given
 abbrev pub seconds_in : Rows → Option (Option ℕ)
-seconds_in rows = if_given (number_within 1 1000000) (given rows (codes "seconds"))
+seconds_in rows = if_given (number_within 1 1000000) (first_given rows (codes "seconds"))
 
 -- the most threads that hunt at once; any number, if none is given
 abbrev pub jobs_given : Option Text → Option ℕ
@@ -181,14 +181,14 @@ jobs_given (Some text) = number_within 1 64 text
 
 -- the threads and the seconds
 abbrev pub bounds_in : Rows → Option (ℕ × Option ℕ)
-bounds_in rows = jobs_given (given rows (codes "jobs")) >>= λ jobs. seconds_in rows >>= λ seconds. Some (jobs, seconds)
+bounds_in rows = jobs_given (first_given rows (codes "jobs")) >>= λ jobs. seconds_in rows >>= λ seconds. Some (jobs, seconds)
 
 -- the conditions, and what is asked of stale writes
 abbrev pub wanted_in : Rows → Option (List Text × Option Bool)
-wanted_in rows = conditions_in (texts_for rows (codes "until")) >>= λ until. stale_wanted (texts_for rows (codes "until")) >>= λ stale. Some (until, stale)
+wanted_in rows = conditions_given (texts_for rows (codes "until")) >>= λ until. stale_wanted (texts_for rows (codes "until")) >>= λ stale. Some (until, stale)
 
 -- `ir hunt IMAGE TRACE`
-unfoldable pub hunt_in : Rows → Option Hunt
+unfoldable pub hunt_in : Rows → Option SeedHunt
 hunt_in rows = do
   options ← options_in rows
   seeds ← seeds_named (text_for rows (codes "seeds"))
@@ -214,7 +214,7 @@ hunt_asked rows = or_nothing (option_map (λ what. HuntFor what) (hunt_in rows))
 -- `ir shrink IMAGE TRACE OUT`
 unfoldable pub shrinking_in : Rows → Option Shrinking
 shrinking_in rows = do
-  until ← conditions_in (texts_for rows (codes "until"))
+  until ← conditions_given (texts_for rows (codes "until"))
   stale ← stale_wanted (texts_for rows (codes "until"))
   seconds ← seconds_in rows
   random ← random_in rows
@@ -226,8 +226,8 @@ shrinking_in rows = do
     stale = stale;
     seconds = seconds;
     random = random;
-    input = given rows (codes "input");
-    output = given rows (codes "output");
+    input = first_given rows (codes "input");
+    output = first_given rows (codes "output");
   })
 
 abbrev pub shrinking_asked : Rows → Request

@@ -34,6 +34,6 @@ abbrev pub with_condition : Text → Option (List Text) → Option (List Text)
 with_condition text rest = if is_some (condition_of text) then option_map (λ texts. text ∷ texts) rest else None
 
 -- the texts that aren't about stale writes, if each is a condition
-abbrev pub conditions_in : List Text → Option (List Text)
-conditions_in [] = Some []
-conditions_in (text ∷ texts) = if is_some (stale_named text) then conditions_in texts else with_condition text (conditions_in texts)
+abbrev pub conditions_given : List Text → Option (List Text)
+conditions_given [] = Some []
+conditions_given (text ∷ texts) = if is_some (stale_named text) then conditions_given texts else with_condition text (conditions_given texts)

@@ -8,10 +8,10 @@ use Rattle.ir_record_command.specs.Numerals.{number_within}
 use Rattle.ir_schedule.specs.Conditions.{Condition, Fact, End, Code, Word, Printed, Fault, Bad, Budget}
 use Rattle.ir_schedule.specs.Spelling.{condition_of}
 use Rattle.ir_arguments.specs.Asking.{or_nothing, random_in, seconds_in}
-use Rattle.ir_arguments.specs.Conditions.{conditions_in, stale_named}
+use Rattle.ir_arguments.specs.Conditions.{conditions_given, stale_named}
 use Rattle.ir_arguments.specs.Reading.{◌>>=◌, if_given, last_large, profile_named}
 use Rattle.ir_arguments.specs.Requests.{Compare, Exploration, Explore, Parts, Request, SearchFor, ShowClasses}
-use Rattle.ir_arguments.specs.Values.{Rows, given, text_for, texts_for}
+use Rattle.ir_arguments.specs.Values.{Rows, first_given, text_for, texts_for}
 
 -- a condition asks for a spent budget
 abbrev pub is_budget : Fact → Bool
@@ -31,8 +31,8 @@ abbrev pub is_of_outcome : Text → Bool
 is_of_outcome text = if is_some (stale_named text) then false else option_map_or (λ condition. not (asks_for_budget condition)) (condition_of text) false
 
 -- the conditions that an outcome has to fulfil, if it can fulfil each
-abbrev pub outcome_conditions : List Text → Option (List Text)
-outcome_conditions texts = if list_all is_of_outcome texts then conditions_in texts else None
+abbrev pub conditions_on_outcome : List Text → Option (List Text)
+conditions_on_outcome texts = if list_all is_of_outcome texts then conditions_given texts else None
 
 -- a run that hangs is asked for
 abbrev pub has_hang : List Text → Bool
@@ -45,7 +45,7 @@ hang_wanted texts = if has_hang texts then (if nat_lt 1 (length texts) then None
 -- the conditions beside a run that hangs are none
 abbrev pub conditions_beside : Bool → List Text → Option (List Text)
 conditions_beside true texts = Some []
-conditions_beside false texts = outcome_conditions texts
+conditions_beside false texts = conditions_on_outcome texts
 
 -- the most switches, if they are bounded
 abbrev pub switches_given : Option Text → Option ℕ
@@ -54,7 +54,7 @@ switches_given (Some text) = number_within 0 1000000 text
 
 -- the most outcomes, if they are bounded
 abbrev pub outcomes_in : Rows → Option (Option ℕ)
-outcomes_in rows = if_given (number_within 1 100000000) (given rows (codes "max"))
+outcomes_in rows = if_given (number_within 1 100000000) (first_given rows (codes "max"))
 
 -- the most seconds and outcomes, if they are bounded
 abbrev pub ends_in : Rows → Option (Option ℕ × Option ℕ)
@@ -65,7 +65,7 @@ unfoldable pub reach_in : Rows → Option (ℕ × ℕ × ℕ × Option ℕ × Op
 reach_in rows = do
   states ← number_within 1 100000000 (text_for rows (codes "states"))
   private ← number_within 1 1000000000000 (text_for rows (codes "private"))
-  switches ← switches_given (given rows (codes "switches"))
+  switches ← switches_given (first_given rows (codes "switches"))
   ends ← ends_in rows
   Some (states, private, switches, ends.0, ends.1)
 
@@ -84,7 +84,7 @@ exploration_in rows = do
     outcomes = reach.4;
     profile = profile;
     random = random;
-    input = given rows (codes "input");
+    input = first_given rows (codes "input");
   })
 
 -- what counts by the parts so far, whether all objects do, and else which
@@ -97,8 +97,8 @@ pub record Taken : Type 0 where
 abbrev pub nothing_taken : Taken
 nothing_taken = record { outputs = false; ends = false; all = false; objects = [] }
 
-abbrev pub with_object : Taken → ℕ → Taken
-with_object taken object = record taken { objects = taken.objects ++ object ∷ [] }
+abbrev pub taken_with_object : Taken → ℕ → Taken
+taken_with_object taken object = record taken { objects = taken.objects ++ object ∷ [] }
 
 -- what counts with a part more, if it is a part
 unfoldable pub with_part : Taken → Text → Option Taken
@@ -106,19 +106,19 @@ with_part taken part =
     if bytes_eq part (codes "out") then Some (record taken { outputs = true }) else
     if bytes_eq part (codes "codes") then Some (record taken { ends = true }) else
     if bytes_eq part (codes "objects") then Some (record taken { all = true }) else
-    option_map (λ object. with_object taken object) (number_within 0 63 part)
+    option_map (λ object. taken_with_object taken object) (number_within 0 63 part)
 
 -- what counts with more parts, if each is a part
 abbrev pub with_parts : Taken → List Text → Option Taken
 with_parts taken [] = Some taken
 with_parts taken (part ∷ parts) = with_part taken part >>= λ more. with_parts more parts
 
-abbrev pub parts_of : Taken → Parts
-parts_of taken = record { outputs = taken.outputs; ends = taken.ends; objects = if taken.all then None else Some taken.objects }
+abbrev pub parts_taken : Taken → Parts
+parts_taken taken = record { outputs = taken.outputs; ends = taken.ends; objects = if taken.all then None else Some taken.objects }
 
 -- what counts by a list of parts with commas between them
 abbrev pub parts_listed : Text → Option Parts
-parts_listed text = option_map parts_of (with_parts nothing_taken (slice_split (λ b. b == 44) text))
+parts_listed text = option_map parts_taken (with_parts nothing_taken (slice_split (λ b. b == 44) text))
 
 -- what counts; all of it, if nothing is given
 abbrev pub parts_given : Option Text → Option Parts
@@ -135,8 +135,8 @@ outcomes_asked explore rows = do
     trace = trace;
     until = until;
     hang = hang;
-    output = given rows (codes "output");
-  })) (given rows (codes "TRACE")) (Explore explore))
+    output = first_given rows (codes "output");
+  })) (first_given rows (codes "TRACE")) (Explore explore))
 
 -- outcomes that another guest doesn't have
 abbrev pub comparison_asked : Exploration → Rows → Option Request
@@ -144,17 +144,17 @@ comparison_asked explore rows = option_map (λ parts. Compare (record {
   explore = explore;
   other = text_for rows (codes "within");
   counted = parts;
-})) (parts_given (given rows (codes "only")))
+})) (parts_given (first_given rows (codes "only")))
 
 -- outcomes by classes
 abbrev pub classes_asked : Exploration → Rows → Option Request
-classes_asked explore rows = option_map (λ parts. ShowClasses (record { explore = explore; counted = parts })) (parts_given (given rows (codes "only")))
+classes_asked explore rows = option_map (λ parts. ShowClasses (record { explore = explore; counted = parts })) (parts_given (first_given rows (codes "only")))
 
 -- a comparison, if another guest is given; or classes, if parts are; or outcomes
 abbrev pub outcomes_or_parts : Exploration → Rows → Option Request
 outcomes_or_parts explore rows =
-    if is_some (given rows (codes "within")) then comparison_asked explore rows else
-    if is_some (given rows (codes "only")) then classes_asked explore rows else outcomes_asked explore rows
+    if is_some (first_given rows (codes "within")) then comparison_asked explore rows else
+    if is_some (first_given rows (codes "only")) then classes_asked explore rows else outcomes_asked explore rows
 
 -- `ir explore IMAGE`
 abbrev pub exploring_asked : Rows → Request

@@ -7,7 +7,7 @@ use Rattle.clap.specs.declared.builder.arg.Arg.{Arg}
 use Rattle.clap.specs.declared.builder.command.Command.{Command}
 use Rattle.ir_arguments.specs.declared.subcommands.Subcommand.{Subcommand}
 use Rattle.ir_arguments.specs.declared.subcommands.Subcommand.TheVariants as sub
-use Rattle.ir_arguments.specs.Subcommands.{name_of, subcommands}
+use Rattle.ir_arguments.specs.Subcommands.{subcommand_name, subcommands}
 
 -- what a parse reads of an argument
 unfoldable pub rule_in : Arg → Rule
@@ -38,8 +38,8 @@ unfoldable pub option_or : Text → Text → Rule
 option_or name value = record (new_rule name) { long = Some name; value_names = 1; defaults = value ∷ [] }
 
 -- one that may be given more than once
-unfoldable pub repeated : Text → Rule
-repeated name = record (new_rule name) { long = Some name; value_names = 1; action = Some Append }
+unfoldable pub repeated_option : Text → Rule
+repeated_option name = record (new_rule name) { long = Some name; value_names = 1; action = Some Append }
 
 -- one that has to be given, and may be given more than once
 unfoldable pub needed_repeated : Text → Rule
@@ -100,7 +100,7 @@ shrink_rules = image_rule ∷ trace_rule ∷ needed_place (codes "OUT") ∷ need
 
 -- `ir explore`
 abbrev pub explore_rules : List Rule
-explore_rules = image_rule ∷ place (codes "TRACE") ∷ repeated (codes "until") ∷ option_or (codes "states") (codes "1000000")
+explore_rules = image_rule ∷ place (codes "TRACE") ∷ repeated_option (codes "until") ∷ option_or (codes "states") (codes "1000000")
     ∷ option (codes "switches") ∷ option_or (codes "private") (codes "1000000") ∷ option (codes "seconds") ∷ option (codes "max")
     ∷ option_or (codes "random") (codes "0") ∷ option_or (codes "profile") (codes "1") ∷ option (codes "input")
     ∷ option (codes "output") ∷ option (codes "within") ∷ option (codes "only") ∷ []
@@ -140,7 +140,7 @@ rules_of sub.View = view_rules
 
 -- a subcommand has no subcommands, and uses no setting that changes how words are read
 abbrev pub shape_for : Subcommand → Shape
-shape_for s = record (new_shape (name_of s)) { rules = rules_of s }
+shape_for s = record (new_shape (subcommand_name s)) { rules = rules_of s }
 
 -- a command that has these subcommands too
 abbrev pub with_subcommands : App → List Subcommand → App

@@ -5,7 +5,7 @@ use Rattle.clap.specs.declared.error.kind.ErrorKind.{ErrorKind}
 use Rattle.clap.specs.declared.error.kind.ErrorKind.TheVariants as kind
 use Rattle.ir_arguments.specs.Parser.{ir_app}
 use Rattle.ir_arguments.specs.Requests.{Request, Help, NoMemory, Nothing}
-use Rattle.ir_arguments.specs.Subcommands.{request_by}
+use Rattle.ir_arguments.specs.Subcommands.{request_by_name}
 
 -- what is asked where clap gives a fault in place of matches: help and the version are texts about the program
 abbrev pub request_at_fault : ErrorKind → Request
@@ -20,7 +20,7 @@ IsOrNoMemory wanted asked = (asked ≡ wanted) ⊎ (asked ≡ NoMemory)
 
 -- clap takes the words, and the subcommand that they name asks for it by its rows
 abbrev pub IsOfMatches : List Text → Request → Type 0
-IsOfMatches words asked = (fault_of ir_app words ≡ []) × (asked ≡ request_by (subcommand_of ir_app words))
+IsOfMatches words asked = (fault_of ir_app words ≡ []) × (asked ≡ request_by_name (subcommand_of ir_app words))
 
 -- clap doesn't take the words, and its fault asks for it
 pub record IsOfFault (words : List Text) (asked : Request) : Type 0 where

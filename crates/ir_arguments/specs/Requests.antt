@@ -26,7 +26,7 @@ pub record Run : Type 0 where
   pub trace : Text
 
 -- an image whose code is listed
-pub record Listing : Type 0 where
+pub record CodeListing : Type 0 where
   pub image : Text
   pub map : Option Text
 
@@ -90,7 +90,7 @@ pub record Recording : Type 0 where
   pub status : Bool
 
 -- seeds of which the first is recorded whose run fulfils conditions
-pub record Hunt : Type 0 where
+pub record SeedHunt : Type 0 where
   pub image : Text
   pub trace : Text
   pub seeds : Seeds
@@ -146,7 +146,7 @@ pub record Classes : Type 0 where
   pub counted : Parts
 
 -- outcomes that another guest doesn't have
-pub record Comparison : Type 0 where
+pub record GuestComparison : Type 0 where
   pub explore : Exploration
   pub other : Text
   pub counted : Parts
@@ -158,11 +158,11 @@ pub data Request : Type 0 where
   Assemble : Assembly → Request
   Convert : Conversion → Request
   Record : Recording → Request
-  HuntFor : Hunt → Request
+  HuntFor : SeedHunt → Request
   Shrink : Shrinking → Request
   Debug : Run → Request
   Gdb : Run → Request
-  ShowCode : Listing → Request
+  ShowCode : CodeListing → Request
   ShowTrace : Text → Request
   ShowEvents : EventListing → Request
   ShowStale : StaleWrites → Request
@@ -173,7 +173,7 @@ pub data Request : Type 0 where
   Explore : Exploration → Request
   SearchFor : Search → Request
   ShowClasses : Classes → Request
-  Compare : Comparison → Request
+  Compare : GuestComparison → Request
   -- a text about the program, which is left open
   Help : Request
   -- nothing that there is, for a reason whose text is left open

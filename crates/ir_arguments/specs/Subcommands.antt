@@ -14,23 +14,23 @@ use Rattle.ir_arguments.specs.Requests.{Nothing, Request, Session}
 use Rattle.ir_arguments.specs.Values.{Rows}
 
 -- the name by which a command line names it
-abbrev pub name_of : Subcommand → Text
-name_of sub.Assemble = codes "asm"
-name_of sub.Elf = codes "elf"
-name_of sub.List = codes "list"
-name_of sub.Record = codes "record"
-name_of sub.Hunt = codes "hunt"
-name_of sub.Shrink = codes "shrink"
-name_of sub.Explore = codes "explore"
-name_of sub.Debug = codes "debug"
-name_of sub.Gdb = codes "gdb"
-name_of sub.Trace = codes "trace"
-name_of sub.Events = codes "events"
-name_of sub.Stale = codes "stale"
-name_of sub.Who = codes "who"
-name_of sub.Why = codes "why"
-name_of sub.Diff = codes "diff"
-name_of sub.View = codes "view"
+abbrev pub subcommand_name : Subcommand → Text
+subcommand_name sub.Assemble = codes "asm"
+subcommand_name sub.Elf = codes "elf"
+subcommand_name sub.List = codes "list"
+subcommand_name sub.Record = codes "record"
+subcommand_name sub.Hunt = codes "hunt"
+subcommand_name sub.Shrink = codes "shrink"
+subcommand_name sub.Explore = codes "explore"
+subcommand_name sub.Debug = codes "debug"
+subcommand_name sub.Gdb = codes "gdb"
+subcommand_name sub.Trace = codes "trace"
+subcommand_name sub.Events = codes "events"
+subcommand_name sub.Stale = codes "stale"
+subcommand_name sub.Who = codes "who"
+subcommand_name sub.Why = codes "why"
+subcommand_name sub.Diff = codes "diff"
+subcommand_name sub.View = codes "view"
 
 -- what its arguments ask for
 abbrev pub asked_by : Subcommand → Rows → Request
@@ -58,7 +58,7 @@ subcommands = sub.Assemble ∷ sub.Elf ∷ sub.List ∷ sub.Record ∷ sub.Hunt 
 
 -- a subcommand has this name
 abbrev pub is_named : Text → Subcommand → Bool
-is_named name s = bytes_eq (name_of s) name
+is_named name s = bytes_eq (subcommand_name s) name
 
 -- the subcommand of a name
 abbrev pub subcommand_named : Text → Option Subcommand
@@ -69,6 +69,6 @@ abbrev pub asked_if_given : Subcommand → Rows → Request
 asked_if_given s rows = if may_be_given s rows then asked_by s rows else Nothing
 
 -- what the subcommand asks for that clap's matches have, by its name and its rows; without one a session
-abbrev pub request_by : Option (Text × Rows) → Request
-request_by None = Session
-request_by (Some used) = option_map_or (λ s. asked_if_given s used.1) (subcommand_named used.0) Session
+abbrev pub request_by_name : Option (Text × Rows) → Request
+request_by_name None = Session
+request_by_name (Some used) = option_map_or (λ s. asked_if_given s used.1) (subcommand_named used.0) Session

@@ -9,12 +9,12 @@ use Rattle.clap.specs.declared.parser.matches.ArgMatches.{ArgMatches}
 abbrev pub Rows : Type 0
 Rows = List Row
 
-abbrev pub rows_in : ArgMatches → Rows
-rows_in matches = rows_of (found_of matches)
+abbrev pub rows_of_matches : ArgMatches → Rows
+rows_of_matches matches = rows_of (found_of matches)
 
 -- the text that is given for an argument, the first of several
-abbrev pub given : Rows → Text → Option Text
-given rows id = first_of id rows
+abbrev pub first_given : Rows → Text → Option Text
+first_given rows id = first_of id rows
 
 -- the same, empty where none is given
 abbrev pub text_for : Rows → Text → Text
@@ -29,6 +29,6 @@ abbrev pub has_flag : Rows → Text → Bool
 has_flag rows id = option_map_or (λ value. bytes_eq value (codes "true")) (first_of id rows) false
 
 -- what was read, seen by a function, or nothing where a text says what is wrong
-abbrev pub seen : {T S E : Type 0} → (T → S) → Result T E → Option S
-seen view (Ok value) = Some (view value)
-seen view (Err why) = None
+abbrev pub value_read : {T S E : Type 0} → (T → S) → Result T E → Option S
+value_read view (Ok value) = Some (view value)
+value_read view (Err why) = None

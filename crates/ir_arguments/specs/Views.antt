@@ -97,10 +97,10 @@ explored_request (explored.Within a) = Compare (record {
   counted = parts_view a.counted;
 })
 
-abbrev pub request_of : Asked → Request
-request_of asked.Session = Session
-request_of (asked.Make m) = make_request m
-request_of (asked.Record a) = Record (record {
+abbrev pub request_view : Asked → Request
+request_view asked.Session = Session
+request_view (asked.Make m) = make_request m
+request_view (asked.Record a) = Record (record {
   image = string_bytes a.image;
   trace = string_bytes a.trace;
   order = option_map string_bytes a.order;
@@ -109,7 +109,7 @@ request_of (asked.Record a) = Record (record {
   options = options_view a.options;
   status = a.status;
 })
-request_of (asked.Hunt a) = HuntFor (record {
+request_view (asked.Hunt a) = HuntFor (record {
   image = string_bytes a.image;
   trace = string_bytes a.trace;
   seeds = a.seeds;
@@ -121,7 +121,7 @@ request_of (asked.Hunt a) = HuntFor (record {
   shrinks = a.shrinks;
   options = options_view a.options;
 })
-request_of (asked.Shrink a) = Shrink (record {
+request_view (asked.Shrink a) = Shrink (record {
   image = string_bytes a.image;
   trace = string_bytes a.trace;
   out = string_bytes a.out;
@@ -132,17 +132,17 @@ request_of (asked.Shrink a) = Shrink (record {
   input = option_map string_bytes a.input;
   output = option_map string_bytes a.output;
 })
-request_of (asked.Until a) = SearchFor (record {
+request_view (asked.Until a) = SearchFor (record {
   explore = exploration_view a.explore;
   trace = string_bytes a.trace;
   until = a.until.items;
   hang = a.hang;
   output = option_map string_bytes a.output;
 })
-request_of (asked.Explore e) = explored_request e
-request_of (asked.Debug a) = Debug (record { image = string_bytes a.image; trace = string_bytes a.trace })
-request_of (asked.Gdb a) = Gdb (record { image = string_bytes a.image; trace = string_bytes a.trace })
-request_of (asked.Print p) = print_request p
-request_of (asked.Help text) = Help
-request_of (asked.Nothing why) = Nothing
-request_of asked.NoMem = NoMemory
+request_view (asked.Explore e) = explored_request e
+request_view (asked.Debug a) = Debug (record { image = string_bytes a.image; trace = string_bytes a.trace })
+request_view (asked.Gdb a) = Gdb (record { image = string_bytes a.image; trace = string_bytes a.trace })
+request_view (asked.Print p) = print_request p
+request_view (asked.Help text) = Help
+request_view (asked.Nothing why) = Nothing
+request_view asked.NoMem = NoMemory

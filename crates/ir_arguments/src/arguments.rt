@@ -5,9 +5,9 @@ ghost use Rattle.std.specs.String.{string_bytes};
 ghost use Rattle.clap.specs.Words.{kind_of, subcommand_rows_of};
 ghost use Rattle.ir_arguments.specs.Parser.{app_in, bare_app, ir_app, with_version};
 ghost use Rattle.ir_arguments.specs.Parsing.{IsAskedBy, IsOrNoMemory, request_at_fault};
-ghost use Rattle.ir_arguments.specs.Subcommands.{request_by};
-ghost use Rattle.ir_arguments.specs.Values.{rows_in};
-ghost use Rattle.ir_arguments.specs.Views.{request_of};
+ghost use Rattle.ir_arguments.specs.Subcommands.{request_by_name};
+ghost use Rattle.ir_arguments.specs.Values.{rows_of_matches};
+ghost use Rattle.ir_arguments.specs.Views.{request_view};
 
 use crate::asked::Asked;
 use crate::subcommands::{SUBCOMMANDS, subcommand_named, with_subcommands};
@@ -108,7 +108,7 @@ fn push_hint(alloc: Global, line: &mut String, word: &str) -> Result<(), AllocEr
 
 // What an error says, with the help that it asks for, or why nothing is asked.
 fn asked_for(alloc: Global, error: &Error, arguments: &[String]) -> Result<Asked, AllocError>
-    ensures { kind_of error.now ≢ ErrorKind.OutOfMemory → IfOk result (λ asked. request_of asked ≡ request_at_fault (kind_of error.now)) }
+    ensures { kind_of error.now ≢ ErrorKind.OutOfMemory → IfOk result (λ asked. request_view asked ≡ request_at_fault (kind_of error.now)) }
 {
     if !error.use_stderr() {
         return Ok(Asked::Help(error.to_string(alloc)?));
@@ -124,14 +124,14 @@ fn asked_for(alloc: Global, error: &Error, arguments: &[String]) -> Result<Asked
 
 // The name of the subcommand that is used, and its matches.
 fn subcommand_used<'m, 'a>(matches: &'m ArgMatches<'a>) -> Option<(&'a str, &'m ArgMatches<'a>)>
-    ensures { option_map (λ p. (p.0.now, rows_in p.1.now)) result ≡ subcommand_rows_of matches.now }
+    ensures { option_map (λ p. (p.0.now, rows_of_matches p.1.now)) result ≡ subcommand_rows_of matches.now }
 {
     matches.subcommand()
 }
 
 // What the arguments of the subcommand ask for; without one a session.
 fn by_subcommand(alloc: Global, matches: &ArgMatches<'_>) -> Result<Asked, AllocError>
-    ensures { IfOk result (λ asked. request_of asked ≡ request_by (subcommand_rows_of matches.now)) }
+    ensures { IfOk result (λ asked. request_view asked ≡ request_by_name (subcommand_rows_of matches.now)) }
 {
     let Some((name, matches)) = subcommand_used(matches) else {
         return Ok(Asked::Session);
@@ -144,7 +144,7 @@ fn by_subcommand(alloc: Global, matches: &ArgMatches<'_>) -> Result<Asked, Alloc
 
 // What an error asks for.
 fn by_fault(alloc: Global, error: &Error, arguments: &[String]) -> Asked
-    ensures { IsOrNoMemory (request_at_fault (kind_of error.now)) (request_of result) }
+    ensures { IsOrNoMemory (request_at_fault (kind_of error.now)) (request_view result) }
 {
     if error.kind() == ErrorKind::OutOfMemory {
         return Asked::NoMem;
@@ -157,7 +157,7 @@ fn by_fault(alloc: Global, error: &Error, arguments: &[String]) -> Asked
 
 // What matches ask for.
 fn by_matches(alloc: Global, matches: &ArgMatches<'_>) -> Asked
-    ensures { IsOrNoMemory (request_by (subcommand_rows_of matches.now)) (request_of result) }
+    ensures { IsOrNoMemory (request_by_name (subcommand_rows_of matches.now)) (request_view result) }
 {
     match by_subcommand(alloc, matches) {
         Ok(asked) => asked,
@@ -167,7 +167,7 @@ fn by_matches(alloc: Global, matches: &ArgMatches<'_>) -> Asked
 
 /// What the arguments ask for, of which the first is the program's name.
 pub fn parsed(alloc: Global, arguments: &[String]) -> Asked
-    ensures { IsAskedBy (map string_bytes arguments.now) (request_of result) }
+    ensures { IsAskedBy (map string_bytes arguments.now) (request_view result) }
 {
     let Ok(command) = command(alloc) else {
         return Asked::NoMem;

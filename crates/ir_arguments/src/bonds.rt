@@ -5,7 +5,7 @@ ghost use Rattle.std.specs.List.{list_all};
 ghost use Rattle.std.specs.Option.{is_none};
 ghost use Rattle.clap.specs.Takes.{is_given};
 ghost use Rattle.ir_arguments.specs.Bonds.{is_obeyed, rule_by};
-ghost use Rattle.ir_arguments.specs.Values.{rows_in};
+ghost use Rattle.ir_arguments.specs.Values.{rows_of_matches};
 
 use clap::ArgMatches;
 use clap::parser::ValueSource;
@@ -32,7 +32,7 @@ pub enum Bond<'a> {
 // Whether an argument is given, and not by its default.
 #[tactic(auto, using(crate::proofs::Obeyed::not_given_by_default, crate::proofs::Obeyed::given_by_words, crate::proofs::Obeyed::given_by_entry))]
 fn is_given(matches: &ArgMatches<'_>, name: &str) -> bool
-    ensures { result ≡ is_given name.now (rows_in matches.now) }
+    ensures { result ≡ is_given name.now (rows_of_matches matches.now) }
 {
     match matches.value_source(name) {
         Some(ValueSource::DefaultValue) => false,
@@ -43,7 +43,7 @@ fn is_given(matches: &ArgMatches<'_>, name: &str) -> bool
 
 // Whether the arguments that are given obey the rule.
 fn is_obeyed(matches: &ArgMatches<'_>, bond: Bond<'_>) -> bool
-    ensures { result ≡ is_obeyed (rows_in matches.now) (rule_by bond.entry) }
+    ensures { result ≡ is_obeyed (rows_of_matches matches.now) (rule_by bond.entry) }
 {
     match bond {
         Bond::Excludes(one, other) => {
@@ -65,7 +65,7 @@ fn is_obeyed(matches: &ArgMatches<'_>, bond: Bond<'_>) -> bool
 // Whether the arguments that are given obey all rules.
 #[tactic(auto, using(crate::proofs::Obeyed::obeyed_so_far, crate::proofs::Obeyed::obeyed_not, crate::proofs::Obeyed::obeyed_at_end))]
 fn all_obeyed(matches: &ArgMatches<'_>, bonds: &[Bond<'_>]) -> bool
-    ensures { result ≡ list_all (is_obeyed (rows_in matches.now)) (map rule_by bonds.now) }
+    ensures { result ≡ list_all (is_obeyed (rows_of_matches matches.now)) (map rule_by bonds.now) }
 {
     'bonds: for &bond in bonds {
         if !is_obeyed(matches, bond) {
@@ -218,7 +218,7 @@ pub fn broken(
     matches: &ArgMatches<'_>,
     bonds: &[Bond<'_>],
 ) -> Result<Option<String>, AllocError>
-    ensures { IfOk result (λ why. is_none why ≡ list_all (is_obeyed (rows_in matches.now)) (map rule_by bonds.now)) }
+    ensures { IfOk result (λ why. is_none why ≡ list_all (is_obeyed (rows_of_matches matches.now)) (map rule_by bonds.now)) }
 {
     if all_obeyed(matches, bonds) {
         return Ok(None);

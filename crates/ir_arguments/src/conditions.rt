@@ -7,9 +7,9 @@ ghost use Rattle.std.specs.Option.{is_none};
 ghost use Rattle.std.specs.Str.{bytes_eq};
 ghost use Rattle.ir_schedule.specs.Conditions.{as_condition, as_fact};
 ghost use Rattle.ir_schedule.specs.Spelling.{marks};
-ghost use Rattle.ir_arguments.specs.Conditions.{asked_also, conditions_in, stale_after, stale_named, stale_wanted};
-ghost use Rattle.ir_arguments.specs.Exploring.{asks_for_budget, hang_wanted, is_budget, is_of_outcome, outcome_conditions};
-ghost use Rattle.ir_arguments.specs.Values.{rows_in, texts_for};
+ghost use Rattle.ir_arguments.specs.Conditions.{asked_also, conditions_given, stale_after, stale_named, stale_wanted};
+ghost use Rattle.ir_arguments.specs.Exploring.{asks_for_budget, hang_wanted, is_budget, is_of_outcome, conditions_on_outcome};
+ghost use Rattle.ir_arguments.specs.Values.{rows_of_matches, texts_for};
 
 use crate::condition_text::ConditionText;
 use crate::values::{UNTIL, texts_for};
@@ -86,7 +86,7 @@ pub fn stale_by(
     alloc: Global,
     matches: &ArgMatches<'_>,
 ) -> Result<Result<Option<bool>, String>, AllocError>
-    ensures { IfOk result (λ read. result_ok read ≡ stale_wanted (texts_for (rows_in matches.now) (codes "until"))) }
+    ensures { IfOk result (λ read. result_ok read ≡ stale_wanted (texts_for (rows_of_matches matches.now) (codes "until"))) }
 {
     match stale_wanted(texts_for(matches, UNTIL)) {
         Some(asked) => Ok(Ok(asked)),
@@ -114,7 +114,7 @@ fn conditions_in(
     alloc: Global,
     texts: &[&str],
 ) -> Result<Result<Vec<ConditionText>, String>, AllocError>
-    ensures { IfOk result (λ read. option_map (λ v. v.items) (result_ok read) ≡ conditions_in (map (λ s. s.now) texts.now)) }
+    ensures { IfOk result (λ read. option_map (λ v. v.items) (result_ok read) ≡ conditions_given (map (λ s. s.now) texts.now)) }
 {
     let mut conditions = Vec::new(alloc);
     'texts: for text in texts {
@@ -134,7 +134,7 @@ pub fn conditions_of(
     alloc: Global,
     matches: &ArgMatches<'_>,
 ) -> Result<Result<Vec<ConditionText>, String>, AllocError>
-    ensures { IfOk result (λ read. option_map (λ v. v.items) (result_ok read) ≡ conditions_in (texts_for (rows_in matches.now) (codes "until"))) }
+    ensures { IfOk result (λ read. option_map (λ v. v.items) (result_ok read) ≡ conditions_given (texts_for (rows_of_matches matches.now) (codes "until"))) }
 {
     conditions_in(alloc, texts_for(matches, UNTIL))
 }
@@ -197,7 +197,7 @@ fn hang_wanted(texts: &[&str]) -> Option<bool>
 
 /// Whether a run that hangs is asked for, or that this excludes other conditions.
 pub fn hang_by(alloc: Global, matches: &ArgMatches<'_>) -> Result<Result<bool, String>, AllocError>
-    ensures { IfOk result (λ read. result_ok read ≡ hang_wanted (texts_for (rows_in matches.now) (codes "until"))) }
+    ensures { IfOk result (λ read. result_ok read ≡ hang_wanted (texts_for (rows_of_matches matches.now) (codes "until"))) }
 {
     match hang_wanted(texts_for(matches, UNTIL)) {
         Some(hang) => Ok(Ok(hang)),
@@ -245,7 +245,7 @@ pub fn outcome_conditions_of(
     alloc: Global,
     matches: &ArgMatches<'_>,
 ) -> Result<Result<Vec<ConditionText>, String>, AllocError>
-    ensures { IfOk result (λ read. option_map (λ v. v.items) (result_ok read) ≡ outcome_conditions (texts_for (rows_in matches.now) (codes "until"))) }
+    ensures { IfOk result (λ read. option_map (λ v. v.items) (result_ok read) ≡ conditions_on_outcome (texts_for (rows_of_matches matches.now) (codes "until"))) }
 {
     match first_wrong(alloc, texts_for(matches, UNTIL))? {
         Some(why) => Ok(Err(why)),

@@ -2,8 +2,8 @@
 
 ghost use Rattle.std.specs.Prelude.{◌≡◌, IfOk, codes};
 ghost use Rattle.ir_arguments.specs.Asking.{events_asked};
-ghost use Rattle.ir_arguments.specs.Values.{rows_in};
-ghost use Rattle.ir_arguments.specs.Views.{request_of};
+ghost use Rattle.ir_arguments.specs.Values.{rows_of_matches};
+ghost use Rattle.ir_arguments.specs.Views.{request_view};
 ghost use Rattle.ir_arguments.specs.Parser.{and_rules, app_in, rules_of};
 ghost use Rattle.ir_arguments.specs.declared.subcommands.Subcommand.TheVariants as sub;
 
@@ -59,7 +59,7 @@ pub fn with_arguments<'a>(alloc: Global, command: Command<'a>) -> Result<Command
 
 /// What its arguments ask for.
 pub fn asked(alloc: Global, matches: &ArgMatches<'_>) -> Result<Asked, AllocError>
-    ensures { IfOk result (λ asked. request_of asked ≡ events_asked (rows_in matches.now)) }
+    ensures { IfOk result (λ asked. request_view asked ≡ events_asked (rows_of_matches matches.now)) }
 {
     Ok(Asked::Print(Print::Events(EventsArguments {
         image: text_of(alloc, matches, IMAGE)?,

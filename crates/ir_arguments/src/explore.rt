@@ -5,8 +5,8 @@ ghost use Rattle.std.specs.Result.{result_ok};
 ghost use Rattle.ir_record_command.specs.Numerals.{number_within};
 ghost use Rattle.ir_arguments.specs.Asking.{seconds_in};
 ghost use Rattle.ir_arguments.specs.Exploring.{ends_in, outcomes_in, reach_in, switches_given};
-ghost use Rattle.ir_arguments.specs.Values.{rows_in, given, text_for};
-ghost use Rattle.ir_arguments.specs.Parser.{IsArgument, and_rules, app_in, option, option_or, place, repeated, rules_of};
+ghost use Rattle.ir_arguments.specs.Values.{rows_of_matches, first_given, text_for};
+ghost use Rattle.ir_arguments.specs.Parser.{IsArgument, and_rules, app_in, option, option_or, place, repeated_option, rules_of};
 ghost use Rattle.ir_arguments.specs.declared.subcommands.Subcommand.TheVariants as sub;
 
 use crate::bonds::{Bond, Named};
@@ -160,7 +160,7 @@ pub struct UntilArguments {
 }
 
 fn until_arg<'a>(alloc: Global) -> Arg<'a>
-    ensures { IsArgument result (repeated (codes "until")) }
+    ensures { IsArgument result (repeated_option (codes "until")) }
 {
     repeated_arg(
         alloc,
@@ -301,7 +301,7 @@ fn number_in_option(
     least: u64,
     most: u64,
 ) -> Result<Result<u64, String>, AllocError>
-    ensures value { IfOk result (λ read. result_ok read ≡ number_within least most (text_for (rows_in matches.now) option.now)) }
+    ensures value { IfOk result (λ read. result_ok read ≡ number_within least most (text_for (rows_of_matches matches.now) option.now)) }
     ensures within { IfOk result (λ read. IfOk read (λ number. (least ≤ number) × (number ≤ most))) }
 {
     let value = text_for(matches, option);
@@ -315,7 +315,7 @@ fn number_in_option(
 
 // The most switches that are asked for, if any are.
 fn switches_of(alloc: Global, matches: &ArgMatches<'_>) -> Result<Result<usize, String>, AllocError>
-    ensures { IfOk result (λ read. result_ok read ≡ switches_given (given (rows_in matches.now) (codes "switches"))) }
+    ensures { IfOk result (λ read. result_ok read ≡ switches_given (first_given (rows_of_matches matches.now) (codes "switches"))) }
 {
     if given(matches, SWITCHES).is_none() {
         return Ok(Ok(usize::MAX));
@@ -331,7 +331,7 @@ fn seconds_of(
     alloc: Global,
     matches: &ArgMatches<'_>,
 ) -> Result<Result<Option<u32>, String>, AllocError>
-    ensures { IfOk result (λ read. result_ok read ≡ seconds_in (rows_in matches.now)) }
+    ensures { IfOk result (λ read. result_ok read ≡ seconds_in (rows_of_matches matches.now)) }
 {
     if given(matches, SECONDS).is_none() {
         return Ok(Ok(None));
@@ -347,7 +347,7 @@ fn outcomes_of(
     alloc: Global,
     matches: &ArgMatches<'_>,
 ) -> Result<Result<Option<usize>, String>, AllocError>
-    ensures { IfOk result (λ read. result_ok read ≡ outcomes_in (rows_in matches.now)) }
+    ensures { IfOk result (λ read. result_ok read ≡ outcomes_in (rows_of_matches matches.now)) }
 {
     if given(matches, MAX).is_none() {
         return Ok(Ok(None));
@@ -363,7 +363,7 @@ fn ends_of(
     alloc: Global,
     matches: &ArgMatches<'_>,
 ) -> Result<Result<(Option<u32>, Option<usize>), String>, AllocError>
-    ensures { IfOk result (λ read. result_ok read ≡ ends_in (rows_in matches.now)) }
+    ensures { IfOk result (λ read. result_ok read ≡ ends_in (rows_of_matches matches.now)) }
 {
     let seconds = match seconds_of(alloc, matches)? {
         Ok(seconds) => seconds,
@@ -381,7 +381,7 @@ pub fn reach_of(
     alloc: Global,
     matches: &ArgMatches<'_>,
 ) -> Result<Result<Reach, String>, AllocError>
-    ensures { IfOk result (λ read. option_map (λ r. (r.states, r.private, r.switches, r.seconds, r.outcomes)) (result_ok read) ≡ reach_in (rows_in matches.now)) }
+    ensures { IfOk result (λ read. option_map (λ r. (r.states, r.private, r.switches, r.seconds, r.outcomes)) (result_ok read) ≡ reach_in (rows_of_matches matches.now)) }
 {
     let states = match number_in_option(alloc, matches, STATES, 1, MOST_STATES)? {
         Ok(states) => states,

@@ -4,8 +4,8 @@ ghost use Rattle.std.specs.Prelude.{◌≡◌, codes, map, option_map, IfOk};
 ghost use Rattle.std.specs.Result.{result_ok};
 ghost use Rattle.ir_arguments.specs.Asking.{or_nothing};
 ghost use Rattle.ir_arguments.specs.Exploring.{comparison_asked, classes_asked, conditions_beside, exploration_in, exploring_asked, outcomes_asked};
-ghost use Rattle.ir_arguments.specs.Values.{rows_in, texts_for};
-ghost use Rattle.ir_arguments.specs.Views.{exploration_view, request_of};
+ghost use Rattle.ir_arguments.specs.Values.{rows_of_matches, texts_for};
+ghost use Rattle.ir_arguments.specs.Views.{exploration_view, request_view};
 
 use crate::asked::{Asked, Explored};
 use crate::condition_text::ConditionText;
@@ -24,7 +24,7 @@ fn arguments_of(
     alloc: Global,
     matches: &ArgMatches<'_>,
 ) -> Result<Result<ExploreArguments, String>, AllocError>
-    ensures { IfOk result (λ read. option_map exploration_view (result_ok read) ≡ exploration_in (rows_in matches.now)) }
+    ensures { IfOk result (λ read. option_map exploration_view (result_ok read) ≡ exploration_in (rows_of_matches matches.now)) }
 {
     let reach = match reach_of(alloc, matches)? {
         Ok(reach) => reach,
@@ -53,7 +53,7 @@ fn conditions_besides(
     matches: &ArgMatches<'_>,
     hang: bool,
 ) -> Result<Result<Vec<ConditionText>, String>, AllocError>
-    ensures { IfOk result (λ read. option_map (λ v. v.items) (result_ok read) ≡ conditions_beside hang (texts_for (rows_in matches.now) (codes "until"))) }
+    ensures { IfOk result (λ read. option_map (λ v. v.items) (result_ok read) ≡ conditions_beside hang (texts_for (rows_of_matches matches.now) (codes "until"))) }
 {
     if hang {
         return Ok(Ok(Vec::new(alloc)));
@@ -67,7 +67,7 @@ fn within_asked(
     matches: &ArgMatches<'_>,
     explore: ExploreArguments,
 ) -> Result<Asked, AllocError>
-    ensures { IfOk result (λ asked. request_of asked ≡ or_nothing (comparison_asked (exploration_view explore) (rows_in matches.now))) }
+    ensures { IfOk result (λ asked. request_view asked ≡ or_nothing (comparison_asked (exploration_view explore) (rows_of_matches matches.now))) }
 {
     match counted_of(alloc, matches)? {
         Ok(counted) => Ok(Asked::Explore(Explored::Within(WithinArguments {
@@ -85,7 +85,7 @@ fn classes_asked(
     matches: &ArgMatches<'_>,
     explore: ExploreArguments,
 ) -> Result<Asked, AllocError>
-    ensures { IfOk result (λ asked. request_of asked ≡ or_nothing (classes_asked (exploration_view explore) (rows_in matches.now))) }
+    ensures { IfOk result (λ asked. request_view asked ≡ or_nothing (classes_asked (exploration_view explore) (rows_of_matches matches.now))) }
 {
     match counted_of(alloc, matches)? {
         Ok(counted) => Ok(Asked::Explore(Explored::Classes(ClassesArguments { explore, counted }))),
@@ -100,7 +100,7 @@ fn outcomes_asked(
     matches: &ArgMatches<'_>,
     explore: ExploreArguments,
 ) -> Result<Asked, AllocError>
-    ensures { IfOk result (λ asked. request_of asked ≡ or_nothing (outcomes_asked (exploration_view explore) (rows_in matches.now))) }
+    ensures { IfOk result (λ asked. request_view asked ≡ or_nothing (outcomes_asked (exploration_view explore) (rows_of_matches matches.now))) }
 {
     let hang = match hang_by(alloc, matches)? {
         Ok(hang) => hang,
@@ -124,7 +124,7 @@ fn outcomes_asked(
 
 /// What its arguments ask for.
 pub fn asked(alloc: Global, matches: &ArgMatches<'_>) -> Result<Asked, AllocError>
-    ensures { IfOk result (λ asked. request_of asked ≡ exploring_asked (rows_in matches.now)) }
+    ensures { IfOk result (λ asked. request_view asked ≡ exploring_asked (rows_of_matches matches.now)) }
 {
     let explore = match arguments_of(alloc, matches)? {
         Ok(explore) => explore,

@@ -1,7 +1,7 @@
 //! The forms of arguments: places, options and flags.
 
 ghost use Rattle.std.specs.Prelude.{◌≡◌, false, IfOk};
-ghost use Rattle.ir_arguments.specs.Parser.{IsArgument, and_rule, app_in, flag, needed_repeated, option, option_or, place, repeated, rule_in};
+ghost use Rattle.ir_arguments.specs.Parser.{IsArgument, and_rule, app_in, flag, needed_repeated, option, option_or, place, repeated_option, rule_in};
 
 use clap::{Arg, ArgAction, Command};
 use std::alloc::{AllocError, Global};
@@ -41,7 +41,7 @@ pub fn option_or_arg<'a>(
 /// An option that may be given more than once.
 #[tactic(auto, using(crate::proofs::Rules::repeated_made))]
 pub fn repeated_arg<'a>(alloc: Global, name: &'a str, value: &'a str, help: &'a str) -> Arg<'a>
-    ensures { IsArgument result (repeated name.now) }
+    ensures { IsArgument result (repeated_option name.now) }
 {
     option_arg(alloc, name, value, help).action(ArgAction::Append)
 }

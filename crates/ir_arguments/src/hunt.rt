@@ -3,8 +3,8 @@
 ghost use Rattle.std.specs.Prelude.{◌≡◌, codes, option_map, IfOk};
 ghost use Rattle.std.specs.Result.{result_ok};
 ghost use Rattle.ir_arguments.specs.Asking.{bounds_in, hunt_asked, jobs_given, seconds_in, wanted_in};
-ghost use Rattle.ir_arguments.specs.Values.{rows_in, given};
-ghost use Rattle.ir_arguments.specs.Views.{request_of};
+ghost use Rattle.ir_arguments.specs.Values.{rows_of_matches, first_given};
+ghost use Rattle.ir_arguments.specs.Views.{request_view};
 ghost use Rattle.ir_arguments.specs.Parser.{IsArgument, and_rules, app_in, flag, needed_repeated, option, option_or, rules_of};
 ghost use Rattle.ir_arguments.specs.declared.subcommands.Subcommand.TheVariants as sub;
 
@@ -179,7 +179,7 @@ pub fn with_arguments<'a>(alloc: Global, command: Command<'a>) -> Result<Command
 
 // The most threads that are asked for, or what is wrong with their number.
 fn jobs_by(alloc: Global, matches: &ArgMatches<'_>) -> Result<Result<usize, String>, AllocError>
-    ensures { IfOk result (λ read. result_ok read ≡ jobs_given (given (rows_in matches.now) (codes "jobs"))) }
+    ensures { IfOk result (λ read. result_ok read ≡ jobs_given (first_given (rows_of_matches matches.now) (codes "jobs"))) }
 {
     let Some(text) = given(matches, JOBS) else {
         return Ok(Ok(usize::MAX));
@@ -197,7 +197,7 @@ fn seconds_by(
     alloc: Global,
     matches: &ArgMatches<'_>,
 ) -> Result<Result<Option<u32>, String>, AllocError>
-    ensures { IfOk result (λ read. result_ok read ≡ seconds_in (rows_in matches.now)) }
+    ensures { IfOk result (λ read. result_ok read ≡ seconds_in (rows_of_matches matches.now)) }
 {
     let Some(text) = given(matches, SECONDS) else {
         return Ok(Ok(None));
@@ -215,7 +215,7 @@ fn bounds_by(
     alloc: Global,
     matches: &ArgMatches<'_>,
 ) -> Result<Result<(usize, Option<u32>), String>, AllocError>
-    ensures { IfOk result (λ read. result_ok read ≡ bounds_in (rows_in matches.now)) }
+    ensures { IfOk result (λ read. result_ok read ≡ bounds_in (rows_of_matches matches.now)) }
 {
     let jobs = match jobs_by(alloc, matches)? {
         Ok(jobs) => jobs,
@@ -232,7 +232,7 @@ fn wanted_by(
     alloc: Global,
     matches: &ArgMatches<'_>,
 ) -> Result<Result<(Vec<ConditionText>, Option<bool>), String>, AllocError>
-    ensures { IfOk result (λ read. option_map (λ w. (w.0.items, w.1)) (result_ok read) ≡ wanted_in (rows_in matches.now)) }
+    ensures { IfOk result (λ read. option_map (λ w. (w.0.items, w.1)) (result_ok read) ≡ wanted_in (rows_of_matches matches.now)) }
 {
     let until = match conditions_of(alloc, matches)? {
         Ok(until) => until,
@@ -247,7 +247,7 @@ fn wanted_by(
 /// What its arguments ask for.
 #[tactic(auto, unfolding(crate::specs::Asking::hunt_in))]
 pub fn asked(alloc: Global, matches: &ArgMatches<'_>) -> Result<Asked, AllocError>
-    ensures { IfOk result (λ asked. request_of asked ≡ hunt_asked (rows_in matches.now)) }
+    ensures { IfOk result (λ asked. request_view asked ≡ hunt_asked (rows_of_matches matches.now)) }
 {
     let options = match options_of(alloc, matches)? {
         Ok(options) => options,

@@ -4,7 +4,7 @@ ghost use Rattle.std.specs.Prelude.{◌≡◌, codes, option_map, IfOk};
 ghost use Rattle.std.specs.Result.{result_ok};
 ghost use Rattle.ir_arguments.specs.Asking.{options_in, random_in};
 ghost use Rattle.ir_arguments.specs.Reading.{profile_named};
-ghost use Rattle.ir_arguments.specs.Values.{rows_in, text_for};
+ghost use Rattle.ir_arguments.specs.Values.{rows_of_matches, text_for};
 ghost use Rattle.ir_arguments.specs.Views.{options_view};
 
 use crate::recording::{BUDGET, INPUT, OUTPUT, PROFILE, RANDOM, RecordingOptions};
@@ -46,7 +46,7 @@ pub fn profile_in(
     alloc: Global,
     matches: &ArgMatches<'_>,
 ) -> Result<Result<Profile, String>, AllocError>
-    ensures { IfOk result (λ read. result_ok read ≡ profile_named (text_for (rows_in matches.now) (codes "profile"))) }
+    ensures { IfOk result (λ read. result_ok read ≡ profile_named (text_for (rows_of_matches matches.now) (codes "profile"))) }
 {
     let profile = text_for(matches, PROFILE);
     match profile_of(profile) {
@@ -57,7 +57,7 @@ pub fn profile_in(
 
 /// Where random words start, or else what is wrong with the option.
 pub fn random_in(alloc: Global, matches: &ArgMatches<'_>) -> Result<Result<u64, String>, AllocError>
-    ensures { IfOk result (λ read. result_ok read ≡ random_in (rows_in matches.now)) }
+    ensures { IfOk result (λ read. result_ok read ≡ random_in (rows_of_matches matches.now)) }
 {
     let random = text_for(matches, RANDOM);
     match number_within(0, u64::MAX, random) {
@@ -72,7 +72,7 @@ pub fn options_of(
     alloc: Global,
     matches: &ArgMatches<'_>,
 ) -> Result<Result<RecordingOptions, String>, AllocError>
-    ensures { IfOk result (λ read. option_map options_view (result_ok read) ≡ options_in (rows_in matches.now)) }
+    ensures { IfOk result (λ read. option_map options_view (result_ok read) ≡ options_in (rows_of_matches matches.now)) }
 {
     let budget = text_for(matches, BUDGET);
     let Some(most) = number_within(0, MOST_BUDGET, budget) else {

@@ -3,8 +3,8 @@
 ghost use Rattle.std.specs.Prelude.{◌≡◌, Some, option_map, IfOk, codes};
 ghost use Rattle.std.specs.Result.{result_ok};
 ghost use Rattle.ir_arguments.specs.Asking.{chaos_by, chaos_in, recording_asked};
-ghost use Rattle.ir_arguments.specs.Values.{rows_in};
-ghost use Rattle.ir_arguments.specs.Views.{request_of};
+ghost use Rattle.ir_arguments.specs.Values.{rows_of_matches};
+ghost use Rattle.ir_arguments.specs.Views.{request_view};
 ghost use Rattle.ir_arguments.specs.Parser.{IsArgument, and_rules, app_in, flag, option, option_or, rules_of};
 ghost use Rattle.ir_arguments.specs.declared.subcommands.Subcommand.TheVariants as sub;
 
@@ -230,7 +230,7 @@ fn chaos_of(
     alloc: Global,
     matches: &ArgMatches<'_>,
 ) -> Result<Result<Option<Chaos>, String>, AllocError>
-    ensures { IfOk result (λ read. result_ok read ≡ chaos_in (rows_in matches.now)) }
+    ensures { IfOk result (λ read. result_ok read ≡ chaos_in (rows_of_matches matches.now)) }
 {
     let way = match way_by(alloc, matches)? {
         Ok(way) => way,
@@ -245,7 +245,7 @@ fn chaos_of(
 /// What its arguments ask for.
 #[tactic(auto, unfolding(crate::specs::Asking::recording_in))]
 pub fn asked(alloc: Global, matches: &ArgMatches<'_>) -> Result<Asked, AllocError>
-    ensures { IfOk result (λ asked. request_of asked ≡ recording_asked (rows_in matches.now)) }
+    ensures { IfOk result (λ asked. request_view asked ≡ recording_asked (rows_of_matches matches.now)) }
 {
     let options = match options_of(alloc, matches)? {
         Ok(options) => options,

@@ -3,7 +3,7 @@
 ghost use Rattle.std.specs.Prelude.{◌≡◌, ◌≤◌, codes, IfOk};
 ghost use Rattle.std.specs.Result.{result_ok};
 ghost use Rattle.ir_arguments.specs.Reading.{counted_seeds, depth_named, number_after, seeds_between, seeds_from, seeds_named, way_named};
-ghost use Rattle.ir_arguments.specs.Values.{rows_in, text_for};
+ghost use Rattle.ir_arguments.specs.Values.{rows_of_matches, text_for};
 ghost use Rattle.ir_arguments.specs.Parser.{IsArgument, option_or};
 
 use crate::forms::option_or_arg;
@@ -61,7 +61,7 @@ fn way_of(text: &str) -> Option<Way>
 
 /// How seeds choose, or that the option names no way.
 pub fn way_by(alloc: Global, matches: &ArgMatches<'_>) -> Result<Result<Way, String>, AllocError>
-    ensures { IfOk result (λ read. result_ok read ≡ way_named (text_for (rows_in matches.now) (codes "by"))) }
+    ensures { IfOk result (λ read. result_ok read ≡ way_named (text_for (rows_of_matches matches.now) (codes "by"))) }
 {
     let text = text_for(matches, BY);
     match way_of(text) {

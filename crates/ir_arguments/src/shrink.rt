@@ -3,8 +3,8 @@
 ghost use Rattle.std.specs.Prelude.{◌≡◌, IfOk, codes};
 ghost use Rattle.std.specs.Result.{result_ok};
 ghost use Rattle.ir_arguments.specs.Asking.{seconds_in, shrinking_asked};
-ghost use Rattle.ir_arguments.specs.Values.{rows_in};
-ghost use Rattle.ir_arguments.specs.Views.{request_of};
+ghost use Rattle.ir_arguments.specs.Values.{rows_of_matches};
+ghost use Rattle.ir_arguments.specs.Views.{request_view};
 ghost use Rattle.ir_arguments.specs.Parser.{IsArgument, and_rules, app_in, needed_repeated, option, rules_of};
 ghost use Rattle.ir_arguments.specs.declared.subcommands.Subcommand.TheVariants as sub;
 
@@ -131,7 +131,7 @@ fn seconds_by(
     alloc: Global,
     matches: &ArgMatches<'_>,
 ) -> Result<Result<Option<u32>, String>, AllocError>
-    ensures { IfOk result (λ read. result_ok read ≡ seconds_in (rows_in matches.now)) }
+    ensures { IfOk result (λ read. result_ok read ≡ seconds_in (rows_of_matches matches.now)) }
 {
     let Some(text) = given(matches, SECONDS) else {
         return Ok(Ok(None));
@@ -147,7 +147,7 @@ fn seconds_by(
 /// What its arguments ask for.
 #[tactic(auto, unfolding(crate::specs::Asking::shrinking_in))]
 pub fn asked(alloc: Global, matches: &ArgMatches<'_>) -> Result<Asked, AllocError>
-    ensures { IfOk result (λ asked. request_of asked ≡ shrinking_asked (rows_in matches.now)) }
+    ensures { IfOk result (λ asked. request_view asked ≡ shrinking_asked (rows_of_matches matches.now)) }
 {
     let until = match conditions_of(alloc, matches)? {
         Ok(until) => until,

@@ -4,9 +4,9 @@ ghost use Rattle.std.specs.Prelude.{◌≡◌, find, IfOk};
 ghost use Rattle.std.specs.Option.{is_none};
 ghost use Rattle.ir_arguments.specs.Bonds.{may_be_given};
 ghost use Rattle.ir_arguments.specs.Parser.{and_rules, app_in, bare_app, rules_of, with_subcommands};
-ghost use Rattle.ir_arguments.specs.Subcommands.{asked_by, asked_if_given, is_named, name_of, subcommand_named};
-ghost use Rattle.ir_arguments.specs.Values.{rows_in};
-ghost use Rattle.ir_arguments.specs.Views.{request_of};
+ghost use Rattle.ir_arguments.specs.Subcommands.{asked_by, asked_if_given, is_named, subcommand_name, subcommand_named};
+ghost use Rattle.ir_arguments.specs.Values.{rows_of_matches};
+ghost use Rattle.ir_arguments.specs.Views.{request_view};
 
 use crate::asked::Asked;
 use crate::bonds::broken;
@@ -78,7 +78,7 @@ fn bare_command<'a>(alloc: Global, row: Row<'a>) -> Command<'a>
 impl Subcommand {
     /// Its name, what it does, and what follows its help.
     pub fn row<'a>(self) -> Row<'a>
-        ensures { result.name.now ≡ name_of self }
+        ensures { result.name.now ≡ subcommand_name self }
     {
         match self {
             Subcommand::Assemble => assemble::row(),
@@ -102,7 +102,7 @@ impl Subcommand {
 
     /// The parser of its arguments.
     pub fn command<'a>(self, alloc: Global) -> Result<Command<'a>, AllocError>
-        ensures { IfOk result (λ c. app_in c ≡ and_rules (bare_app (name_of self)) (rules_of self)) }
+        ensures { IfOk result (λ c. app_in c ≡ and_rules (bare_app (subcommand_name self)) (rules_of self)) }
     {
         let command = bare_command(alloc, self.row());
         match self {
@@ -127,7 +127,7 @@ impl Subcommand {
 
     // Why its arguments may not be given together, if they may not.
     fn broken(self, alloc: Global, matches: &ArgMatches<'_>) -> Result<Option<String>, AllocError>
-        ensures { IfOk result (λ why. is_none why ≡ may_be_given self (rows_in matches.now)) }
+        ensures { IfOk result (λ why. is_none why ≡ may_be_given self (rows_of_matches matches.now)) }
     {
         match self {
             Subcommand::Record => broken(alloc, matches, record::BONDS.as_slice()),
@@ -151,7 +151,7 @@ impl Subcommand {
 
     /// What its arguments ask for, if they may be given together.
     pub fn asked(self, alloc: Global, matches: &ArgMatches<'_>) -> Result<Asked, AllocError>
-        ensures { IfOk result (λ asked. request_of asked ≡ asked_if_given self (rows_in matches.now)) }
+        ensures { IfOk result (λ asked. request_view asked ≡ asked_if_given self (rows_of_matches matches.now)) }
     {
         match self.broken(alloc, matches)? {
             Some(why) => Ok(Asked::Nothing(why)),
@@ -161,7 +161,7 @@ impl Subcommand {
 
     // What its arguments ask for.
     fn asked_so(self, alloc: Global, matches: &ArgMatches<'_>) -> Result<Asked, AllocError>
-        ensures { IfOk result (λ asked. request_of asked ≡ asked_by self (rows_in matches.now)) }
+        ensures { IfOk result (λ asked. request_view asked ≡ asked_by self (rows_of_matches matches.now)) }
     {
         match self {
             Subcommand::Assemble => assemble::asked(alloc, matches),

@@ -5,7 +5,7 @@ ghost use Rattle.std.specs.String.{string_bytes};
 ghost use Rattle.std.specs.Result.{result_ok};
 ghost use Rattle.ir_arguments.specs.Parser.{IsArgument, image_rule, needed_place, option};
 ghost use Rattle.ir_arguments.specs.Reading.{if_given, large_numbers, small_number};
-ghost use Rattle.ir_arguments.specs.Values.{rows_in, given, text_for, texts_for, has_flag};
+ghost use Rattle.ir_arguments.specs.Values.{rows_of_matches, first_given, text_for, texts_for, has_flag};
 
 use crate::forms::option_arg;
 use crate::texts::first_part;
@@ -60,14 +60,14 @@ pub fn from_image_arg<'a>(alloc: Global, help: &'a str) -> Arg<'a>
 /// The text that is given for an argument, if one is.
 #[tactic(auto, using(crate::proofs::Rows::first_value_in_rows))]
 pub fn given<'a>(matches: &ArgMatches<'a>, name: &str) -> Option<&'a str>
-    ensures { option_map (λ s. s.now) result ≡ given (rows_in matches.now) name.now }
+    ensures { option_map (λ s. s.now) result ≡ first_given (rows_of_matches matches.now) name.now }
 {
     matches.get_str(name)
 }
 
 /// The text that is given for an argument, or the empty text.
 pub fn text_for<'a>(matches: &ArgMatches<'a>, name: &str) -> &'a str
-    ensures { result.now ≡ text_for (rows_in matches.now) name.now }
+    ensures { result.now ≡ text_for (rows_of_matches matches.now) name.now }
 {
     match given(matches, name) {
         Some(text) => text,
@@ -78,14 +78,14 @@ pub fn text_for<'a>(matches: &ArgMatches<'a>, name: &str) -> &'a str
 /// All the texts that are given for an argument.
 #[tactic(auto, using(crate::proofs::Rows::raw_values_in_rows))]
 pub fn texts_for<'m>(matches: &'m ArgMatches<'_>, name: &str) -> &'m [&'m str]
-    ensures { map (λ s. s.now) result.now ≡ texts_for (rows_in matches.now) name.now }
+    ensures { map (λ s. s.now) result.now ≡ texts_for (rows_of_matches matches.now) name.now }
 {
     matches.get_strs(name).unwrap_or_default()
 }
 
 /// Whether a flag is given.
 pub fn has_flag(matches: &ArgMatches<'_>, name: &str) -> bool
-    ensures { result ≡ has_flag (rows_in matches.now) name.now }
+    ensures { result ≡ has_flag (rows_of_matches matches.now) name.now }
 {
     match given(matches, name) {
         Some(value) => value == "true",
@@ -95,7 +95,7 @@ pub fn has_flag(matches: &ArgMatches<'_>, name: &str) -> bool
 
 /// The text of an argument, empty where it isn't given.
 pub fn text_of(alloc: Global, matches: &ArgMatches<'_>, name: &str) -> Result<String, AllocError>
-    ensures { IfOk result (λ text. string_bytes text ≡ text_for (rows_in matches.now) name.now) }
+    ensures { IfOk result (λ text. string_bytes text ≡ text_for (rows_of_matches matches.now) name.now) }
 {
     String::from_str(alloc, text_for(matches, name))
 }
@@ -106,7 +106,7 @@ pub fn given_text(
     matches: &ArgMatches<'_>,
     name: &str,
 ) -> Result<Option<String>, AllocError>
-    ensures { IfOk result (λ text. option_map string_bytes text ≡ given (rows_in matches.now) name.now) }
+    ensures { IfOk result (λ text. option_map string_bytes text ≡ first_given (rows_of_matches matches.now) name.now) }
 {
     match given(matches, name) {
         Some(text) => Ok(Some(String::from_str(alloc, text)?)),
@@ -167,7 +167,7 @@ pub fn given_number(
     argument: &str,
     name: &str,
 ) -> Result<Result<Option<u32>, String>, AllocError>
-    ensures { IfOk result (λ read. result_ok read ≡ if_given small_number (given (rows_in matches.now) argument.now)) }
+    ensures { IfOk result (λ read. result_ok read ≡ if_given small_number (first_given (rows_of_matches matches.now) argument.now)) }
 {
     let Some(text) = given(matches, argument) else {
         return Ok(Ok(None));

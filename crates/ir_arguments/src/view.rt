@@ -3,9 +3,9 @@
 ghost use Rattle.std.specs.Prelude.{◌≡◌, codes, map, IfOk};
 ghost use Rattle.std.specs.Result.{result_ok};
 ghost use Rattle.ir_arguments.specs.Reading.{large_number};
-ghost use Rattle.ir_arguments.specs.Asking.{picture_asked, part_in, part_of_texts};
-ghost use Rattle.ir_arguments.specs.Values.{rows_in, text_for};
-ghost use Rattle.ir_arguments.specs.Views.{request_of};
+ghost use Rattle.ir_arguments.specs.Asking.{picture_asked, part_asked, part_of_texts};
+ghost use Rattle.ir_arguments.specs.Values.{rows_of_matches, text_for};
+ghost use Rattle.ir_arguments.specs.Views.{request_view};
 ghost use Rattle.ir_arguments.specs.Parser.{IsArgument, and_rules, app_in, flag, option_or, pair, rules_of};
 ghost use Rattle.ir_arguments.specs.declared.subcommands.Subcommand.TheVariants as sub;
 
@@ -168,7 +168,7 @@ pub fn with_arguments<'a>(alloc: Global, command: Command<'a>) -> Result<Command
 
 // How far the part goes, or else what is wrong with the number.
 fn span_of(alloc: Global, matches: &ArgMatches<'_>) -> Result<Result<u64, String>, AllocError>
-    ensures { IfOk result (λ read. result_ok read ≡ large_number (text_for (rows_in matches.now) (codes "span"))) }
+    ensures { IfOk result (λ read. result_ok read ≡ large_number (text_for (rows_of_matches matches.now) (codes "span"))) }
 {
     let text = text_for(matches, SPAN);
     match number_within(0, u64::MAX, text) {
@@ -207,7 +207,7 @@ fn part_of(
     alloc: Global,
     matches: &ArgMatches<'_>,
 ) -> Result<Result<Option<Part>, String>, AllocError>
-    ensures { IfOk result (λ read. result_ok read ≡ part_in (rows_in matches.now)) }
+    ensures { IfOk result (λ read. result_ok read ≡ part_asked (rows_of_matches matches.now)) }
 {
     match span_of(alloc, matches)? {
         Ok(span) => part_around(alloc, span, texts_for(matches, AROUND)),
@@ -218,7 +218,7 @@ fn part_of(
 /// What its arguments ask for.
 #[tactic(auto, unfolding(crate::specs::Asking::picture_in))]
 pub fn asked(alloc: Global, matches: &ArgMatches<'_>) -> Result<Asked, AllocError>
-    ensures { IfOk result (λ asked. request_of asked ≡ picture_asked (rows_in matches.now)) }
+    ensures { IfOk result (λ asked. request_view asked ≡ picture_asked (rows_of_matches matches.now)) }
 {
     let part = match part_of(alloc, matches)? {
         Ok(part) => part,

@@ -4,8 +4,8 @@ ghost use Rattle.std.specs.Prelude.{◌≡◌, codes, option_map, IfOk};
 ghost use Rattle.std.specs.Result.{result_ok};
 ghost use Rattle.ir_arguments.specs.Reading.{if_given, large_numbers, small_number};
 ghost use Rattle.ir_arguments.specs.Asking.{reasons_asked};
-ghost use Rattle.ir_arguments.specs.Values.{rows_in, given, text_for};
-ghost use Rattle.ir_arguments.specs.Views.{request_of};
+ghost use Rattle.ir_arguments.specs.Values.{rows_of_matches, first_given, text_for};
+ghost use Rattle.ir_arguments.specs.Views.{request_view};
 ghost use Rattle.ir_arguments.specs.Parser.{IsArgument, and_rules, app_in, option, option_or, rules_of};
 ghost use Rattle.ir_arguments.specs.declared.subcommands.Subcommand.TheVariants as sub;
 
@@ -148,7 +148,7 @@ fn number_of(
     argument: &str,
     name: &str,
 ) -> Result<Result<u32, String>, AllocError>
-    ensures { IfOk result (λ read. result_ok read ≡ small_number (text_for (rows_in matches.now) argument.now)) }
+    ensures { IfOk result (λ read. result_ok read ≡ small_number (text_for (rows_of_matches matches.now) argument.now)) }
 {
     number_in(alloc, name, text_for(matches, argument))
 }
@@ -158,7 +158,7 @@ fn positions_of(
     alloc: Global,
     matches: &ArgMatches<'_>,
 ) -> Result<Result<Option<Vec<u64>>, String>, AllocError>
-    ensures { IfOk result (λ read. option_map (option_map (λ v. v.items)) (result_ok read) ≡ if_given large_numbers (given (rows_in matches.now) (codes "at"))) }
+    ensures { IfOk result (λ read. option_map (option_map (λ v. v.items)) (result_ok read) ≡ if_given large_numbers (first_given (rows_of_matches matches.now) (codes "at"))) }
 {
     let Some(text) = given(matches, AT) else {
         return Ok(Ok(None));
@@ -172,7 +172,7 @@ fn positions_of(
 /// What its arguments ask for.
 #[tactic(auto, unfolding(crate::specs::Asking::reasons_in))]
 pub fn asked(alloc: Global, matches: &ArgMatches<'_>) -> Result<Asked, AllocError>
-    ensures { IfOk result (λ asked. request_of asked ≡ reasons_asked (rows_in matches.now)) }
+    ensures { IfOk result (λ asked. request_view asked ≡ reasons_asked (rows_of_matches matches.now)) }
 {
     let thread = match number_of(alloc, matches, THREAD, THREAD)? {
         Ok(thread) => thread,

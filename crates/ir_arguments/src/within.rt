@@ -3,8 +3,8 @@
 ghost use Rattle.std.specs.Prelude.{◌≡◌, Some, None, codes, option_map, IfOk, MatchBool};
 ghost use Rattle.std.specs.Result.{result_ok};
 ghost use Rattle.std.specs.String.{string_bytes};
-ghost use Rattle.ir_arguments.specs.Exploring.{parts_given, parts_listed, parts_of, with_part};
-ghost use Rattle.ir_arguments.specs.Values.{rows_in, given, text_for};
+ghost use Rattle.ir_arguments.specs.Exploring.{parts_given, parts_listed, parts_taken, with_part};
+ghost use Rattle.ir_arguments.specs.Values.{rows_of_matches, first_given, text_for};
 ghost use Rattle.ir_arguments.specs.Views.{parts_view, taken_view};
 ghost use Rattle.ir_arguments.specs.Parser.{IsArgument, option};
 
@@ -107,7 +107,7 @@ fn take_part(taken: &mut Taken, part: &str) -> Result<bool, AllocError>
 
 // What counts of outcomes by what was taken.
 fn counted_by(taken: Taken) -> Counted
-    ensures { parts_view result ≡ parts_of (taken_view taken) }
+    ensures { parts_view result ≡ parts_taken (taken_view taken) }
 {
     Counted {
         outputs: taken.outputs,
@@ -145,7 +145,7 @@ pub fn counted_of(
     alloc: Global,
     matches: &ArgMatches<'_>,
 ) -> Result<Result<Counted, String>, AllocError>
-    ensures { IfOk result (λ read. option_map parts_view (result_ok read) ≡ parts_given (given (rows_in matches.now) (codes "only"))) }
+    ensures { IfOk result (λ read. option_map parts_view (result_ok read) ≡ parts_given (first_given (rows_of_matches matches.now) (codes "only"))) }
 {
     match given(matches, ONLY) {
         Some(text) => counted_in(alloc, text),
@@ -159,7 +159,7 @@ pub fn counted_of(
 
 /// The file of the other guest's image.
 pub fn other_of(alloc: Global, matches: &ArgMatches<'_>) -> Result<String, AllocError>
-    ensures { IfOk result (λ text. string_bytes text ≡ text_for (rows_in matches.now) (codes "within")) }
+    ensures { IfOk result (λ text. string_bytes text ≡ text_for (rows_of_matches matches.now) (codes "within")) }
 {
     text_of(alloc, matches, WITHIN)
 }

@@ -1,7 +1,7 @@
 -- What the program does by the words of its command line.
 use Rattle.std.specs.Prelude.{◌≡◌, ◌≢◌, ℕ, List, Option}
 use Rattle.ir_arguments.specs.Parsing.{IsAskedBy}
-use Rattle.ir_arguments.specs.Views.{request_of}
+use Rattle.ir_arguments.specs.Views.{request_view}
 use Rattle.ir_arguments.specs.declared.asked.Asked.{Asked}
 use Rattle.ir_commands.specs.Printing.{Paths}
 use Rattle.ir_commands.specs.Writing.{Storing}
@@ -15,7 +15,7 @@ use Rattle.ir_program.specs.Doing.{Does}
 pub record ServesWords (at : Paths) (stored : Storing) (words : List (List ℕ)) (answered : ExitStatus) (input : Option (List ℕ)) (out faults : Writer)
     (unprinted : Type 0) : Type 0 where
   pub asked : Asked
-  pub is_asked : IsAskedBy words (request_of asked)
+  pub is_asked : IsAskedBy words (request_view asked)
   pub told : Writer
   pub done : Does at stored asked answered input out told unprinted
   pub no_more : answered ≢ Refused → told ≡ faults
