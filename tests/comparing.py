@@ -5,7 +5,8 @@ python3 tests/comparing.py IR [--pairs N] [--seed S]
 
 Of two guests the judge says which outcomes each has. What counts of them is cut out here, and compared as sets: so it is known which outcomes of
 the first are outside, and what the last line says. The lines of these outcomes have to be those of `ir explore` without the option, with their
-numbers. Half of the second guests are the first one with an operation changed. By classes the first outcome of each has to be printed. The last line is `N passed, M failed`.
+numbers. Half of the second guests are the first one with an operation changed. By classes the first outcome of each has to be printed. With a trace
+the same has to be printed, and what is written are the files of `ir record` by the first printed list. The last line is `N passed, M failed`.
 """
 import random
 import subprocess
@@ -87,7 +88,29 @@ def check_pair(folder, chance):
     wants(f"outcomes of {where}", printed, {number: blocks[number] for number in outside})
     wants(f"ending of {where}", rest, [f"image {last[-1]}", f"other {blocks_of(other_lines)[1][-1]}", f"outside {len(outside)}" if outside else "within"])
     wants(f"status of {where}", ended.returncode, 5 if outside else 0)
+    check_recorded(folder, where, "guest.img --within other.img" + (f" --only {','.join(parts)}" if parts else ""), ended)
     check_classes(folder, f"{guest} only {parts}", parts or ["out", "codes", "objects"], objects, (blocks, last, keys))
+
+
+def check_recorded(folder, where, words, plain):
+    """With a trace: the lines without it, and then those of `ir record` by the first printed list, which writes the same files."""
+    image, *others = words.split()
+    for file in (*folder.glob("first.*"), *folder.glob("again.*")):
+        file.unlink()
+    (folder / "first.trc").write_bytes(b"as it was")
+    ended = run(["explore", image, "first.trc", *others, "--output", "first"], folder)
+    lines = plain.stdout.decode().splitlines()
+    if plain.returncode != 5:
+        wants(f"what stands at TRACE of {where}", (folder / "first.trc").read_bytes(), b"as it was")
+        wants(f"files of {where}", len([*folder.glob("first.*")]), 1)
+        wants(f"the same without a trace of {where}", (ended.returncode, ended.stdout), (plain.returncode, plain.stdout))
+        return
+    order = lines[0].split(" order ")[1]
+    again = run(["record", image, "again.trc", "--order", order, "--budget", "1000000000000", "--output", "again"], folder)
+    wants(f"status with TRACE of {where}", ended.returncode, 5)
+    wants(f"lines with TRACE of {where}", ended.stdout.decode().splitlines(), [*lines, *again.stdout.decode().splitlines()])
+    written = {name: {file.suffix: file.read_bytes() for file in folder.glob(f"{name}.*")} for name in ("first", "again")}
+    wants(f"files of {where}", written["first"], written["again"])
 
 
 def check_classes(folder, where, parts, objects, known):
@@ -125,6 +148,20 @@ ROWS = [
     ("lost.s --only out", 3, None, "the image is refused"),
     ("lost.img x.trc --until fault --only out", 2, None, "cannot be used with"),
     ("lost.img x.trc --until fault --within checked.img", 2, None, "cannot be used with"),
+    ("lost.img x.trc --only out", 2, None, "not provided: <--until <COND>|--within <OTHER>>"),
+    ("lost.img x.trc", 2, None, "not provided: <--until <COND>|--within <OTHER>>"),
+    ("lost.img --within lost.img --output x", 2, None, "not provided: <TRACE>"),
+    ("lost.img x.trc --within lost.img", 0, "within", ""),
+    ("lost.img x.trc --within checked.img", 5, "thread 1 end 1 code 0 steps 25 events 2", ""),
+    ("lost.img x.trc --within checked.img --only codes", 0, "within", ""),
+    ("lost.img x.trc --within checked.img --only 7", 2, None, "lost.img: the guest has no object 7, which --only names"),
+    ("lost.img x.trc --within checked.img --states 2", 6, "unknown", ""),
+    ("lost.img x.trc --within none.img", 1, None, "none.img"),
+    ("lost.img x.trc --within lost.s", 3, None, "OTHER: the image is refused"),
+    ("lost.img lost.img --within checked.img", 2, None, "TRACE would be written over IMAGE"),
+    ("lost.img checked.img --within checked.img", 2, None, "TRACE would be written over OTHER"),
+    ("lost.img x.trc --within over.0 --output over", 2, None, "PREFIX.T would be written over OTHER"),
+    ("lost.img none/x.trc --within checked.img", 1, "outside 1", "none/x.trc can't be written"),
 ]
 
 
@@ -150,6 +187,7 @@ def main():
         folder = Path(place)
         assembled(folder, "lost", source_of(LOST, 1))
         assembled(folder, "checked", source_of(KEPT, 1))
+        (folder / "over.0").write_bytes((folder / "checked.img").read_bytes())
         checks = [*(lambda row=row: check_row(folder, row) for row in ROWS), *(lambda: check_pair(folder, chance) for _ in range(asked.pairs))]
         for check in checks:
             try:

@@ -14,21 +14,20 @@ pub data Rule : Type 0 where
   Excludes : Text → Text → Rule
   -- the first is given only with the second
   Needs : Text → Text → Rule
-  -- the first is given only with the second, or with one of the last two, which exclude the second
-  NeedsUnless : Text → Text → Text → Text → Rule
+  -- the first is given only with one of the others
+  NeedsEither : Text → Text → Text → Rule
 
 -- the arguments that are given on the command line, and not by a default, obey the rule
 abbrev pub is_obeyed : Rows → Rule → Bool
 is_obeyed rows (Excludes one other) = not (is_given one rows && is_given other rows)
 is_obeyed rows (Needs one other) = not (is_given one rows) || is_given other rows
-is_obeyed rows (NeedsUnless one other first second) =
-    not (is_given one rows) || (is_given other rows || (is_given first rows || is_given second rows))
+is_obeyed rows (NeedsEither one first second) = not (is_given one rows) || (is_given first rows || is_given second rows)
 
 -- the rule that the code's value is
 abbrev pub rule_by : Bond → Rule
 rule_by (code.Excludes one other) = Excludes one.id.now other.id.now
 rule_by (code.Needs one other) = Needs one.id.now other.id.now
-rule_by (code.NeedsUnless one other first second) = NeedsUnless one.id.now other.id.now first.now second.now
+rule_by (code.NeedsEither one first second) = NeedsEither one.id.now first.id.now second.id.now
 
 abbrev pub record_bonds : List Rule
 record_bonds = Excludes (codes "order-file") (codes "order") ∷ Excludes (codes "chaos") (codes "order") ∷ Excludes (codes "chaos") (codes "order-file")
@@ -36,8 +35,8 @@ record_bonds = Excludes (codes "order-file") (codes "order") ∷ Excludes (codes
 
 abbrev pub explore_bonds : List Rule
 explore_bonds = Excludes (codes "within") (codes "until") ∷ Excludes (codes "only") (codes "until")
-    ∷ NeedsUnless (codes "TRACE") (codes "until") (codes "within") (codes "only")
-    ∷ NeedsUnless (codes "output") (codes "until") (codes "within") (codes "only")
+    ∷ NeedsEither (codes "TRACE") (codes "until") (codes "within")
+    ∷ NeedsEither (codes "output") (codes "until") (codes "within")
     ∷ Needs (codes "until") (codes "TRACE") ∷ Needs (codes "output") (codes "TRACE") ∷ []
 
 -- the rules of a subcommand

@@ -10,7 +10,7 @@ use Rattle.ir_schedule.specs.Spelling.{condition_of}
 use Rattle.ir_arguments.specs.Asking.{or_nothing, random_in, seconds_in}
 use Rattle.ir_arguments.specs.Conditions.{conditions_given, stale_named}
 use Rattle.ir_arguments.specs.Reading.{◌>>=◌, if_given, last_large, profile_named}
-use Rattle.ir_arguments.specs.Requests.{Compare, Exploration, Explore, Parts, Request, SearchFor, ShowClasses}
+use Rattle.ir_arguments.specs.Requests.{Compare, GuestComparison, Exploration, Explore, Parts, RecordOutside, Request, SearchFor, ShowClasses}
 use Rattle.ir_arguments.specs.Values.{Rows, first_given, text_for, texts_for}
 
 -- a condition asks for a spent budget
@@ -138,9 +138,16 @@ outcomes_asked explore rows = do
     output = first_given rows (codes "output");
   })) (first_given rows (codes "TRACE")) (Explore explore))
 
--- outcomes that another guest doesn't have
+-- outcomes that another guest doesn't have, of which the first is recorded in TRACE, if one is given
+abbrev pub compared_in : Rows → GuestComparison → Request
+compared_in rows comparison = option_map_or (λ trace. RecordOutside (record {
+  comparison = comparison;
+  trace = trace;
+  output = first_given rows (codes "output");
+})) (first_given rows (codes "TRACE")) (Compare comparison)
+
 abbrev pub comparison_asked : Exploration → Rows → Option Request
-comparison_asked explore rows = option_map (λ parts. Compare (record {
+comparison_asked explore rows = option_map (λ parts. compared_in rows (record {
   explore = explore;
   other = text_for rows (codes "within");
   counted = parts;

@@ -151,6 +151,12 @@ pub record GuestComparison : Type 0 where
   pub other : Text
   pub counted : Parts
 
+-- outcomes that another guest doesn't have, of which the first is recorded
+pub record OutsideSearch : Type 0 where
+  pub comparison : GuestComparison
+  pub trace : Text
+  pub output : Option Text
+
 -- a source, a run, lines or outcomes
 pub data Request : Type 0 where
   -- a session of standard input
@@ -174,6 +180,7 @@ pub data Request : Type 0 where
   SearchFor : Search → Request
   ShowClasses : Classes → Request
   Compare : GuestComparison → Request
+  RecordOutside : OutsideSearch → Request
   -- a text about the program, which is left open
   Help : Request
   -- nothing that there is, for a reason whose text is left open

@@ -3,7 +3,7 @@ use Rattle.std.specs.Prelude.{option_map}
 use Rattle.std.specs.String.{string_bytes}
 use Rattle.ir_arguments.specs.Requests.{Exploration, Options, Parts, Request, Session, Assemble, Convert, Record, HuntFor, Shrink, Debug, Gdb}
 use Rattle.ir_arguments.specs.Requests.{ShowCode, ShowTrace, ShowEvents, ShowStale, ShowVersions, ShowReasons, ShowDifference, ShowPicture, Explore}
-use Rattle.ir_arguments.specs.Requests.{SearchFor, ShowClasses, Compare, Help, Nothing, NoMemory}
+use Rattle.ir_arguments.specs.Requests.{SearchFor, ShowClasses, Compare, GuestComparison, RecordOutside, Help, Nothing, NoMemory}
 use Rattle.ir_arguments.specs.declared.recording.RecordingOptions.{RecordingOptions}
 use Rattle.ir_arguments.specs.declared.asked.Asked.{Asked}
 use Rattle.ir_arguments.specs.declared.asked.Asked.TheVariants as asked
@@ -16,6 +16,7 @@ use Rattle.ir_arguments.specs.declared.asked.Explored.TheVariants as explored
 use Rattle.ir_arguments.specs.declared.explore.ExploreArguments.{ExploreArguments}
 use Rattle.ir_arguments.specs.declared.within.Counted.{Counted}
 use Rattle.ir_arguments.specs.declared.within.Taken as within
+use Rattle.ir_arguments.specs.declared.within.WithinArguments.{WithinArguments}
 use Rattle.ir_arguments.specs.Exploring.{Taken}
 
 abbrev pub options_view : RecordingOptions → Options
@@ -88,14 +89,13 @@ parts_view c = record { outputs = c.outputs; ends = c.ends; objects = option_map
 abbrev pub taken_view : within.Taken → Taken
 taken_view t = record { outputs = t.outputs; ends = t.ends; all = t.all; objects = t.objects.items }
 
+abbrev pub comparison_view : WithinArguments → GuestComparison
+comparison_view a = record { explore = exploration_view a.explore; other = string_bytes a.other; counted = parts_view a.counted }
+
 abbrev pub explored_request : Explored → Request
 explored_request (explored.Outcomes a) = Explore (exploration_view a)
 explored_request (explored.Classes a) = ShowClasses (record { explore = exploration_view a.explore; counted = parts_view a.counted })
-explored_request (explored.Within a) = Compare (record {
-  explore = exploration_view a.explore;
-  other = string_bytes a.other;
-  counted = parts_view a.counted;
-})
+explored_request (explored.Within a) = Compare (comparison_view a)
 
 abbrev pub request_view : Asked → Request
 request_view asked.Session = Session
@@ -137,6 +137,11 @@ request_view (asked.Until a) = SearchFor (record {
   trace = string_bytes a.trace;
   until = a.until.items;
   hang = a.hang;
+  output = option_map string_bytes a.output;
+})
+request_view (asked.Outside a) = RecordOutside (record {
+  comparison = comparison_view a.within;
+  trace = string_bytes a.trace;
   output = option_map string_bytes a.output;
 })
 request_view (asked.Explore e) = explored_request e

@@ -15,7 +15,7 @@ use crate::trace::TraceArguments;
 use crate::view::ViewArguments;
 use crate::who::WhoArguments;
 use crate::why::WhyArguments;
-use crate::within::{ClassesArguments, WithinArguments};
+use crate::within::{ClassesArguments, OutsideArguments, WithinArguments};
 
 /// An image that is made of another file.
 #[derive(Drop)]
@@ -73,6 +73,8 @@ pub enum Asked {
     Shrink(ShrinkArguments),
     /// The recording of an outcome that fulfils conditions.
     Until(UntilArguments),
+    /// The recording of the first outcome that another guest doesn't have.
+    Outside(OutsideArguments),
     /// A session of an image and a trace in files.
     Debug(DebugArguments),
     /// gdb's protocol over an image and a trace in files.

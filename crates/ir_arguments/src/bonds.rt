@@ -25,8 +25,8 @@ pub enum Bond<'a> {
     Excludes(Named<'a>, Named<'a>),
     /// The first is given only with the second.
     Needs(Named<'a>, Named<'a>),
-    /// The first is given only with the second, or with one of the last two, which exclude the second.
-    NeedsUnless(Named<'a>, Named<'a>, &'a str, &'a str),
+    /// The first is given only with one of the others.
+    NeedsEither(Named<'a>, Named<'a>, Named<'a>),
 }
 
 // Whether an argument is given, and not by its default.
@@ -54,10 +54,9 @@ fn is_obeyed(matches: &ArgMatches<'_>, bond: Bond<'_>) -> bool
             let (one, other) = (is_given(matches, one.id), is_given(matches, other.id));
             !one || other
         }
-        Bond::NeedsUnless(one, other, first, second) => {
-            let (one, other) = (is_given(matches, one.id), is_given(matches, other.id));
-            let (first, second) = (is_given(matches, first), is_given(matches, second));
-            !one || (other || (first || second))
+        Bond::NeedsEither(one, first, second) => {
+            let (first, second) = (is_given(matches, first.id), is_given(matches, second.id));
+            !is_given(matches, one.id) || (first || second)
         }
     }
 }
@@ -165,14 +164,24 @@ fn excluded_line(
     }
 }
 
-// The argument that another needs, if it isn't given.
-fn needed<'a>(matches: &ArgMatches<'_>, bond: Bond<'a>) -> Option<Named<'a>> {
-    let (one, other) = match bond {
-        Bond::Excludes(_, _) => return None,
-        Bond::Needs(one, other) => (one, other),
-        Bond::NeedsUnless(one, other, _, _) => (one, other),
+// The argument that another needs, if it isn't given, or both of which it needs one.
+fn needed(
+    alloc: Global,
+    matches: &ArgMatches<'_>,
+    bond: Bond<'_>,
+) -> Result<Option<String>, AllocError> {
+    if is_obeyed(matches, bond) {
+        return Ok(None);
+    }
+    let needed = match bond {
+        Bond::Excludes(_, _) => return Ok(None),
+        Bond::Needs(_, other) => String::from_str(alloc, other.shown)?,
+        Bond::NeedsEither(_, first, second) => {
+            let (first, second) = (first.shown, second.shown);
+            format!(in alloc; "<{first}|{second}>")?
+        }
     };
-    (is_given(matches, one.id) && !is_given(matches, other.id)).then_some(other)
+    Ok(Some(needed))
 }
 
 // That arguments are needed.
@@ -183,14 +192,14 @@ fn needed_line(
 ) -> Result<String, AllocError> {
     let mut others = String::new(alloc);
     for &bond in bonds {
-        if let Some(named) = needed(matches, bond) {
-            if others.as_str().contains(named.shown) {
+        if let Some(needed) = needed(alloc, matches, bond)? {
+            if others.as_str().contains(needed.as_str()) {
                 continue;
             }
             if !others.is_empty() {
                 others.push(' ')?;
             }
-            others.push_str(named.shown)?;
+            others.push_str(needed.as_str())?;
         }
     }
     let others = others.as_str();

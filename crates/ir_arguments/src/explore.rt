@@ -68,6 +68,8 @@ and one of
   within                                         each complete run of IMAGE comes to an outcome of OTHER
   outside M                                      M outcomes of IMAGE aren't any of OTHER's
   unknown                                        a search ended before either was known
+With TRACE and OTHER the lines of `ir record` follow after `outside M`. TRACE is of the run by the LIST of the first printed
+outcome, written as with COND. After `within` and `unknown` TRACE isn't written.
 PARTS says what of outcomes counts, so that guests with other objects can be compared: `out` what each thread prints, `codes` how it
 ends, `objects` the words of all objects, or a number the words of that object. Without --only all of it counts.
 With --only PARTS and without OTHER outcomes that are the same in PARTS are a class. Of each class only the outcome that is found
@@ -257,8 +259,8 @@ const THE_PARTS: Named<'static> = Named {
 pub const BONDS: [Bond<'static>; 6] = [
     Bond::Excludes(THE_OTHER, THE_CONDITION),
     Bond::Excludes(THE_PARTS, THE_CONDITION),
-    Bond::NeedsUnless(THE_TRACE, THE_CONDITION, WITHIN, ONLY),
-    Bond::NeedsUnless(THE_OUTPUT, THE_CONDITION, WITHIN, ONLY),
+    Bond::NeedsEither(THE_TRACE, THE_CONDITION, THE_OTHER),
+    Bond::NeedsEither(THE_OUTPUT, THE_CONDITION, THE_OTHER),
     Bond::Needs(THE_CONDITION, THE_TRACE),
     Bond::Needs(THE_OUTPUT, THE_TRACE),
 ];
@@ -289,7 +291,7 @@ fn trace_arg<'a>(alloc: Global) -> Arg<'a>
     place_arg(
         alloc,
         TRACE,
-        "The file that the trace of the outcome is written to, with --until",
+        "The file that the trace of the outcome is written to, with --until or --within",
     )
 }
 

@@ -3,9 +3,9 @@
 ghost use Rattle.std.specs.Prelude.{◌≡◌, codes, map, option_map, IfOk};
 ghost use Rattle.std.specs.Result.{result_ok};
 ghost use Rattle.ir_arguments.specs.Asking.{or_nothing};
-ghost use Rattle.ir_arguments.specs.Exploring.{comparison_asked, classes_asked, conditions_beside, exploration_in, exploring_asked, outcomes_asked};
+ghost use Rattle.ir_arguments.specs.Exploring.{compared_in, comparison_asked, classes_asked, conditions_beside, exploration_in, exploring_asked, outcomes_asked};
 ghost use Rattle.ir_arguments.specs.Values.{rows_of_matches, texts_for};
-ghost use Rattle.ir_arguments.specs.Views.{exploration_view, request_view};
+ghost use Rattle.ir_arguments.specs.Views.{comparison_view, exploration_view, request_view};
 
 use crate::asked::{Asked, Explored};
 use crate::condition_text::ConditionText;
@@ -14,7 +14,9 @@ use crate::explore::{ExploreArguments, UntilArguments, reach_of};
 use crate::options::{profile_in, random_in};
 use crate::recording::{INPUT, OUTPUT};
 use crate::values::{IMAGE, TRACE, given, given_text, text_of};
-use crate::within::{ClassesArguments, ONLY, WITHIN, WithinArguments, counted_of, other_of};
+use crate::within::{
+    ClassesArguments, ONLY, OutsideArguments, WITHIN, WithinArguments, counted_of, other_of,
+};
 use clap::ArgMatches;
 use std::alloc::{AllocError, Global};
 
@@ -61,6 +63,24 @@ fn conditions_besides(
     outcome_conditions_of(alloc, matches)
 }
 
+// The comparison, of which the first outcome outside is recorded if a trace is given.
+fn compared_in(
+    alloc: Global,
+    matches: &ArgMatches<'_>,
+    within: WithinArguments,
+) -> Result<Asked, AllocError>
+    ensures { IfOk result (λ asked. request_view asked ≡ compared_in (rows_of_matches matches.now) (comparison_view within)) }
+{
+    match given_text(alloc, matches, TRACE)? {
+        Some(trace) => Ok(Asked::Outside(OutsideArguments {
+            within,
+            trace,
+            output: given_text(alloc, matches, OUTPUT)?,
+        })),
+        None => Ok(Asked::Explore(Explored::Within(within))),
+    }
+}
+
 // The comparison that is asked for, or what is wrong with what counts.
 fn within_asked(
     alloc: Global,
@@ -70,11 +90,14 @@ fn within_asked(
     ensures { IfOk result (λ asked. request_view asked ≡ or_nothing (comparison_asked (exploration_view explore) (rows_of_matches matches.now))) }
 {
     match counted_of(alloc, matches)? {
-        Ok(counted) => Ok(Asked::Explore(Explored::Within(WithinArguments {
-            explore,
-            other: other_of(alloc, matches)?,
-            counted,
-        }))),
+        Ok(counted) => {
+            let within = WithinArguments {
+                explore,
+                other: other_of(alloc, matches)?,
+                counted,
+            };
+            compared_in(alloc, matches, within)
+        }
         Err(why) => Ok(Asked::Nothing(why)),
     }
 }

@@ -53,4 +53,4 @@ pub use trace::TraceArguments;
 pub use view::{Part, ViewArguments};
 pub use who::WhoArguments;
 pub use why::WhyArguments;
-pub use within::{ClassesArguments, Counted, WithinArguments};
+pub use within::{ClassesArguments, Counted, OutsideArguments, WithinArguments};

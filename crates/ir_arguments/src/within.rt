@@ -47,6 +47,17 @@ pub struct WithinArguments {
     pub counted: Counted,
 }
 
+/// Which guests are compared, and where a run with the first outcome goes that the other guest doesn't have.
+#[derive(Drop)]
+pub struct OutsideArguments {
+    /// Which guests are compared, and in what.
+    pub within: WithinArguments,
+    /// The file that the trace is written to.
+    pub trace: String,
+    /// What the paths of the files of what threads print begin with, if they are asked for.
+    pub output: Option<String>,
+}
+
 /// Whose outcomes are told by classes, and in what they are the same.
 #[derive(Drop)]
 pub struct ClassesArguments {

@@ -1,5 +1,6 @@
 mod Explored
 mod Listed
+mod Outsides
 mod Searched
 mod Stored
 mod Versions

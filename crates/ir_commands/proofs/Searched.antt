@@ -61,7 +61,7 @@ fault_is_no_recording Trace p = inr (inl p)
 fault_is_no_recording Output p = inr (inl p)
 fault_is_no_recording Lines p = inr (inl p)
 
-explore_fault_is : (e : ExploreFault) {answered : ExitStatus} → answered ≡ explore_fault_status e → IsStatusOfNoRecording answered
+pub explore_fault_is : (e : ExploreFault) {answered : ExitStatus} → answered ≡ explore_fault_status e → IsStatusOfNoRecording answered
 explore_fault_is (fault.Image e) p = inr (inr p)
 explore_fault_is fault.TooLarge p = inr (inr p)
 explore_fault_is fault.NoMem p = inr (inl p)

@@ -90,17 +90,20 @@ TellsComparison c answered out faults = TellsWithin c answered out
     ⊎ ((e : WithinFault) × (answered ≡ within_fault_status e) × ToldNone e c out
     × ((words : List ℕ) × AreFaultWords e words × Reports faults (fault_text words)))
 
+-- which guests are compared, in what, and how far they are explored, by the bytes of the files that are read
+pub record AsksComparison (at : Paths) (arguments : WithinArguments) (c : Comparison) : Type 0 where
+  pub input : List ℕ
+  pub is_image : IsImageIn (at (string_bytes arguments.explore.image)) c.image
+  pub is_other : IsImageIn (at (string_bytes arguments.other)) c.other
+  pub is_input : IsInput at arguments.explore.input input
+  pub is_plan : IsPlanOf arguments.explore input c.plan
+  pub counts : c.aspects ≡ counted_asked arguments.counted
+
 -- both images and the input were read of their files, and the outcomes of the images' guests compared
 pub record Compares (at : Paths) (arguments : WithinArguments) (answered : ExitStatus) (out faults : Writer) : Type 0 where
-  pub image : List ℕ
-  pub other : List ℕ
-  pub input : List ℕ
-  pub plan : ExplorePlan
-  pub is_image : IsImageIn (at (string_bytes arguments.explore.image)) image
-  pub is_other : IsImageIn (at (string_bytes arguments.other)) other
-  pub is_input : IsInput at arguments.explore.input input
-  pub is_plan : IsPlanOf arguments.explore input plan
-  pub tells : TellsComparison (record { image = image; other = other; plan = plan; aspects = counted_asked arguments.counted }) answered out faults
+  pub comparison : Comparison
+  pub asked : AsksComparison at arguments comparison
+  pub tells : TellsComparison comparison answered out faults
 
 -- the exit status where nothing is compared: an image isn't taken, or its guest lacks an object whose words count
 abbrev pub IsStatusOfNoComparison : Paths → WithinArguments → ExitStatus → Type 0

@@ -33,6 +33,7 @@ fn paths(arguments: &HuntArguments) -> RecordingPaths<'_>
 {
     RecordingPaths {
         image: arguments.image.as_str(),
+        other: None,
         trace: arguments.trace.as_str(),
         input: &arguments.options.input,
         list: None,

@@ -134,6 +134,7 @@ fn paths(arguments: &RecordArguments) -> RecordingPaths<'_>
 {
     RecordingPaths {
         image: arguments.image.as_str(),
+        other: None,
         trace: arguments.trace.as_str(),
         input: &arguments.options.input,
         list: arguments.order_file.as_ref(),

@@ -18,6 +18,8 @@ use std::alloc::{AllocError, Global};
 pub struct RecordingPaths<'a> {
     /// The image.
     pub image: &'a str,
+    /// The image of another guest, if there is one.
+    pub other: Option<&'a String>,
     /// The trace.
     pub trace: &'a str,
     /// The file that guests read, if there is one.
@@ -115,10 +117,12 @@ pub fn loses_input<D: Folder, E: Sink>(
     ensures told { result ≡ true → E.broken faults.old ≡ false → TellsFault (writer_of (E.written faults.old) (E.written faults.new) (E.broken faults.new)) }
 {
     const OVER_IMAGE: &str = "TRACE would be written over IMAGE";
+    const OVER_OTHER: &str = "TRACE would be written over OTHER";
     const OVER_FILE: &str = "TRACE would be written over FILE";
     const OVER_LIST: &str = "TRACE would be written over LISTFILE";
     let trace = paths.trace;
     is_lost(folder, faults, OVER_IMAGE, paths.image, trace)
+        || loses_given(folder, faults, OVER_OTHER, paths.other, trace)
         || loses_given(folder, faults, OVER_FILE, paths.input.as_ref(), trace)
         || loses_given(folder, faults, OVER_LIST, paths.list, trace)
 }
@@ -147,10 +151,12 @@ fn loses_other<D: Folder, E: Sink>(
     ensures told { result ≡ true → E.broken faults.old ≡ false → TellsFault (writer_of (E.written faults.old) (E.written faults.new) (E.broken faults.new)) }
 {
     const OVER_IMAGE: &str = "PREFIX.T would be written over IMAGE";
+    const OVER_OTHER: &str = "PREFIX.T would be written over OTHER";
     const OVER_TRACE: &str = "PREFIX.T would be written over TRACE";
     const OVER_FILE: &str = "PREFIX.T would be written over FILE";
     const OVER_LIST: &str = "PREFIX.T would be written over LISTFILE";
     is_lost(folder, faults, OVER_IMAGE, paths.image, path)
+        || loses_given(folder, faults, OVER_OTHER, paths.other, path)
         || is_lost(folder, faults, OVER_TRACE, paths.trace, path)
         || loses_given(folder, faults, OVER_FILE, paths.input.as_ref(), path)
         || loses_given(folder, faults, OVER_LIST, paths.list, path)

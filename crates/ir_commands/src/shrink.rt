@@ -33,6 +33,7 @@ fn paths(arguments: &ShrinkArguments) -> RecordingPaths<'_>
 {
     RecordingPaths {
         image: arguments.image.as_str(),
+        other: None,
         trace: arguments.out.as_str(),
         input: &arguments.input,
         list: None,

@@ -31,6 +31,7 @@ fn paths(arguments: &UntilArguments) -> RecordingPaths<'_>
 {
     RecordingPaths {
         image: arguments.explore.image.as_str(),
+        other: None,
         trace: arguments.trace.as_str(),
         input: &arguments.explore.input,
         list: None,

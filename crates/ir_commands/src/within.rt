@@ -6,7 +6,7 @@ ghost use Rattle.std.specs.String.{string_bytes};
 ghost use Rattle.ir_image.specs.Guest.{object_count};
 ghost use Rattle.ir_within.specs.Plans.{aspects_of};
 ghost use Rattle.ir_files.specs.Writers.{writer_of};
-ghost use Rattle.ir_commands.specs.Exploring.{Compares, ExploresClasses, IsStatusOfNoClasses, IsStatusOfNoComparison, LacksCounted, counted_asked};
+ghost use Rattle.ir_commands.specs.Exploring.{Compares, ExploresClasses, IsInput, IsStatusOfNoClasses, IsStatusOfNoComparison, LacksCounted, counted_asked};
 ghost use Rattle.ir_commands.specs.Files.{IsImageIn, TellsFault};
 ghost use Rattle.ir_commands.specs.Printing.{LeavesUnread};
 
@@ -24,8 +24,8 @@ use ir_stream::Sink;
 use ir_within::{Aspects, ClassesPlan, WithinPlan, classes_run, within_run};
 use std::alloc::Global;
 
-// What counts of outcomes.
-fn aspects_of(counted: &Counted) -> Aspects<'_>
+/// What counts of outcomes.
+pub fn aspects_of(counted: &Counted) -> Aspects<'_>
     ensures { aspects_of result ≡ counted_asked counted.now }
 {
     Aspects {
@@ -88,15 +88,45 @@ fn lacks_counted<E: Sink>(
     }
 }
 
-// The bytes of the images of two guests.
-#[derive(Drop)]
-struct BothFiles {
-    image: Vec<u8>,
-    other: Vec<u8>,
+/// Whether one of two guests lacks an object whose words count; that is reported.
+pub fn lacks_either<E: Sink>(
+    alloc: Global,
+    explore: &ExplorePlan<'_>,
+    both: &(ParsedImage<'_>, ParsedImage<'_>),
+    arguments: &WithinArguments,
+    faults: &mut E,
+) -> bool
+    ensures kept { result ≡ false → faults.new ≡ faults.old }
+    ensures told { result ≡ true → E.broken faults.old ≡ false → TellsFault (writer_of (E.written faults.old) (E.written faults.new) (E.broken faults.new)) }
+    ensures lacks { result ≡ true → LacksCounted both.now.0 arguments.now.counted ⊎ LacksCounted both.now.1 arguments.now.counted }
+{
+    let (counted, path) = (&arguments.counted, arguments.explore.image.as_str());
+    if lacks_counted(alloc, explore, &both.0, counted, path, faults) {
+        return true;
+    }
+    lacks_counted(
+        alloc,
+        explore,
+        &both.1,
+        counted,
+        arguments.other.as_str(),
+        faults,
+    )
 }
 
-// The images of two guests, as far as their bytes are any.
-fn both_images(alloc: Global, files: &BothFiles) -> (ParsedImage<'_>, ParsedImage<'_>)
+/// What is read to compare two guests.
+#[derive(Drop)]
+pub struct ComparedFiles {
+    /// The guest's image.
+    pub image: Vec<u8>,
+    /// The other guest's.
+    pub other: Vec<u8>,
+    /// What both read.
+    pub input: Vec<u8>,
+}
+
+/// The images of two guests, as far as their bytes are any.
+pub fn both_images(alloc: Global, files: &ComparedFiles) -> (ParsedImage<'_>, ParsedImage<'_>)
     ensures { (result.0 ≡ files.now.image.items) × (result.1 ≡ files.now.other.items) }
 {
     (
@@ -105,23 +135,30 @@ fn both_images(alloc: Global, files: &BothFiles) -> (ParsedImage<'_>, ParsedImag
     )
 }
 
-// The images of the guests in two files; if there are none, the reason is reported.
-fn both_files<D: Folder, E: Sink>(
+/// The images of the guests in two files, and what both read; if there are none, the reason is reported.
+pub fn compared_files<D: Folder, E: Sink>(
     alloc: Global,
     folder: &D,
     arguments: &WithinArguments,
     faults: &mut E,
-) -> Result<BothFiles, ExitStatus>
+) -> Result<ComparedFiles, ExitStatus>
     ensures kept { OnOk result (faults.new ≡ faults.old) }
     ensures image { IfOk result (λ files. IsImageIn (D.bytes_at folder.now (string_bytes arguments.now.explore.image)) files.image.items) }
     ensures other { IfOk result (λ files. IsImageIn (D.bytes_at folder.now (string_bytes arguments.now.other)) files.other.items) }
+    ensures input { IfOk result (λ files. IsInput (D.bytes_at folder.now) arguments.now.explore.input files.input.items) }
     ensures status { IfErr result (IsStatusOfNoComparison (D.bytes_at folder.now) arguments.now) }
     ensures told { OnErr result (E.broken faults.old ≡ false → TellsFault (writer_of (E.written faults.old) (E.written faults.new) (E.broken faults.new))) }
 {
-    Ok(BothFiles {
-        image: image_in(alloc, folder, faults, arguments.explore.image.as_str())?,
-        other: image_in(alloc, folder, faults, arguments.other.as_str())?,
-    })
+    let image = image_in(alloc, folder, faults, arguments.explore.image.as_str())?;
+    let other = image_in(alloc, folder, faults, arguments.other.as_str())?;
+    match input_of(alloc, folder, faults, &arguments.explore.input) {
+        Some(input) => Ok(ComparedFiles {
+            image,
+            other,
+            input,
+        }),
+        None => Err(ExitStatus::Failed),
+    }
 }
 
 // Compares the outcomes of the guests in two files.
@@ -138,30 +175,20 @@ pub fn within_file<R: AllocGlobal, D: Folder, G: Observer, O: Sink, E: Sink>(
         ⊎ LeavesUnread (IsStatusOfNoComparison (D.bytes_at around.now.folder.now) arguments.now result) (out.new ≡ out.old)
         (writer_of (E.written faults.old) (E.written faults.new) (E.broken faults.new)) }
 {
-    let (alloc, folder) = (around.rt.alloc(), around.folder);
-    let files = match both_files(alloc, folder, arguments, faults) {
+    let alloc = around.rt.alloc();
+    let files = match compared_files(alloc, around.folder, arguments, faults) {
         Ok(files) => files,
         Err(status) => return status,
     };
-    let Some(input) = input_of(alloc, folder, faults, &arguments.explore.input) else {
-        return ExitStatus::Failed;
-    };
     let both = both_images(alloc, &files);
-    let explore = plan_of(&arguments.explore, input.as_slice());
-    let counted = &arguments.counted;
     let plan = WithinPlan {
         image: &both.0,
         other: &both.1,
-        explore,
-        aspects: aspects_of(counted),
+        explore: plan_of(&arguments.explore, files.input.as_slice()),
+        aspects: aspects_of(&arguments.counted),
         observer: around.gate,
     };
-    let path = arguments.explore.image.as_str();
-    let other_path = arguments.other.as_str();
-    if lacks_counted(alloc, &plan.explore, &both.0, counted, path, faults) {
-        return ExitStatus::BadArguments;
-    }
-    if lacks_counted(alloc, &plan.explore, &both.1, counted, other_path, faults) {
+    if lacks_either(alloc, &plan.explore, &both, arguments, faults) {
         return ExitStatus::BadArguments;
     }
     within_run(alloc, &plan, out, faults)

@@ -16,6 +16,7 @@ use Rattle.ir_arguments.specs.declared.debug.DebugArguments.{DebugArguments}
 use Rattle.std.specs.String.{string_bytes}
 use Rattle.ir_commands.specs.Exploring.{Compares, Explores, ExploresClasses, IsStatusOfNoClasses, IsStatusOfNoComparison}
 use Rattle.ir_commands.specs.Files.{IsStatusOfNone, IsUnread, OfImageAndTrace, TellsFault}
+use Rattle.ir_commands.specs.Outside.{OutsideFile}
 use Rattle.ir_commands.specs.Printing.{Paths, LeavesUnread, IsStatusOfNoImage}
 use Rattle.ir_commands.specs.Printing.{PrintsCode, PrintsTrace, PrintsEvents, PrintsStale, PrintsWho, PrintsWhy, PrintsDiff, PrintsView}
 use Rattle.ir_commands.specs.Searching.{HuntsFile, SearchesFile, ShrinksFile}
@@ -115,3 +116,4 @@ Does at stored asked.NoMem answered input out faults unprinted = TellsWhyNot sta
 Does at stored (asked.Hunt a) answered input out faults unprinted = HuntsFile at stored a answered out faults
 Does at stored (asked.Shrink a) answered input out faults unprinted = ShrinksFile at stored a answered out faults
 Does at stored (asked.Until a) answered input out faults unprinted = SearchesFile at stored a answered out faults
+Does at stored (asked.Outside a) answered input out faults unprinted = OutsideFile at stored a answered out faults

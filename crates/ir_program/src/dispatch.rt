@@ -17,8 +17,8 @@ use crate::prompting::Prompting;
 use ir_arguments::{Asked, DebugArguments, Explored, Make, Print, parsed};
 use ir_commands::{
     Surroundings, assemble_file, classes_file, convert_file, diff_files, events_file,
-    explain_image, explore_file, hunt_file, list_file, record_file, say, shrink_file, stale_file,
-    trace_file, until_file, view_file, who_file, why_file, within_file,
+    explain_image, explore_file, hunt_file, list_file, outside_file, record_file, say, shrink_file,
+    stale_file, trace_file, until_file, view_file, who_file, why_file, within_file,
 };
 use ir_files::{ExitStatus, Folder};
 use ir_object::{Gate, Given};
@@ -230,6 +230,7 @@ fn image_of(asked: &Asked) -> Option<&str> {
         Asked::Hunt(arguments) => &arguments.image,
         Asked::Shrink(arguments) => &arguments.image,
         Asked::Until(arguments) => &arguments.explore.image,
+        Asked::Outside(arguments) => &arguments.within.explore.image,
         Asked::Print(Print::Code(arguments)) => &arguments.image,
         Asked::Explore(Explored::Outcomes(arguments)) => &arguments.image,
         Asked::Explore(Explored::Classes(arguments)) => &arguments.explore.image,
@@ -237,6 +238,16 @@ fn image_of(asked: &Asked) -> Option<&str> {
         _ => return None,
     };
     Some(image.as_str())
+}
+
+// The image of the guest that it is compared with.
+fn other_of(asked: &Asked) -> Option<&str> {
+    let within = match asked {
+        Asked::Outside(arguments) => &arguments.within,
+        Asked::Explore(Explored::Within(arguments)) => arguments,
+        _ => return None,
+    };
+    Some(within.other.as_str())
 }
 
 // Where an image was refused, it is reported what it is; and the same of the guest that it is compared with.
@@ -252,8 +263,8 @@ fn explain<D: Folder, E: Sink>(
     if let Some(image) = image_of(asked) {
         explain_image(alloc, folder, image, status, faults);
     }
-    if let Asked::Explore(Explored::Within(arguments)) = asked {
-        explain_image(alloc, folder, arguments.other.as_str(), status, faults);
+    if let Some(other) = other_of(asked) {
+        explain_image(alloc, folder, other, status, faults);
     }
 }
 
@@ -288,6 +299,7 @@ where
         Asked::Hunt(arguments) => hunt_file(around, arguments, explains, out, faults),
         Asked::Shrink(arguments) => shrink_file(around, arguments, explains, out, faults),
         Asked::Until(arguments) => until_file(around, arguments, explains, out, faults),
+        Asked::Outside(arguments) => outside_file(around, arguments, explains, out, faults),
         Asked::Debug(arguments) => debug(around, arguments, terminals.input, input, out, faults),
         Asked::Gdb(arguments) => gdb(around, arguments, input, out, faults),
         Asked::Print(what) => print(around, what, out, faults),

@@ -14,7 +14,7 @@ fn asked(rt: &HostRuntime, line: &str) -> Result<Asked, Fail> {
     Ok(parsed(rt.alloc(), arguments.as_slice()))
 }
 
-const WRONG: [(&str, &str); 21] = [
+const WRONG: [(&str, &str); 24] = [
     (
         "ir asm",
         "the following required arguments were not provided: <SOURCE> <IMAGE>",
@@ -62,11 +62,23 @@ const WRONG: [(&str, &str); 21] = [
     ("ir play", "unrecognized subcommand 'play': see ir --help"),
     (
         "ir explore a.img --output p",
-        "the following required arguments were not provided: --until <COND> <TRACE>",
+        "the following required arguments were not provided: <--until <COND>|--within <OTHER>> <TRACE>",
     ),
     (
         "ir explore a.img a.trc",
-        "the following required arguments were not provided: --until <COND>",
+        "the following required arguments were not provided: <--until <COND>|--within <OTHER>>",
+    ),
+    (
+        "ir explore a.img a.trc --only out",
+        "the following required arguments were not provided: <--until <COND>|--within <OTHER>>",
+    ),
+    (
+        "ir explore a.img --within b.img --output p",
+        "the following required arguments were not provided: <TRACE>",
+    ),
+    (
+        "ir explore a.img --until fault",
+        "the following required arguments were not provided: <TRACE>",
     ),
     (
         "ir explore a.img --until fault --within b.img --only out",

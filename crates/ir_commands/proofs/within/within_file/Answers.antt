@@ -1,38 +1,39 @@
-use Rattle.std.proofs.Common.{◌≡◌, ◌∙◌, inl, inr, false, refl, subst, sym}
+use Rattle.std.proofs.Common.{◌≡◌, ◌∙◌, false, inl, inr, refl, subst, sym}
+use Rattle.std.specs.String.{string_bytes}
 use Rattle.ir_files.specs.Writers.{writer_of}
+use Rattle.ir_within.specs.Faults.{Comparison}
 use Rattle.ir_within.specs.Plans.{aspects_of}
-use Rattle.ir_commands.specs.Exploring.{IsPlanOf, LacksCounted, TellsComparison, counted_asked}
-use Rattle.ir_commands.specs.Files.{TellsFault}
+use Rattle.ir_commands.specs.Exploring.{AsksComparison, IsPlanOf, TellsComparison}
+use Rattle.ir_commands.specs.Files.{IsImageIn, TellsFault}
 use Rattle.ir_commands.proofs.Explored.{told_comparison}
+use Rattle.ir_commands.proofs.Outsides.{either_lacks}
 use Rattle.ir_commands.proofs.within.within_file.Goals as goal
 
 pub returns : goal.returns
 returns g c =
+    let at = g.D.Folder.bytes_at c.args.around.now.folder.now in
     let arguments = c.args.arguments.now in
-    let files = c.in-Ok.files in
     let both = c.both_images-both.result in
-    let plan = c.plan_of-explore.result in
-    let counted = aspects_of c.aspects_of.result in
+    let plan = c.plan_of.result in
+    let comparison : Comparison = record { image = both.0; other = both.1; plan = plan; aspects = aspects_of c.aspects_of.result } in
+    let asked : AsksComparison at arguments comparison = record {
+      input = c.in-Ok.files.input.items;
+      is_image = subst (IsImageIn (at (string_bytes arguments.explore.image))) (sym c.both_images-both.ensures.0) c.in-Ok.ensures.image;
+      is_other = subst (IsImageIn (at (string_bytes arguments.other))) (sym c.both_images-both.ensures.1) c.in-Ok.ensures.other;
+      is_input = c.in-Ok.ensures.input;
+      is_plan = subst (λ z. IsPlanOf arguments.explore z plan) c.as_slice.ensures.value c.plan_of.ensures;
+      counts = c.aspects_of.ensures;
+    } in
     let answered = c.within_run.result in
     let out = writer_of (g.O.Sink.written c.args.out.now) (g.O.Sink.written c.within_run.new.out) (g.O.Sink.broken c.within_run.new.out) in
-    let between = writer_of (g.E.Sink.written c.lacks_counted-2.new.faults) (g.E.Sink.written c.within_run.new.faults) (g.E.Sink.broken c.within_run.new.faults) in
+    let between = writer_of (g.E.Sink.written c.lacks_either.new.faults) (g.E.Sink.written c.within_run.new.faults) (g.E.Sink.broken c.within_run.new.faults) in
     record {
       prints = inl (record {
-        image = files.image.items;
-        other = files.other.items;
-        input = c.in-Some.input.items;
-        plan = plan;
-        is_image = c.in-Ok.ensures.image;
-        is_other = c.in-Ok.ensures.other;
-        is_input = c.in-Some.ensures.input;
-        is_plan = subst (λ z. IsPlanOf arguments.explore z plan) c.as_slice.ensures.value c.plan_of-explore.ensures;
-        tells = subst (λ f. TellsComparison (record { image = files.image.items; other = files.other.items; plan = plan; aspects = counted_asked arguments.counted }) answered out
+        comparison = comparison;
+        asked = asked;
+        tells = subst (λ f. TellsComparison comparison answered out
             (writer_of (g.E.Sink.written f) (g.E.Sink.written c.within_run.new.faults) (g.E.Sink.broken c.within_run.new.faults)))
-            (c.if-lacks_counted-2.ensures.kept refl ∙ c.if-lacks_counted.ensures.kept refl ∙ c.in-Some.ensures.kept ∙ c.in-Ok.ensures.kept)
-            (subst (λ a. TellsComparison (record { image = files.image.items; other = files.other.items; plan = plan; aspects = a }) answered out between) c.aspects_of.ensures
-            (subst (λ z. TellsComparison (record { image = files.image.items; other = z; plan = plan; aspects = counted }) answered out between) c.both_images-both.ensures.1
-            (subst (λ z. TellsComparison (record { image = z; other = both.1; plan = plan; aspects = counted }) answered out between) c.both_images-both.ensures.0
-            (told_comparison (record { image = both.0; other = both.1; plan = plan; aspects = counted }) answered out between c.within_run.ensures.done))));
+            (c.if-lacks_either.ensures.kept refl ∙ c.in-Ok.ensures.kept) (told_comparison comparison answered out between c.within_run.ensures.done);
       });
     }
 
@@ -45,17 +46,18 @@ returns-in-Err g c = record {
   });
 }
 
-pub returns-then-lacks_counted-2 : goal.returns-then-lacks_counted-2
-returns-then-lacks_counted-2 g c =
-    let counted = c.args.arguments.now.counted in
-    let files = c.in-Ok.files in
-    let kept = c.if-lacks_counted.ensures.kept refl ∙ c.in-Some.ensures.kept ∙ c.in-Ok.ensures.kept in
-    let lacks = subst (λ z. LacksCounted z counted) c.both_images-both.ensures.1 (c.if-lacks_counted-2.ensures.lacks refl) in
-    let told = subst (λ f. TellsFault (writer_of (g.E.Sink.written f) (g.E.Sink.written c.lacks_counted-2.new.faults) (g.E.Sink.broken c.lacks_counted-2.new.faults))) kept
-    (c.if-lacks_counted-2.ensures.told refl (subst (λ f. g.E.Sink.broken f ≡ false) (sym kept) c.requires.reports)) in
+pub returns-then-lacks_either : goal.returns-then-lacks_either
+returns-then-lacks_either g c =
+    let kept = c.in-Ok.ensures.kept in
+    let told = subst (λ f. TellsFault (writer_of (g.E.Sink.written f) (g.E.Sink.written c.lacks_either.new.faults) (g.E.Sink.broken c.lacks_either.new.faults))) kept
+    (c.if-lacks_either.ensures.told refl (subst (λ f. g.E.Sink.broken f ≡ false) (sym kept) c.requires.reports)) in
     record {
       prints = inr (record {
-        status = inr (inr (refl, inr (files.other.items, c.in-Ok.ensures.other, lacks)));
+        status = inr (inr (
+          refl,
+          either_lacks c.args.arguments.now.counted c.in-Ok.ensures.image c.in-Ok.ensures.other c.both_images-both.ensures.0 c.both_images-both.ensures.1
+              (c.if-lacks_either.ensures.lacks refl),
+        ));
         kept = refl;
         told = told;
       });

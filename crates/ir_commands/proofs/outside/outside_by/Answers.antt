@@ -1,0 +1,56 @@
+use Rattle.std.proofs.Common.{◌∙◌, List, ℕ, ap, refl, subst, sym}
+use Rattle.std.proofs.lemmas.Result.{IfErr-weaker, on_ok_weaker}
+use Rattle.std.specs.String.{string_bytes}
+use Rattle.ir_files.specs.Given.{IsStored}
+use Rattle.ir_files.specs.Writers.{writer_of}
+use Rattle.ir_within.specs.Faults.{Comparison}
+use Rattle.ir_within.specs.Plans.{aspects_of}
+use Rattle.ir_commands.specs.Exploring.{AsksComparison, IsPlanOf}
+use Rattle.ir_commands.specs.Files.{IsImageIn}
+use Rattle.ir_commands.specs.Outside.{RecordsOutside}
+use Rattle.ir_commands.proofs.Outsides.{outside_misses}
+use Rattle.ir_commands.proofs.outside.outside_by.Goals as goal
+
+pub returns-clause-found : goal.returns-clause-found
+returns-clause-found g c =
+    let folder = c.args.around.now.folder.now in
+    let at = g.D.Folder.bytes_at folder in
+    let stored = λ (place bytes : List ℕ). IsStored g.D.Folder.known (g.D.Folder.knows folder) (g.D.Folder.was_put folder) place bytes in
+    let within = c.args.arguments.now.within in
+    let both = c.both_images-both.result in
+    let plan = c.plan_of.result in
+    let comparison : Comparison = record { image = both.0; other = both.1; plan = plan; aspects = aspects_of c.aspects_of.result } in
+    let asked : AsksComparison at within comparison = record {
+      input = c.in_ok-files.files.input.items;
+      is_image = subst (IsImageIn (at (string_bytes within.explore.image))) (sym c.both_images-both.ensures.0) c.in_ok-files.ensures.image;
+      is_other = subst (IsImageIn (at (string_bytes within.other))) (sym c.both_images-both.ensures.1) c.in_ok-files.ensures.other;
+      is_input = c.in_ok-files.ensures.input;
+      is_plan = subst (λ z. IsPlanOf within.explore z plan) c.as_slice.ensures.value c.plan_of.ensures;
+      counts = c.aspects_of.ensures;
+    } in
+    let out = writer_of (g.O.Sink.written c.args.out.now) (g.O.Sink.written c.outside_into.new.out) (g.O.Sink.broken c.outside_into.new.out) in
+    on_ok_weaker c.outside_into.result (λ found. record {
+      comparison = comparison;
+      asked = asked;
+      found = subst (λ p. RecordsOutside comparison (stored p) out) (c.new-places.ensures.trace ∙ c.paths-paths.ensures) found;
+    }) c.outside_into.ensures.found
+
+pub returns-clause-none : goal.returns-clause-none
+returns-clause-none g c =
+    let at = g.D.Folder.bytes_at c.args.around.now.folder.now in
+    let within = c.args.arguments.now.within in
+    let both = c.both_images-both.result in
+    let plan = c.plan_of.result in
+    let comparison : Comparison = record { image = both.0; other = both.1; plan = plan; aspects = aspects_of c.aspects_of.result } in
+    let asked : AsksComparison at within comparison = record {
+      input = c.in_ok-files.files.input.items;
+      is_image = subst (IsImageIn (at (string_bytes within.explore.image))) (sym c.both_images-both.ensures.0) c.in_ok-files.ensures.image;
+      is_other = subst (IsImageIn (at (string_bytes within.other))) (sym c.both_images-both.ensures.1) c.in_ok-files.ensures.other;
+      is_input = c.in_ok-files.ensures.input;
+      is_plan = subst (λ z. IsPlanOf within.explore z plan) c.as_slice.ensures.value c.plan_of.ensures;
+      counts = c.aspects_of.ensures;
+    } in
+    let out = writer_of (g.O.Sink.written c.args.out.now) (g.O.Sink.written c.outside_into.new.out) (g.O.Sink.broken c.outside_into.new.out) in
+    let kept = c.in_ok-outputs.ensures.kept ∙ c.if-lacks_either.ensures.kept refl ∙ c.in_ok-files.ensures.kept ∙ c.if-loses_input.ensures.kept refl in
+    IfErr-weaker c.outside_into.result _ _ (λ answered h. outside_misses answered out asked (ap
+    (λ f. writer_of (g.E.Sink.written f) (g.E.Sink.written c.outside_into.new.faults) (g.E.Sink.broken c.outside_into.new.faults)) kept) h) c.outside_into.ensures.none

@@ -1,0 +1,21 @@
+use Rattle.ir_trace.specs.Encoding.{encoding}
+use Rattle.ir_commands.proofs.Searched.{on_both}
+use Rattle.ir_commands.proofs.Stored.{stored_in_place}
+use Rattle.ir_commands.proofs.outside.outside_into.Goals as goal
+
+pub returns-clause-found : goal.returns-clause-found
+returns-clause-found g c =
+    let files = c.record_files-files.result in
+    let after = c.outside_in.new.files in
+    on_both c.outside_in.result (λ whole found. record {
+      list = found.list;
+      text = found.text;
+      recorded = found.recorded;
+      printed = found.printed;
+      finding = found.finding;
+      trace = stored_in_place g.D.Folder.known g.D.Folder.knows g.D.Folder.was_put (λ m. m.file) c.args.around.now.folder.now files.trace.folder.now
+          after.trace.folder.now c.args.places.trace.now files.trace.place.now after.trace.place.now files.trace.made after.trace.made
+          (encoding found.recorded) c.record_files-files.ensures.folder c.record_files-files.ensures.place
+          c.outside_in.ensures.home c.record_files-files.ensures.empty (after.trace.put whole) found.trace;
+      lines = found.lines;
+    }) c.outside_in.ensures.whole c.outside_in.ensures.found

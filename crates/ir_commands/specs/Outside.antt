@@ -1,0 +1,47 @@
+-- What `ir explore --within` with a trace leaves, by the bytes that a folder says are at the paths of its arguments.
+use Rattle.std.specs.Prelude.{◌≡◌, ◌⊎◌, ℕ, List, ◌++◌, Err}
+use Rattle.std.specs.String.{string_bytes}
+use Rattle.ir_arguments.specs.declared.within.OutsideArguments.{OutsideArguments}
+use Rattle.ir_files.specs.Writers.{Writer, Took}
+use Rattle.ir_files.specs.declared.exit_status.ExitStatus.{ExitStatus}
+use Rattle.ir_files.specs.declared.exit_status.ExitStatus.TheVariants as status
+use Rattle.ir_record_command.specs.Recording.{recording_lines}
+use Rattle.ir_trace.specs.Encoding.{encoding}
+use Rattle.ir_trace.specs.Recorded.{Recorded}
+use Rattle.ir_within.specs.Faults.{Comparison}
+use Rattle.ir_within.specs.Outside.{IsOutsideAnswer, IsOutsideRecorded}
+use Rattle.ir_commands.specs.Exploring.{AsksComparison}
+use Rattle.ir_commands.specs.Printing.{Paths}
+use Rattle.ir_commands.specs.Searching.{TellsNoSearch}
+use Rattle.ir_commands.specs.Writing.{Storing}
+
+-- a run with the first outcome that is outside was recorded: this holds of its trace, and its lines were printed behind those of the comparison
+pub record RecordsOutside (c : Comparison) (is_kept : List ℕ → Type 0) (out : Writer) : Type 0 where
+  pub list : List ℕ
+  pub text : List ℕ
+  pub recorded : Recorded
+  pub printed : List (List ℕ)
+  pub finding : IsOutsideRecorded c list text recorded printed
+  pub trace : is_kept (encoding recorded)
+  pub lines : Took out (text ++ recording_lines recorded)
+
+-- no outcome is known to be outside, and what was found out was printed
+abbrev pub TellsNoneOutside : Comparison → ExitStatus → Writer → Type 0
+TellsNoneOutside c answered out = (text : List ℕ) × IsOutsideAnswer c (Err answered) text × Took out text
+
+-- the first outcome that is outside was recorded, and its trace is at the path of TRACE
+pub record FindsOutside (at : Paths) (stored : Storing) (arguments : OutsideArguments) (out : Writer) : Type 0 where
+  pub comparison : Comparison
+  pub asked : AsksComparison at arguments.within comparison
+  pub found : RecordsOutside comparison (stored (string_bytes arguments.trace)) out
+
+-- none is known to be
+pub record MissesOutside (at : Paths) (arguments : OutsideArguments) (answered : ExitStatus) (out : Writer) : Type 0 where
+  pub comparison : Comparison
+  pub asked : AsksComparison at arguments.within comparison
+  pub vain : TellsNoneOutside comparison answered out
+
+-- what `ir explore --within` with a trace did: the first outcome that is outside was recorded; or none is known to be; or a fault stopped it
+abbrev pub OutsideFile : Paths → Storing → OutsideArguments → ExitStatus → Writer → Writer → Type 0
+OutsideFile at stored arguments answered out faults = ((answered ≡ status.NotSo) × FindsOutside at stored arguments out)
+    ⊎ (MissesOutside at arguments answered out ⊎ TellsNoSearch answered faults)
