@@ -1,4 +1,5 @@
 mod Explored
+mod Kept
 mod Listed
 mod Outsides
 mod Searched

@@ -31,7 +31,8 @@ use Rattle.ir_commands.specs.Files.{TellsFault}
 use Rattle.ir_commands.specs.Printing.{Paths}
 use Rattle.ir_commands.specs.Searching.{AsksHunt, AsksSearch, AsksShrink, EndsFound, HuntsFile, IsShrinkPlanOfHunt, IsStatusOfNoShrinking, RecordsHang, RecordsHunted}
 use Rattle.ir_commands.specs.Searching.{RecordsShrunkRun, RefusesFound, RefusesGiven, SearchFinds, SearchMisses, SearchesFile, ShrinkRefuses, ShrinksFound, TellsNoSearch, TellsNoSeed, TellsVain}
-use Rattle.ir_commands.specs.Writing.{IsStatusOfNoRecording, Storing}
+use Rattle.ir_commands.specs.Writing.{IsStatusOfNoRecording, KeptAsAsked, Keeping, Storing}
+use Rattle.ir_commands.proofs.Kept.{ends_kept, hunted_kept, shrunk_kept}
 use Rattle.ir_commands.proofs.Stored.{reported_is_told}
 
 -- what holds wherever there is a value, by what holds of it
@@ -95,7 +96,7 @@ hang_tells_none d answered image plan old new reports (inr (inr h)) =
     inr (fault_is_no_recording h.0 h.1, reported_is_told h.0 image _ _ _ reports h.7.0)
 
 -- a plan that is the same may stand for it
-pub with_plan : {image : List ℕ} {plan other : ExplorePlan} {is_kept : List ℕ → Type 0} {out : Writer} → plan ≡ other
+pub with_plan : {image : List ℕ} {plan other : ExplorePlan} {is_kept : Keeping} {out : Writer} → plan ≡ other
     → RecordsHang image plan is_kept out → RecordsHang image other is_kept out
 with_plan {image} {plan} {other} {is_kept} {out} same found = subst (λ p. RecordsHang image p is_kept out) same found
 
@@ -108,18 +109,20 @@ hang_vain out same (inr h) = inr h
 
 -- what a hunt comes to, by what it found and what was made of that
 pub hunt_comes_to : {O E : Type 0} (written : O → Option (List ℕ)) (broken : O → Bool) (reported : E → Option (List ℕ)) (fails : E → Bool) (at : Paths) (stored : Storing)
-    (arguments : HuntArguments) (image : List ℕ) (plan : HuntPlan) (out said out' : O) (faults told faults' : E) (answered : ExitStatus) (place : List ℕ)
-    (r : Result Recorded ExitStatus) → AsksHunt at arguments image plan → place ≡ string_bytes arguments.trace
-    → IfOk r (λ recorded. RecordsHunted image plan recorded (stored place) (writer_of (written out) (written said) (broken said)))
+    (arguments : HuntArguments) (image : List ℕ) (plan : HuntPlan) (out said out' : O) (faults told faults' : E) (answered : ExitStatus) (one : Keeping)
+    (r : Result Recorded ExitStatus) → AsksHunt at arguments image plan
+    → ((bytes : List ℕ) (printed : List (List ℕ)) → one bytes printed
+    → KeptAsAsked stored (string_bytes arguments.trace) arguments.options.output bytes printed)
+    → IfOk r (λ recorded. RecordsHunted image plan recorded one (writer_of (written out) (written said) (broken said)))
     → IfErr r (λ e. TellsNoSeed image plan e (writer_of (written out) (written said) (broken said))
     ⊎ TellsNoSearch e (writer_of (reported faults) (reported told) (fails told)))
     → IfErr r (λ e. answered ≡ e) → OnErr r (out' ≡ said) → OnErr r (faults' ≡ told)
     → (arguments.shrinks ≡ false → OnOk r ((answered ≡ status.Done) × (out' ≡ said)))
-    → (arguments.shrinks ≡ true → IfOk r (λ given. EndsFound image plan given (stored place) answered (writer_of (written said) (written out') (broken out'))
+    → (arguments.shrinks ≡ true → IfOk r (λ given. EndsFound image plan given one answered (writer_of (written said) (written out') (broken out'))
     (writer_of (reported told) (reported faults') (fails faults'))))
     → HuntsFile at stored arguments answered (writer_of (written out) (written out') (broken out')) (writer_of (reported faults) (reported faults') (fails faults'))
-hunt_comes_to written broken reported fails at stored arguments image plan out said out' faults told faults' answered place (Ok x) asked here found none stopped quiet kept done shrunk =
-    let hunted = subst (λ p. RecordsHunted image plan x (stored p) (writer_of (written out) (written said) (broken said))) here found in
+hunt_comes_to written broken reported fails at stored arguments image plan out said out' faults told faults' answered one (Ok x) asked here found none stopped quiet kept done shrunk =
+    let hunted = hunted_kept here found in
     inl (
       λ no. record {
         image = image;
@@ -129,7 +132,7 @@ hunt_comes_to written broken reported fails at stored arguments image plan out s
           (done no).0,
           (
             x,
-            subst (λ o. RecordsHunted image plan x (stored (string_bytes arguments.trace)) (writer_of (written out) (written o) (broken o)))
+            subst (λ o. RecordsHunted image plan x (KeptAsAsked stored (string_bytes arguments.trace) arguments.options.output) (writer_of (written out) (written o) (broken o)))
                 (sym (done no).1) hunted,
           ),
         );
@@ -144,16 +147,15 @@ hunt_comes_to written broken reported fails at stored arguments image plan out s
           reported = reported told;
           begins = refl;
           hunted = hunted;
-          ended = subst (λ p. EndsFound image plan x (stored p) answered (writer_of (written said) (written out') (broken out'))
-              (writer_of (reported told) (reported faults') (fails faults'))) here (shrunk yes);
+          ended = ends_kept here (shrunk yes);
         });
       },
     )
-hunt_comes_to written broken reported fails at stored arguments image plan out said out' faults told faults' answered place (Err e) asked here found (inl none) stopped quiet kept done shrunk =
+hunt_comes_to written broken reported fails at stored arguments image plan out said out' faults told faults' answered one (Err e) asked here found (inl none) stopped quiet kept done shrunk =
     let seedless = subst (λ a. TellsNoSeed image plan a (writer_of (written out) (written out') (broken out'))) (sym stopped)
     (subst (λ o. TellsNoSeed image plan e (writer_of (written out) (written o) (broken o))) (sym quiet) none) in
     inl (λ no. record { image = image; plan = plan; asked = asked; ended = inr seedless }, λ yes. record { image = image; plan = plan; asked = asked; ended = inr seedless })
-hunt_comes_to written broken reported fails at stored arguments image plan out said out' faults told faults' answered place (Err e) asked here found (inr none) stopped quiet kept done shrunk =
+hunt_comes_to written broken reported fails at stored arguments image plan out said out' faults told faults' answered one (Err e) asked here found (inr none) stopped quiet kept done shrunk =
     inr (subst (λ a. TellsNoSearch a (writer_of (reported faults) (reported faults') (fails faults'))) (sym stopped)
     (subst (λ f. TellsNoSearch e (writer_of (reported faults) (reported f) (fails f))) (sym kept) none))
 
@@ -195,12 +197,12 @@ search_comes_to at stored arguments answered out told faults (Err e) found (inl 
 search_comes_to at stored arguments answered out told faults (Err e) found (inr none) done stopped kept =
     inr (inr (subst (λ a. TellsNoSearch a faults) (sym stopped) (subst (λ w. TellsNoSearch e w) kept none)))
 
--- a run that is shrunk is so wherever its trace is
-pub shrunk_at : {image : List ℕ} {given : Recorded} {plan : ShrinkPlan} {is_minimal : Bool} {place other : List ℕ} {out last : Writer} (stored : Storing)
-    → place ≡ other → out ≡ last → RecordsShrunkRun image given plan is_minimal (stored place) out → RecordsShrunkRun image given plan is_minimal (stored other) last
-shrunk_at {image} {given} {plan} {is_minimal} {place} {other} {out} {last} stored here same h =
-    subst (λ w. RecordsShrunkRun image given plan is_minimal (stored other) w) same
-    (subst (λ p. RecordsShrunkRun image given plan is_minimal (stored p) out) here h)
+-- a run that is shrunk is so wherever what it leaves is kept
+pub shrunk_at : {image : List ℕ} {given : Recorded} {plan : ShrinkPlan} {is_minimal : Bool} {one other : Keeping} {out last : Writer}
+    → ((bytes : List ℕ) (printed : List (List ℕ)) → one bytes printed → other bytes printed) → out ≡ last
+    → RecordsShrunkRun image given plan is_minimal one out → RecordsShrunkRun image given plan is_minimal other last
+shrunk_at {image} {given} {plan} {is_minimal} {one} {other} {out} {last} to same h =
+    subst (λ w. RecordsShrunkRun image given plan is_minimal other w) same (shrunk_kept to h)
 
 -- a run isn't shrunk
 pub shrink_refuses : {at : Paths} {arguments : ShrinkArguments} {image : List ℕ} {given : Recorded} {plan : ShrinkPlan} {told faults : Writer} (answered : ExitStatus)
@@ -216,7 +218,7 @@ shrink_refuses {at} {arguments} {image} {given} {plan} answered asked same (inl 
 shrink_refuses answered asked same (inr h) = inr (inl h)
 
 -- a run that was found is shrunk as the hunt looked for it
-pub found_shrinks : {image : List ℕ} {hunt view : HuntPlan} {given : Recorded} {plan : ShrinkPlan} {is_minimal : Bool} {is_kept : List ℕ → Type 0} {out : Writer}
+pub found_shrinks : {image : List ℕ} {hunt view : HuntPlan} {given : Recorded} {plan : ShrinkPlan} {is_minimal : Bool} {is_kept : Keeping} {out : Writer}
     → view ≡ hunt → IsShrinkPlanOfHunt view given plan → RecordsShrunkRun image given plan is_minimal is_kept out
     → ShrinksFound image hunt given is_minimal is_kept out
 found_shrinks {image} {hunt} {view} {given} {plan} same is_plan h =

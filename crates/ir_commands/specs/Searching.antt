@@ -29,7 +29,7 @@ use Rattle.ir_commands.specs.Conditions.{AreWritten}
 use Rattle.ir_commands.specs.Exploring.{IsInput, IsPlanOf}
 use Rattle.ir_commands.specs.Files.{IsFileIn, IsImageIn, TellsFault}
 use Rattle.ir_commands.specs.Printing.{Paths}
-use Rattle.ir_commands.specs.Writing.{IsStatusOfNoRecording, Storing}
+use Rattle.ir_commands.specs.Writing.{IsStatusOfNoRecording, KeptAsAsked, Keeping, Storing}
 
 -- nothing was recorded, by a fault or since a file isn't taken, and a line tells why
 abbrev pub TellsNoSearch : ExitStatus → Writer → Type 0
@@ -63,14 +63,14 @@ pub record AsksHunt (at : Paths) (arguments : HuntArguments) (image : List ℕ) 
   pub is_input : IsInput at arguments.options.input input
   pub is_plan : IsHuntPlanOf arguments input plan
 
--- the run of the lowest seed that is found was recorded: this holds of its trace, and its lines were printed
-pub record RecordsHunted (image : List ℕ) (plan : HuntPlan) (recorded : Recorded) (is_kept : List ℕ → Type 0) (out : Writer) : Type 0 where
+-- the run of the lowest seed that is found was recorded: this holds of its trace and of what its threads printed, and its lines were printed
+pub record RecordsHunted (image : List ℕ) (plan : HuntPlan) (recorded : Recorded) (is_kept : Keeping) (out : Writer) : Type 0 where
   pub left_out : ℕ
   pub seed : ℕ
   pub list : List ℕ
   pub printed : List (List ℕ)
   pub finding : IsFinding image plan left_out seed list recorded printed
-  pub trace : is_kept (encoding recorded)
+  pub kept : is_kept (encoding recorded) printed
   pub lines : Took out (found_line seed list ++ recording_lines recorded)
 
 -- none of the seeds up to one was found, each of which was tried, and that was printed
@@ -86,7 +86,7 @@ pub record Hunts (at : Paths) (stored : Storing) (arguments : HuntArguments) (an
   pub image : List ℕ
   pub plan : HuntPlan
   pub asked : AsksHunt at arguments image plan
-  pub ended : ((answered ≡ status.Done) × ((recorded : Recorded) × RecordsHunted image plan recorded (stored (string_bytes arguments.trace)) out))
+  pub ended : ((answered ≡ status.Done) × ((recorded : Recorded) × RecordsHunted image plan recorded (KeptAsAsked stored (string_bytes arguments.trace) arguments.options.output) out))
       ⊎ TellsNoSeed image plan answered out
 
 -- ---- `ir explore --until`
@@ -99,28 +99,28 @@ pub record AsksSearch (at : Paths) (arguments : UntilArguments) (image : List �
   pub is_plan : IsPlanOf arguments.explore input plan
   pub are_conditions : AreWritten arguments.until.items conditions
 
--- a run with the first outcome that fulfils the conditions was recorded: this holds of its trace, and its lines were printed behind those of the outcomes
-pub record RecordsOutcome (image : List ℕ) (plan : ExplorePlan) (conditions : List Condition) (is_kept : List ℕ → Type 0) (out : Writer) : Type 0 where
+-- a run with the first outcome that fulfils the conditions was recorded: this holds of its trace and of what its threads printed, and its lines were printed behind those of the outcomes
+pub record RecordsOutcome (image : List ℕ) (plan : ExplorePlan) (conditions : List Condition) (is_kept : Keeping) (out : Writer) : Type 0 where
   pub list : List ℕ
   pub text : List ℕ
   pub recorded : Recorded
   pub printed : List (List ℕ)
   pub finding : IsOutcomeFinding image plan (map as_condition conditions) list text recorded printed
-  pub trace : is_kept (encoding recorded)
+  pub kept : is_kept (encoding recorded) printed
   pub lines : Took out (text ++ recording_lines recorded)
 
 -- the same of a run that hangs
-pub record RecordsHang (image : List ℕ) (plan : ExplorePlan) (is_kept : List ℕ → Type 0) (out : Writer) : Type 0 where
+pub record RecordsHang (image : List ℕ) (plan : ExplorePlan) (is_kept : Keeping) (out : Writer) : Type 0 where
   pub order : HangOrder
   pub text : List ℕ
   pub recorded : Recorded
   pub printed : List (List ℕ)
   pub finding : IsHangRecorded image plan order text recorded printed
-  pub trace : is_kept (encoding recorded)
+  pub kept : is_kept (encoding recorded) printed
   pub lines : Took out (text ++ recording_lines recorded)
 
 -- what is looked for was recorded: a run that hangs, where that is asked for, or else a run with an outcome
-abbrev pub RecordsSought : Bool → List ℕ → ExplorePlan → List Condition → (List ℕ → Type 0) → Writer → Type 0
+abbrev pub RecordsSought : Bool → List ℕ → ExplorePlan → List Condition → Keeping → Writer → Type 0
 RecordsSought false image plan conditions is_kept out = RecordsOutcome image plan conditions is_kept out
 RecordsSought true image plan conditions is_kept out = RecordsHang image plan is_kept out
 
@@ -135,7 +135,7 @@ pub record SearchFinds (at : Paths) (stored : Storing) (arguments : UntilArgumen
   pub plan : ExplorePlan
   pub conditions : List Condition
   pub asked : AsksSearch at arguments image plan conditions
-  pub found : RecordsSought arguments.hang image plan conditions (stored (string_bytes arguments.trace)) out
+  pub found : RecordsSought arguments.hang image plan conditions (KeptAsAsked stored (string_bytes arguments.trace) arguments.output) out
 
 -- there is none
 pub record SearchMisses (at : Paths) (arguments : UntilArguments) (answered : ExitStatus) (out : Writer) : Type 0 where
@@ -173,15 +173,15 @@ pub record AsksShrink (at : Paths) (arguments : ShrinkArguments) (image : List �
   pub is_input : IsInput at arguments.input input
   pub is_plan : IsShrinkPlanOf arguments given input plan
 
--- the run was shrunk: this holds of the trace of what it was shrunk to, and its lines were printed
-pub record RecordsShrunkRun (image : List ℕ) (given : Recorded) (plan : ShrinkPlan) (is_minimal : Bool) (is_kept : List ℕ → Type 0) (out : Writer) : Type 0 where
+-- the run was shrunk: this holds of the trace of what it was shrunk to and of what its threads printed, and its lines were printed
+pub record RecordsShrunkRun (image : List ℕ) (given : Recorded) (plan : ShrinkPlan) (is_minimal : Bool) (is_kept : Keeping) (out : Writer) : Type 0 where
   pub before : ℕ
   pub after : ℕ
   pub list : List ℕ
   pub recorded : Recorded
   pub printed : List (List ℕ)
   pub shrinking : IsShrinking image plan given before after list is_minimal recorded printed
-  pub trace : is_kept (encoding recorded)
+  pub kept : is_kept (encoding recorded) printed
   pub lines : Took out (shrunk_lines before after list is_minimal ++ recording_lines recorded)
 
 -- the run isn't shrunk, and a line tells why: it fails a condition, or what is wanted of its stale writes, or there is a fault
@@ -202,7 +202,7 @@ pub record ShrinksTo (at : Paths) (stored : Storing) (arguments : ShrinkArgument
   pub given : Recorded
   pub plan : ShrinkPlan
   pub asked : AsksShrink at arguments image given plan
-  pub shrunk : RecordsShrunkRun image given plan is_minimal (stored (string_bytes arguments.out)) out
+  pub shrunk : RecordsShrunkRun image given plan is_minimal (KeptAsAsked stored (string_bytes arguments.out) arguments.output) out
 
 -- it isn't shrunk
 pub record ShrinkRefuses (at : Paths) (arguments : ShrinkArguments) (answered : ExitStatus) (faults : Writer) : Type 0 where
@@ -231,7 +231,7 @@ pub record IsShrinkPlanOfHunt (hunt : HuntPlan) (given : Recorded) (plan : Shrin
   pub seconds : plan.seconds ≡ hunt.seconds
 
 -- the run that was found was shrunk so
-pub record ShrinksFound (image : List ℕ) (hunt : HuntPlan) (given : Recorded) (is_minimal : Bool) (is_kept : List ℕ → Type 0) (out : Writer) : Type 0 where
+pub record ShrinksFound (image : List ℕ) (hunt : HuntPlan) (given : Recorded) (is_minimal : Bool) (is_kept : Keeping) (out : Writer) : Type 0 where
   pub plan : ShrinkPlan
   pub is_plan : IsShrinkPlanOfHunt hunt given plan
   pub shrunk : RecordsShrunkRun image given plan is_minimal is_kept out
@@ -243,13 +243,13 @@ pub record RefusesFound (image : List ℕ) (hunt : HuntPlan) (given : Recorded) 
   pub why : RefusesGiven image given plan answered faults
 
 -- how the shrinking of a run that was found ended
-abbrev pub EndsFound : List ℕ → HuntPlan → Recorded → (List ℕ → Type 0) → ExitStatus → Writer → Writer → Type 0
+abbrev pub EndsFound : List ℕ → HuntPlan → Recorded → Keeping → ExitStatus → Writer → Writer → Type 0
 EndsFound image hunt given is_kept answered out faults =
     ((is_minimal : Bool) × (answered ≡ shrunk_status is_minimal) × ShrinksFound image hunt given is_minimal is_kept out)
     ⊎ (RefusesFound image hunt given answered faults ⊎ IsStatusOfNoRecording answered)
 
 -- the run of the lowest seed that is found was recorded and its lines were printed, and then it was shrunk
-pub record HuntsThenShrinks (image : List ℕ) (plan : HuntPlan) (is_kept : List ℕ → Type 0) (answered : ExitStatus) (out faults : Writer) : Type 0 where
+pub record HuntsThenShrinks (image : List ℕ) (plan : HuntPlan) (is_kept : Keeping) (answered : ExitStatus) (out faults : Writer) : Type 0 where
   pub given : Recorded
   -- what was printed and reported by then
   pub said : Writer
@@ -263,7 +263,7 @@ pub record HuntsToShrink (at : Paths) (stored : Storing) (arguments : HuntArgume
   pub image : List ℕ
   pub plan : HuntPlan
   pub asked : AsksHunt at arguments image plan
-  pub ended : HuntsThenShrinks image plan (stored (string_bytes arguments.trace)) answered out faults ⊎ TellsNoSeed image plan answered out
+  pub ended : HuntsThenShrinks image plan (KeptAsAsked stored (string_bytes arguments.trace) arguments.options.output) answered out faults ⊎ TellsNoSeed image plan answered out
 
 -- what `ir hunt` did
 abbrev pub HuntsFile : Paths → Storing → HuntArguments → ExitStatus → Writer → Writer → Type 0

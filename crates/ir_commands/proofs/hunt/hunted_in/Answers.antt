@@ -11,7 +11,7 @@ returns-clause-found g c = IfOk-weaker c.hunt_run.result _ _ (λ recorded done. 
   list = done.2;
   printed = done.3;
   finding = done.4;
-  trace = done.5;
+  kept = (done.5, done.6);
   lines = done.7;
 }) c.hunt_run.ensures.done
 
