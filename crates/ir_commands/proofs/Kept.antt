@@ -98,9 +98,9 @@ output_paths_as_asked {Z} items lent_prefix lent own {prefix} same texts are =
 
 -- ---- what is kept so is kept otherwise too
 
-pub hunted_kept : {image : List ℕ} {plan : HuntPlan} {recorded : Recorded} {one other : Keeping} {out : Writer}
+pub hunted_kept : {image : List ℕ} {plan : HuntPlan} {recorded : Recorded} {one other : Keeping} {out reports : Writer}
     → ((bytes : List ℕ) (printed : List (List ℕ)) → one bytes printed → other bytes printed)
-    → RecordsHunted image plan recorded one out → RecordsHunted image plan recorded other out
+    → RecordsHunted image plan recorded one out reports → RecordsHunted image plan recorded other out reports
 hunted_kept to h = record {
   left_out = h.left_out;
   seed = h.seed;
@@ -109,6 +109,7 @@ hunted_kept to h = record {
   finding = h.finding;
   kept = to _ h.printed h.kept;
   lines = h.lines;
+  told = h.told;
 }
 
 pub outcome_kept : {image : List ℕ} {plan : ExplorePlan} {conditions : List Condition} {one other : Keeping} {out : Writer}

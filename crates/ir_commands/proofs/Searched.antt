@@ -14,7 +14,7 @@ use Rattle.ir_arguments.specs.declared.shrink.ShrinkArguments.{ShrinkArguments}
 use Rattle.ir_files.specs.Writers.{Took, Writer, writer_of}
 use Rattle.ir_files.specs.declared.exit_status.ExitStatus.{ExitStatus}
 use Rattle.ir_files.specs.declared.exit_status.ExitStatus.TheVariants as status
-use Rattle.ir_hunt.specs.Stopping.{StopsHunt}
+use Rattle.ir_hunt.specs.Stopping.{StopsHunt, TellsLeftOut}
 use Rattle.ir_hunt.specs.declared.plan.HuntPlan.{HuntPlan}
 use Rattle.ir_record_command.specs.Faults.{fault_status, record_fault_words}
 use Rattle.ir_record_command.specs.Stopping.{Tellings, Devices, lines_between}
@@ -68,14 +68,21 @@ explore_fault_is fault.TooLarge p = inr (inr p)
 explore_fault_is fault.NoMem p = inr (inl p)
 explore_fault_is fault.Write p = inr (inl p)
 
+-- how many seeds were left out is told, or what is told is as before
+pub left_out_is_told : (left_out : ℕ) {reports : Writer} {same : Type 0} → (same → reports.after ≡ reports.before) → TellsLeftOut left_out reports same
+    → TellsLeftOut left_out reports (reports.before ≡ reports.after)
+left_out_is_told zero to told = sym (to told)
+left_out_is_told (suc n) to told = told
+
 -- what a hunt tells that records nothing
 pub hunt_tells_none : {W P O : Type 0} (d : Tellings W P O) (answered : ExitStatus) (image : List ℕ) (plan : HuntPlan) (old new : Devices W P O) (reports : Writer)
-    {same : Type 0} → StopsHunt d answered image plan old new reports same
-    → TellsNoSeed image plan answered (lines_between d old new) ⊎ TellsNoSearch answered reports
-hunt_tells_none d answered image plan old new reports (inl h) = inl (record { last = h.0; left_out = h.1; none = h.3; status = h.2; lines = h.6 })
-hunt_tells_none d answered image plan old new reports (inr (e, is, inl t)) = inr (fault_is_no_recording e is, (record_fault_words e, t.4))
-hunt_tells_none d answered image plan old new reports (inr (e, is, inr (inl t))) = inr (fault_is_no_recording e is, (record_fault_words e, t.6))
-hunt_tells_none d answered image plan old new reports (inr (e, is, inr (inr t))) = inr (fault_is_no_recording e is, reported_is_told e image _ _ _ reports t.6.0)
+    {same : Type 0} → (same → reports.after ≡ reports.before) → StopsHunt d answered image plan old new reports same
+    → TellsNoSeed image plan answered (lines_between d old new) reports ⊎ TellsNoSearch answered reports
+hunt_tells_none d answered image plan old new reports to (inl h) =
+    inl (record { last = h.0; left_out = h.1; none = h.3; status = h.2; lines = h.6; told = left_out_is_told h.1 to h.7 })
+hunt_tells_none d answered image plan old new reports to (inr (e, is, inl t)) = inr (fault_is_no_recording e is, (record_fault_words e, t.4))
+hunt_tells_none d answered image plan old new reports to (inr (e, is, inr (inl t))) = inr (fault_is_no_recording e is, (record_fault_words e, t.6))
+hunt_tells_none d answered image plan old new reports to (inr (e, is, inr (inr t))) = inr (fault_is_no_recording e is, reported_is_told e image _ _ _ reports t.6.0)
 
 -- what a search for an outcome tells that records nothing
 pub search_tells_none : {W P O : Type 0} (d : Tellings W P O) (answered : ExitStatus) (image : List ℕ) (plan : ExplorePlan) (conditions : List Condition)
@@ -113,8 +120,8 @@ pub hunt_comes_to : {O E : Type 0} (written : O → Option (List ℕ)) (broken :
     (r : Result Recorded ExitStatus) → AsksHunt at arguments image plan
     → ((bytes : List ℕ) (printed : List (List ℕ)) → one bytes printed
     → KeptAsAsked stored (string_bytes arguments.trace) arguments.options.output bytes printed)
-    → IfOk r (λ recorded. RecordsHunted image plan recorded one (writer_of (written out) (written said) (broken said)))
-    → IfErr r (λ e. TellsNoSeed image plan e (writer_of (written out) (written said) (broken said))
+    → IfOk r (λ recorded. RecordsHunted image plan recorded one (writer_of (written out) (written said) (broken said)) (writer_of (reported faults) (reported told) (fails told)))
+    → IfErr r (λ e. TellsNoSeed image plan e (writer_of (written out) (written said) (broken said)) (writer_of (reported faults) (reported told) (fails told))
     ⊎ TellsNoSearch e (writer_of (reported faults) (reported told) (fails told)))
     → IfErr r (λ e. answered ≡ e) → OnErr r (out' ≡ said) → OnErr r (faults' ≡ told)
     → (arguments.shrinks ≡ false → OnOk r ((answered ≡ status.Done) × (out' ≡ said)))
@@ -132,8 +139,10 @@ hunt_comes_to written broken reported fails at stored arguments image plan out s
           (done no).0,
           (
             x,
-            subst (λ o. RecordsHunted image plan x (KeptAsAsked stored (string_bytes arguments.trace) arguments.options.output) (writer_of (written out) (written o) (broken o)))
-                (sym (done no).1) hunted,
+            writer_of (reported faults) (reported told) (fails told),
+            refl,
+            subst (λ o. RecordsHunted image plan x (KeptAsAsked stored (string_bytes arguments.trace) arguments.options.output) (writer_of (written out) (written o) (broken o))
+                (writer_of (reported faults) (reported told) (fails told))) (sym (done no).1) hunted,
           ),
         );
       },
@@ -144,16 +153,18 @@ hunt_comes_to written broken reported fails at stored arguments image plan out s
         ended = inl (record {
           given = x;
           said = writer_of (written out) (written said) (broken said);
-          reported = reported told;
-          begins = refl;
+          reported = writer_of (reported faults) (reported told) (fails told);
+          begins = (refl, refl);
           hunted = hunted;
           ended = ends_kept here (shrunk yes);
         });
       },
     )
 hunt_comes_to written broken reported fails at stored arguments image plan out said out' faults told faults' answered one (Err e) asked here found (inl none) stopped quiet kept done shrunk =
-    let seedless = subst (λ a. TellsNoSeed image plan a (writer_of (written out) (written out') (broken out'))) (sym stopped)
-    (subst (λ o. TellsNoSeed image plan e (writer_of (written out) (written o) (broken o))) (sym quiet) none) in
+    let seedless = subst (λ a. TellsNoSeed image plan a (writer_of (written out) (written out') (broken out')) (writer_of (reported faults) (reported faults') (fails faults')))
+        (sym stopped)
+        (subst (λ f. TellsNoSeed image plan e (writer_of (written out) (written out') (broken out')) (writer_of (reported faults) (reported f) (fails f))) (sym kept)
+        (subst (λ o. TellsNoSeed image plan e (writer_of (written out) (written o) (broken o)) (writer_of (reported faults) (reported told) (fails told))) (sym quiet) none)) in
     inl (λ no. record { image = image; plan = plan; asked = asked; ended = inr seedless }, λ yes. record { image = image; plan = plan; asked = asked; ended = inr seedless })
 hunt_comes_to written broken reported fails at stored arguments image plan out said out' faults told faults' answered one (Err e) asked here found (inr none) stopped quiet kept done shrunk =
     inr (subst (λ a. TellsNoSearch a (writer_of (reported faults) (reported faults') (fails faults'))) (sym stopped)

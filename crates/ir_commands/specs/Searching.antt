@@ -13,7 +13,7 @@ use Rattle.ir_files.specs.declared.exit_status.ExitStatus.{ExitStatus}
 use Rattle.ir_files.specs.declared.exit_status.ExitStatus.TheVariants as status
 use Rattle.ir_hunt.specs.Hunted.{IsFinding, IsNoneIn}
 use Rattle.ir_hunt.specs.Lines.{found_line, none_lines}
-use Rattle.ir_hunt.specs.Stopping.{none_status}
+use Rattle.ir_hunt.specs.Stopping.{TellsLeftOut, none_status}
 use Rattle.ir_hunt.specs.declared.plan.HuntPlan.{HuntPlan}
 use Rattle.ir_record_command.specs.Plan.{Plan}
 use Rattle.ir_record_command.specs.Recording.{recording_lines}
@@ -63,8 +63,9 @@ pub record AsksHunt (at : Paths) (arguments : HuntArguments) (image : List ℕ) 
   pub is_input : IsInput at arguments.options.input input
   pub is_plan : IsHuntPlanOf arguments input plan
 
--- the run of the lowest seed that is found was recorded: this holds of its trace and of what its threads printed, and its lines were printed
-pub record RecordsHunted (image : List ℕ) (plan : HuntPlan) (recorded : Recorded) (is_kept : Keeping) (out : Writer) : Type 0 where
+-- the run of the lowest seed that is found was recorded: this holds of its trace and of what its threads printed, and its lines were printed; and it was reported
+-- how many seeds were left out, if some were
+pub record RecordsHunted (image : List ℕ) (plan : HuntPlan) (recorded : Recorded) (is_kept : Keeping) (out reports : Writer) : Type 0 where
   pub left_out : ℕ
   pub seed : ℕ
   pub list : List ℕ
@@ -72,22 +73,25 @@ pub record RecordsHunted (image : List ℕ) (plan : HuntPlan) (recorded : Record
   pub finding : IsFinding image plan left_out seed list recorded printed
   pub kept : is_kept (encoding recorded) printed
   pub lines : Took out (found_line seed list ++ recording_lines recorded)
+  pub told : TellsLeftOut left_out reports (reports.before ≡ reports.after)
 
 -- none of the seeds up to one was found, each of which was tried, and that was printed
-pub record TellsNoSeed (image : List ℕ) (plan : HuntPlan) (answered : ExitStatus) (out : Writer) : Type 0 where
+pub record TellsNoSeed (image : List ℕ) (plan : HuntPlan) (answered : ExitStatus) (out reports : Writer) : Type 0 where
   pub last : ℕ
   pub left_out : ℕ
   pub none : IsNoneIn image plan last left_out
   pub status : answered ≡ none_status (nat_lt last plan.seeds.last) left_out
   pub lines : Took out (none_lines plan.seeds.first last plan.seeds.last)
+  pub told : TellsLeftOut left_out reports (reports.before ≡ reports.after)
 
 -- a guest was hunted in: the run that is found was recorded and its trace is at the path of TRACE, or no seed was found
-pub record Hunts (at : Paths) (stored : Storing) (arguments : HuntArguments) (answered : ExitStatus) (out : Writer) : Type 0 where
+pub record Hunts (at : Paths) (stored : Storing) (arguments : HuntArguments) (answered : ExitStatus) (out faults : Writer) : Type 0 where
   pub image : List ℕ
   pub plan : HuntPlan
   pub asked : AsksHunt at arguments image plan
-  pub ended : ((answered ≡ status.Done) × ((recorded : Recorded) × RecordsHunted image plan recorded (KeptAsAsked stored (string_bytes arguments.trace) arguments.options.output) out))
-      ⊎ TellsNoSeed image plan answered out
+  pub ended : ((answered ≡ status.Done) × ((recorded : Recorded) × (reports : Writer) × (reports.before ≡ faults.before)
+      × RecordsHunted image plan recorded (KeptAsAsked stored (string_bytes arguments.trace) arguments.options.output) out reports))
+      ⊎ TellsNoSeed image plan answered out faults
 
 -- ---- `ir explore --until`
 
@@ -253,20 +257,21 @@ pub record HuntsThenShrinks (image : List ℕ) (plan : HuntPlan) (is_kept : Keep
   pub given : Recorded
   -- what was printed and reported by then
   pub said : Writer
-  pub reported : Option (List ℕ)
-  pub begins : said.before ≡ out.before
-  pub hunted : RecordsHunted image plan given is_kept said
-  pub ended : EndsFound image plan given is_kept answered (writer_of said.after out.after out.failed) (writer_of reported faults.after faults.failed)
+  pub reported : Writer
+  pub begins : (said.before ≡ out.before) × (reported.before ≡ faults.before)
+  pub hunted : RecordsHunted image plan given is_kept said reported
+  pub ended : EndsFound image plan given is_kept answered (writer_of said.after out.after out.failed) (writer_of reported.after faults.after faults.failed)
 
 -- a guest was hunted in, and what was found was shrunk
 pub record HuntsToShrink (at : Paths) (stored : Storing) (arguments : HuntArguments) (answered : ExitStatus) (out faults : Writer) : Type 0 where
   pub image : List ℕ
   pub plan : HuntPlan
   pub asked : AsksHunt at arguments image plan
-  pub ended : HuntsThenShrinks image plan (KeptAsAsked stored (string_bytes arguments.trace) arguments.options.output) answered out faults ⊎ TellsNoSeed image plan answered out
+  pub ended : HuntsThenShrinks image plan (KeptAsAsked stored (string_bytes arguments.trace) arguments.options.output) answered out faults
+      ⊎ TellsNoSeed image plan answered out faults
 
 -- what `ir hunt` did
 abbrev pub HuntsFile : Paths → Storing → HuntArguments → ExitStatus → Writer → Writer → Type 0
 HuntsFile at stored arguments answered out faults =
-    ((arguments.shrinks ≡ false → Hunts at stored arguments answered out) × (arguments.shrinks ≡ true → HuntsToShrink at stored arguments answered out faults))
+    ((arguments.shrinks ≡ false → Hunts at stored arguments answered out faults) × (arguments.shrinks ≡ true → HuntsToShrink at stored arguments answered out faults))
     ⊎ TellsNoSearch answered faults

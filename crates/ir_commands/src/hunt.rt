@@ -64,9 +64,9 @@ where
     ensures found { IfOk result (λ recorded. RecordsHunted image.now plan.now recorded
         (λ bytes printed. Appends (W.written files.old.trace) (W.written files.new.trace) bytes
         × TookEach (output_writer_of (P.taken files.old.outputs) (P.taken files.new.outputs) (P.broken files.new.outputs)) printed)
-        (writer_of (O.written out.old) (O.written out.new) (O.broken out.new))) }
-    ensures none { IfErr result (λ answered. TellsNoSeed image.now plan.now answered
-        (writer_of (O.written out.old) (O.written out.new) (O.broken out.new)) ⊎ TellsNoSearch answered
+        (writer_of (O.written out.old) (O.written out.new) (O.broken out.new)) (writer_of (E.written faults.old) (E.written faults.new) (E.broken faults.new))) }
+    ensures none { IfErr result (λ answered. TellsNoSeed image.now plan.now answered (writer_of (O.written out.old) (O.written out.new) (O.broken out.new))
+        (writer_of (E.written faults.old) (E.written faults.new) (E.broken faults.new)) ⊎ TellsNoSearch answered
         (writer_of (E.written faults.old) (E.written faults.new) (E.broken faults.new))) }
     ensures whole { OnOk result (W.whole files.new.trace ≡ true) }
     ensures home { W.home files.new.trace ≡ W.home files.old.trace }
@@ -93,9 +93,9 @@ where
     requires reports { E.broken faults.old ≡ false }
     ensures found { IfOk result (λ recorded. RecordsHunted image.now plan.now recorded
         (KeptAt (storing D.known D.known_closed (D.knows around.now.folder.now) (D.was_put around.now.folder.now)) places.entry.trace.now (texts_of_paths places.entry.outputs))
-        (writer_of (O.written out.old) (O.written out.new) (O.broken out.new))) }
-    ensures none { IfErr result (λ answered. TellsNoSeed image.now plan.now answered
-        (writer_of (O.written out.old) (O.written out.new) (O.broken out.new)) ⊎ TellsNoSearch answered
+        (writer_of (O.written out.old) (O.written out.new) (O.broken out.new)) (writer_of (E.written faults.old) (E.written faults.new) (E.broken faults.new))) }
+    ensures none { IfErr result (λ answered. TellsNoSeed image.now plan.now answered (writer_of (O.written out.old) (O.written out.new) (O.broken out.new))
+        (writer_of (E.written faults.old) (E.written faults.new) (E.broken faults.new)) ⊎ TellsNoSearch answered
         (writer_of (E.written faults.old) (E.written faults.new) (E.broken faults.new))) }
 {
     let Surroundings { rt, folder, .. } = *around;

@@ -26,4 +26,5 @@ returns-clause-found g c =
             (ap texts_of_paths c.record_files-files.ensures.paths) c.hunted_in.ensures.places c.record_files-files.ensures.none found.kept.1,
       );
       lines = found.lines;
+      told = found.told;
     }) c.hunted_in.ensures.whole c.hunted_in.ensures.found
