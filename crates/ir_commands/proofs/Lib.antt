@@ -2,6 +2,7 @@ mod Explored
 mod Kept
 mod Listed
 mod Outsides
+mod Refused
 mod Searched
 mod Stored
 mod Versions

@@ -11,6 +11,7 @@ use Rattle.ir_trace.specs.Recorded.{Recorded}
 use Rattle.ir_within.specs.Faults.{Comparison}
 use Rattle.ir_within.specs.Outside.{IsOutsideAnswer, IsOutsideRecorded}
 use Rattle.ir_commands.specs.Exploring.{AsksComparison}
+use Rattle.ir_commands.specs.Files.{RefusesGuest}
 use Rattle.ir_commands.specs.Printing.{Paths}
 use Rattle.ir_commands.specs.Searching.{TellsNoSearch}
 use Rattle.ir_commands.specs.Writing.{KeptAsAsked, Keeping, Storing}
@@ -41,7 +42,12 @@ pub record MissesOutside (at : Paths) (arguments : OutsideArguments) (answered :
   pub asked : AsksComparison at arguments.within comparison
   pub vain : TellsNoneOutside comparison answered out
 
+-- one of the two guests is refused
+abbrev pub RefusesEither : Paths → OutsideArguments → Type 0
+RefusesEither at arguments = RefusesGuest (at (string_bytes arguments.within.explore.image)) arguments.within.explore.profile
+    ⊎ RefusesGuest (at (string_bytes arguments.within.other)) arguments.within.explore.profile
+
 -- what `ir explore --within` with a trace did: the first outcome that is outside was recorded; or none is known to be; or a fault stopped it
 abbrev pub OutsideFile : Paths → Storing → OutsideArguments → ExitStatus → Writer → Writer → Type 0
 OutsideFile at stored arguments answered out faults = ((answered ≡ status.NotSo) × FindsOutside at stored arguments out)
-    ⊎ (MissesOutside at arguments answered out ⊎ TellsNoSearch answered faults)
+    ⊎ (MissesOutside at arguments answered out ⊎ TellsNoSearch (RefusesEither at arguments) answered faults)

@@ -1,5 +1,5 @@
 -- What the commands that look for a run leave, by the bytes that a folder says are at the paths of their arguments.
-use Rattle.std.specs.Prelude.{◌≡◌, ◌⊎◌, ℕ, Bool, true, false, List, ◌++◌, Option, None, Ok, Err, map, nat_lt}
+use Rattle.std.specs.Prelude.{◌≡◌, ◌⊎◌, ℕ, Bool, true, false, List, ◌++◌, Option, None, Ok, Err, length, map, nat_lt, ⊤}
 use Rattle.std.specs.String.{string_bytes}
 use Rattle.ir_arguments.specs.declared.explore.UntilArguments.{UntilArguments}
 use Rattle.ir_arguments.specs.declared.hunt.HuntArguments.{HuntArguments}
@@ -11,10 +11,12 @@ use Rattle.ir_explore.specs.declared.hang_order.HangOrder.{HangOrder}
 use Rattle.ir_files.specs.Writers.{Writer, Took, writer_of}
 use Rattle.ir_files.specs.declared.exit_status.ExitStatus.{ExitStatus}
 use Rattle.ir_files.specs.declared.exit_status.ExitStatus.TheVariants as status
+use Rattle.ir_image.specs.Guest.{Guest, guest_at}
 use Rattle.ir_hunt.specs.Hunted.{IsFinding, IsNoneIn}
 use Rattle.ir_hunt.specs.Lines.{found_line, none_lines}
 use Rattle.ir_hunt.specs.Stopping.{TellsLeftOut, none_status}
 use Rattle.ir_hunt.specs.declared.plan.HuntPlan.{HuntPlan}
+use Rattle.ir_record_command.specs.Order.{order_of}
 use Rattle.ir_record_command.specs.Plan.{Plan}
 use Rattle.ir_record_command.specs.Recording.{recording_lines}
 use Rattle.ir_schedule.specs.Conditions.{as_condition}
@@ -23,17 +25,22 @@ use Rattle.ir_shrink.specs.Lines.{shrunk_lines}
 use Rattle.ir_shrink.specs.Stopping.{IsShrinking, RefusesShrink, shrink_status}
 use Rattle.ir_shrink.specs.declared.plan.ShrinkPlan.{ShrinkPlan}
 use Rattle.ir_shrink.specs.declared.refusal.Refusal.{Refusal}
+use Rattle.ir_thread.specs.declared.profile.Profile.{Profile}
 use Rattle.ir_trace.specs.Encoding.{encoding}
 use Rattle.ir_trace.specs.Recorded.{Recorded, recorded_at}
-use Rattle.ir_commands.specs.Conditions.{AreWritten}
+use Rattle.ir_commands.specs.Conditions.{AreAboutNothing, AreWritten}
 use Rattle.ir_commands.specs.Exploring.{IsInput, IsPlanOf}
-use Rattle.ir_commands.specs.Files.{IsFileIn, IsImageIn, TellsFault}
+use Rattle.ir_commands.specs.Files.{IsFileIn, IsImageIn, RefusesGuest, TellsFault}
 use Rattle.ir_commands.specs.Printing.{Paths}
 use Rattle.ir_commands.specs.Writing.{IsStatusOfNoRecording, KeptAsAsked, Keeping, Storing}
 
--- nothing was recorded, by a fault or since a file isn't taken, and a line tells why
-abbrev pub TellsNoSearch : ExitStatus → Writer → Type 0
-TellsNoSearch answered faults = IsStatusOfNoRecording answered × TellsFault faults
+-- nothing was recorded, by a fault or since a file isn't taken, and a line tells why; where it was refused, this holds
+abbrev pub TellsNoSearch : Type 0 → ExitStatus → Writer → Type 0
+TellsNoSearch refuses answered faults = IsStatusOfNoRecording refuses answered × TellsFault faults
+
+-- a search is refused: its guest is, or a condition is about what the guest doesn't have
+abbrev pub RefusesSearch : Option (List ℕ) → Profile → List (List ℕ) → Type 0
+RefusesSearch known profile until = RefusesGuest known profile ⊎ ((image : List ℕ) × IsImageIn known image × AreAboutNothing until image)
 
 -- ---- `ir hunt`
 
@@ -149,10 +156,25 @@ pub record SearchMisses (at : Paths) (arguments : UntilArguments) (answered : Ex
   pub asked : AsksSearch at arguments image plan conditions
   pub vain : TellsVain arguments.hang image plan conditions answered out
 
+-- a hang was told, and its list spells no order of the guest's threads
+pub record HangHasNoOrder (image : List ℕ) (plan : ExplorePlan) : Type 0 where
+  pub order : HangOrder
+  pub text : List ℕ
+  pub told : IsHangAnswer image plan (Ok order) text
+  pub guest : Guest
+  pub is : guest_at image ≡ Ok guest
+  pub none : order_of (length guest.entries) (string_bytes order.list) ≡ None
+
+-- a search is refused, or the hang that it found can't be recorded by its list
+abbrev pub RefusesUntil : Paths → UntilArguments → Type 0
+RefusesUntil at arguments = RefusesSearch (at (string_bytes arguments.explore.image)) arguments.explore.profile arguments.until.items
+    ⊎ ((image : List ℕ) × (plan : ExplorePlan) × (conditions : List Condition) × AsksSearch at arguments image plan conditions
+    × HangHasNoOrder image plan)
+
 -- what `ir explore --until` did: what is looked for was recorded; or there is none; or a fault stopped it
 abbrev pub SearchesFile : Paths → Storing → UntilArguments → ExitStatus → Writer → Writer → Type 0
 SearchesFile at stored arguments answered out faults = ((answered ≡ status.Done) × SearchFinds at stored arguments out)
-    ⊎ (SearchMisses at arguments answered out ⊎ TellsNoSearch answered faults)
+    ⊎ (SearchMisses at arguments answered out ⊎ TellsNoSearch (RefusesUntil at arguments) answered faults)
 
 -- ---- `ir shrink`
 
@@ -218,7 +240,7 @@ pub record ShrinkRefuses (at : Paths) (arguments : ShrinkArguments) (answered : 
 
 -- the exit status where no run is shrunk: as where no recording begins, or no run of the image's guest has the trace
 abbrev pub IsStatusOfNoShrinking : ExitStatus → Type 0
-IsStatusOfNoShrinking answered = IsStatusOfNoRecording answered ⊎ (answered ≡ status.NotFit)
+IsStatusOfNoShrinking answered = IsStatusOfNoRecording ⊤ answered ⊎ (answered ≡ status.NotFit)
 
 -- what `ir shrink` did: a run was shrunk; or it wasn't; or no such run was had
 abbrev pub ShrinksFile : Paths → Storing → ShrinkArguments → ExitStatus → Writer → Writer → Type 0
@@ -250,7 +272,7 @@ pub record RefusesFound (image : List ℕ) (hunt : HuntPlan) (given : Recorded) 
 abbrev pub EndsFound : List ℕ → HuntPlan → Recorded → Keeping → ExitStatus → Writer → Writer → Type 0
 EndsFound image hunt given is_kept answered out faults =
     ((is_minimal : Bool) × (answered ≡ shrunk_status is_minimal) × ShrinksFound image hunt given is_minimal is_kept out)
-    ⊎ (RefusesFound image hunt given answered faults ⊎ IsStatusOfNoRecording answered)
+    ⊎ (RefusesFound image hunt given answered faults ⊎ IsStatusOfNoRecording ⊤ answered)
 
 -- the run of the lowest seed that is found was recorded and its lines were printed, and then it was shrunk
 pub record HuntsThenShrinks (image : List ℕ) (plan : HuntPlan) (is_kept : Keeping) (answered : ExitStatus) (out faults : Writer) : Type 0 where
@@ -274,4 +296,4 @@ pub record HuntsToShrink (at : Paths) (stored : Storing) (arguments : HuntArgume
 abbrev pub HuntsFile : Paths → Storing → HuntArguments → ExitStatus → Writer → Writer → Type 0
 HuntsFile at stored arguments answered out faults =
     ((arguments.shrinks ≡ false → Hunts at stored arguments answered out faults) × (arguments.shrinks ≡ true → HuntsToShrink at stored arguments answered out faults))
-    ⊎ TellsNoSearch answered faults
+    ⊎ TellsNoSearch (RefusesSearch (at (string_bytes arguments.image)) arguments.options.profile arguments.until.items) answered faults

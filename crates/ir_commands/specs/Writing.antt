@@ -1,7 +1,8 @@
 -- What the commands that write files leave there, by the bytes that a folder says are at the paths of their arguments.
-use Rattle.std.specs.Prelude.{◌≡◌, ◌⊎◌, ◌&&◌, ℕ, Bool, true, List, [], ◌∷◌, ◌++◌, Option, Some, None, option_map, IfSome, MatchOption, Ok, Err, String, map, not, slice_get, ⊤, if◌then◌else◌}
+use Rattle.std.specs.Prelude.{◌≡◌, ◌⊎◌, ◌&&◌, ℕ, Bool, true, List, [], ◌∷◌, ◌++◌, Option, Some, None, option_map, IfSome, IsSomeAnd, MatchOption, Ok, Err, String, map, not, slice_get, ⊤, if◌then◌else◌}
 use Rattle.std.specs.List.{list_all, range_with_len}
 use Rattle.std.specs.String.{string_bytes}
+use Rattle.std.specs.Str.{IsUtf8}
 use Rattle.ir_asm.specs.Passes.{labels_of}
 use Rattle.ir_asm.specs.Source.{Fault}
 use Rattle.ir_arguments.specs.declared.assemble.AssembleArguments.{AssembleArguments}
@@ -29,7 +30,7 @@ use Rattle.ir_symbols.specs.Tables.{IsSortOf}
 use Rattle.ir_trace.specs.Encoding.{encoding}
 use Rattle.ir_trace.specs.Recorded.{Recorded}
 use Rattle.ir_commands.specs.Exploring.{IsInput}
-use Rattle.ir_commands.specs.Files.{IsFileIn, IsImageIn, TellsFault}
+use Rattle.ir_commands.specs.Files.{IsFileIn, IsImageIn, RefusesGuest, TellsFault}
 use Rattle.ir_commands.specs.Printing.{Paths, LeavesUnread}
 
 -- what is said of files that are written: whether it is known what they are given, that one which was made whole is at a path with these bytes, and the
@@ -172,9 +173,18 @@ pub record StopsRecords (at : Paths) (arguments : RecordArguments) (answered : E
       × AppendsPrefix out.before out.after (recording_lines recorded))
   pub told : TellsFault faults
 
--- the exit status where a recording doesn't begin: a file that is read would be lost, or one isn't read, or is refused
-abbrev pub IsStatusOfNoRecording : ExitStatus → Type 0
-IsStatusOfNoRecording answered = (answered ≡ status.BadArguments) ⊎ ((answered ≡ status.Failed) ⊎ (answered ≡ status.Refused))
+-- the exit status where a recording doesn't begin: a file that is read would be lost, or one isn't read, or what is asked for is refused, and this holds
+abbrev pub IsStatusOfNoRecording : Type 0 → ExitStatus → Type 0
+IsStatusOfNoRecording refuses answered = (answered ≡ status.BadArguments) ⊎ ((answered ≡ status.Failed) ⊎ ((answered ≡ status.Refused) × refuses))
+
+-- the file is no text
+abbrev pub IsNoText : List ℕ → Type 0
+IsNoText file = IsUtf8 file → ⊥
+
+-- a recording is refused before it begins: its guest is, or the file of its list is no text
+abbrev pub RefusesRecording : Paths → RecordArguments → Type 0
+RefusesRecording at arguments = RefusesGuest (at (string_bytes arguments.image)) arguments.options.profile
+    ⊎ IsSomeAnd arguments.order_file (λ path. IfSome (at (string_bytes path)) IsNoText)
 
 -- the exit status of a recording: with --status it tells whether each thread ended by END with code 0
 abbrev pub recorded_status : Bool → Recorded → ExitStatus
@@ -185,4 +195,4 @@ abbrev pub RecordsFile : Paths → Storing → RecordArguments → ExitStatus �
 RecordsFile at stored arguments answered out faults unprinted =
     ((recorded : Recorded) × (answered ≡ recorded_status arguments.status recorded) × Records at stored arguments recorded out)
     ⊎ (StopsRecords at arguments answered out faults unprinted
-    ⊎ LeavesUnread (IsStatusOfNoRecording answered) unprinted faults)
+    ⊎ LeavesUnread (IsStatusOfNoRecording (RefusesRecording at arguments) answered) unprinted faults)

@@ -1,12 +1,13 @@
 //! `ir hunt`: the first of many seeds whose run fulfils conditions is recorded.
 
-ghost use Rattle.std.specs.Prelude.{◌≡◌, ◌⊎◌, IfErr, IfOk, OnErr, OnOk, false, true, option_map};
+ghost use Rattle.std.specs.Prelude.{◌≡◌, ◌⊎◌, IfErr, IfOk, OnErr, OnOk, false, true, option_map, ⊤};
 ghost use Rattle.std.specs.Io.KnownBytes.{Appends};
 ghost use Rattle.std.specs.String.{string_bytes};
 ghost use Rattle.ir_files.specs.Outputs.{TookEach, output_writer_of};
 ghost use Rattle.ir_files.specs.Writers.{writer_of};
 ghost use Rattle.ir_files.specs.declared.exit_status.ExitStatus.TheVariants as exit;
-ghost use Rattle.ir_commands.specs.Searching.{EndsFound, HuntsFile, RecordsHunted, RefusesFound, ShrinksFound, TellsNoSearch, TellsNoSeed};
+ghost use Rattle.ir_commands.specs.Files.{LacksGuest};
+ghost use Rattle.ir_commands.specs.Searching.{EndsFound, HuntsFile, RecordsHunted, RefusesFound, RefusesSearch, ShrinksFound, TellsNoSearch, TellsNoSeed};
 ghost use Rattle.ir_commands.specs.Writing.{KeptAt, storing, texts_of_paths, IsStatusOfNoRecording};
 
 use crate::conditions::{conditions_of, copied_texts};
@@ -66,7 +67,7 @@ where
         × TookEach (output_writer_of (P.taken files.old.outputs) (P.taken files.new.outputs) (P.broken files.new.outputs)) printed)
         (writer_of (O.written out.old) (O.written out.new) (O.broken out.new)) (writer_of (E.written faults.old) (E.written faults.new) (E.broken faults.new))) }
     ensures none { IfErr result (λ answered. TellsNoSeed image.now plan.now answered (writer_of (O.written out.old) (O.written out.new) (O.broken out.new))
-        (writer_of (E.written faults.old) (E.written faults.new) (E.broken faults.new)) ⊎ TellsNoSearch answered
+        (writer_of (E.written faults.old) (E.written faults.new) (E.broken faults.new)) ⊎ TellsNoSearch (LacksGuest image.now plan.now.record.profile) answered
         (writer_of (E.written faults.old) (E.written faults.new) (E.broken faults.new))) }
     ensures whole { OnOk result (W.whole files.new.trace ≡ true) }
     ensures home { W.home files.new.trace ≡ W.home files.old.trace }
@@ -95,7 +96,7 @@ where
         (KeptAt (storing D.known D.known_closed (D.knows around.now.folder.now) (D.was_put around.now.folder.now)) places.entry.trace.now (texts_of_paths places.entry.outputs))
         (writer_of (O.written out.old) (O.written out.new) (O.broken out.new)) (writer_of (E.written faults.old) (E.written faults.new) (E.broken faults.new))) }
     ensures none { IfErr result (λ answered. TellsNoSeed image.now plan.now answered (writer_of (O.written out.old) (O.written out.new) (O.broken out.new))
-        (writer_of (E.written faults.old) (E.written faults.new) (E.broken faults.new)) ⊎ TellsNoSearch answered
+        (writer_of (E.written faults.old) (E.written faults.new) (E.broken faults.new)) ⊎ TellsNoSearch (LacksGuest image.now plan.now.record.profile) answered
         (writer_of (E.written faults.old) (E.written faults.new) (E.broken faults.new))) }
 {
     let Surroundings { rt, folder, .. } = *around;
@@ -126,7 +127,7 @@ fn shrunk<'a, R: Clock + Eprint + AllocGlobal, D: Folder, G, O: Sink, E: Sink>(
         (KeptAt (storing D.known D.known_closed (D.knows around.now.folder.now) (D.was_put around.now.folder.now)) places.entry.trace.now (texts_of_paths places.entry.outputs))
         (writer_of (O.written out.old) (O.written out.new) (O.broken out.new))) }
     ensures stopped { IfErr result (λ answered. RefusesFound hunted.entry.image.now hunted.entry.plan.now found.now answered
-        (writer_of (E.written faults.old) (E.written faults.new) (E.broken faults.new)) ⊎ IsStatusOfNoRecording answered) }
+        (writer_of (E.written faults.old) (E.written faults.new) (E.broken faults.new)) ⊎ IsStatusOfNoRecording ⊤ answered) }
 {
     let until = hunted.arguments.until.as_slice();
     let Ok(texts) = copied_texts(around.rt.alloc(), until) else {
@@ -225,7 +226,8 @@ fn hunted_by<R: Threads + Sync + Clock + Eprint + AllocGlobal, D: Folder, G, O: 
     ensures done { IfOk result (λ answered. HuntsFile (D.bytes_at around.now.folder.now)
         (storing D.known D.known_closed (D.knows around.now.folder.now) (D.was_put around.now.folder.now))
         arguments.now answered (writer_of (O.written out.old) (O.written out.new) (O.broken out.new)) (writer_of (E.written faults.old) (E.written faults.new) (E.broken faults.new))) }
-    ensures stopped { IfErr result (λ answered. TellsNoSearch answered (writer_of (E.written faults.old) (E.written faults.new) (E.broken faults.new))) }
+    ensures stopped { IfErr result (λ answered. TellsNoSearch (RefusesSearch (D.bytes_at around.now.folder.now (string_bytes arguments.now.image)) arguments.now.options.profile
+        arguments.now.until.items) answered (writer_of (E.written faults.old) (E.written faults.new) (E.broken faults.new))) }
 {
     let (alloc, folder) = (around.rt.alloc(), around.folder);
     let paths = paths(arguments);

@@ -6,7 +6,8 @@ ghost use Rattle.std.specs.String.{string_bytes};
 ghost use Rattle.ir_files.specs.Outputs.{TookEach, output_writer_of};
 ghost use Rattle.ir_files.specs.Writers.{writer_of};
 ghost use Rattle.ir_within.specs.Plans.{comparison_of};
-ghost use Rattle.ir_commands.specs.Outside.{FindsOutside, MissesOutside, OutsideFile, RecordsOutside, TellsNoneOutside};
+ghost use Rattle.ir_commands.specs.Files.{LacksGuest};
+ghost use Rattle.ir_commands.specs.Outside.{FindsOutside, MissesOutside, OutsideFile, RecordsOutside, RefusesEither, TellsNoneOutside};
 ghost use Rattle.ir_commands.specs.Searching.{TellsNoSearch};
 ghost use Rattle.ir_commands.specs.Writing.{KeptAt, storing, texts_of_paths};
 
@@ -64,7 +65,7 @@ where
         × TookEach (output_writer_of (P.taken files.old.outputs) (P.taken files.new.outputs) (P.broken files.new.outputs)) printed)
         (writer_of (O.written out.old) (O.written out.new) (O.broken out.new))) }
     ensures none { IfErr result (λ answered. TellsNoneOutside (comparison_of plan.now) answered
-        (writer_of (O.written out.old) (O.written out.new) (O.broken out.new)) ⊎ TellsNoSearch answered
+        (writer_of (O.written out.old) (O.written out.new) (O.broken out.new)) ⊎ TellsNoSearch (LacksGuest (comparison_of plan.now).image plan.now.explore.profile ⊎ LacksGuest (comparison_of plan.now).other plan.now.explore.profile) answered
         (writer_of (E.written faults.old) (E.written faults.new) (E.broken faults.new))) }
     ensures whole { OnOk result (W.whole files.new.trace ≡ true) }
     ensures home { W.home files.new.trace ≡ W.home files.old.trace }
@@ -93,7 +94,7 @@ where
         (KeptAt (storing D.known D.known_closed (D.knows around.now.folder.now) (D.was_put around.now.folder.now)) places.entry.trace.now (texts_of_paths places.entry.outputs))
         (writer_of (O.written out.old) (O.written out.new) (O.broken out.new))) }
     ensures none { IfErr result (λ answered. TellsNoneOutside (comparison_of plan.now) answered
-        (writer_of (O.written out.old) (O.written out.new) (O.broken out.new)) ⊎ TellsNoSearch answered
+        (writer_of (O.written out.old) (O.written out.new) (O.broken out.new)) ⊎ TellsNoSearch (LacksGuest (comparison_of plan.now).image plan.now.explore.profile ⊎ LacksGuest (comparison_of plan.now).other plan.now.explore.profile) answered
         (writer_of (E.written faults.old) (E.written faults.new) (E.broken faults.new))) }
 {
     let Surroundings { rt, folder, .. } = *around;
@@ -114,7 +115,7 @@ fn outside_by<R: Clock + AllocGlobal, D: Folder, G: Observer, O: Sink, E: Sink>(
         (storing D.known D.known_closed (D.knows around.now.folder.now) (D.was_put around.now.folder.now)) arguments.now
         (writer_of (O.written out.old) (O.written out.new) (O.broken out.new))) }
     ensures none { IfErr result (λ answered. MissesOutside (D.bytes_at around.now.folder.now) arguments.now answered
-        (writer_of (O.written out.old) (O.written out.new) (O.broken out.new)) ⊎ TellsNoSearch answered
+        (writer_of (O.written out.old) (O.written out.new) (O.broken out.new)) ⊎ TellsNoSearch (RefusesEither (D.bytes_at around.now.folder.now) arguments.now) answered
         (writer_of (E.written faults.old) (E.written faults.new) (E.broken faults.new))) }
 {
     let (alloc, folder, within) = (around.rt.alloc(), around.folder, &arguments.within);

@@ -195,7 +195,7 @@ pub fn output_places<D: Folder, E: Sink>(
 ) -> Result<Option<Vec<String>>, ExitStatus>
     ensures kept { OnOk result (faults.new ≡ faults.old) }
     ensures paths { IfOk result (λ outputs. AreOutputPaths (option_map (λ prefix. prefix.now) paths.now.output) (option_map (λ each. map string_bytes each.items) outputs)) }
-    ensures status { IfErr result IsStatusOfNoRecording }
+    ensures status { IfErr result (IsStatusOfNoRecording ⊥) }
     ensures told { OnErr result (E.broken faults.old ≡ false → TellsFault (writer_of (E.written faults.old) (E.written faults.new) (E.broken faults.new))) }
 {
     let Ok(outputs) = paths_of(alloc, paths, image) else {
@@ -222,7 +222,7 @@ pub fn beside_of<D: Folder, E: Sink>(
     ensures kept { OnOk result (faults.new ≡ faults.old) }
     ensures paths { IfOk result (λ beside. AreOutputPaths (option_map (λ prefix. prefix.now) paths.now.output) (option_map (λ each. map string_bytes each.items) beside.0)) }
     ensures input { IfOk result (λ beside. IsInput (D.bytes_at folder.now) paths.now.input.now beside.1.items) }
-    ensures status { IfErr result IsStatusOfNoRecording }
+    ensures status { IfErr result (IsStatusOfNoRecording ⊥) }
     ensures told { OnErr result (E.broken faults.old ≡ false → TellsFault (writer_of (E.written faults.old) (E.written faults.new) (E.broken faults.new))) }
 {
     let outputs = output_places(alloc, folder, faults, paths, image)?;

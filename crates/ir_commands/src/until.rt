@@ -6,7 +6,8 @@ ghost use Rattle.std.specs.String.{string_bytes};
 ghost use Rattle.ir_explore.specs.Hang.{IsHangAnswer};
 ghost use Rattle.ir_files.specs.Outputs.{TookEach, output_writer_of};
 ghost use Rattle.ir_files.specs.Writers.{Took, writer_of};
-ghost use Rattle.ir_commands.specs.Searching.{RecordsHang, RecordsOutcome, SearchFinds, SearchesFile, SearchMisses, TellsNoSearch, TellsVain};
+ghost use Rattle.ir_commands.specs.Files.{LacksGuest};
+ghost use Rattle.ir_commands.specs.Searching.{HangHasNoOrder, RecordsHang, RecordsOutcome, RefusesUntil, SearchFinds, SearchesFile, SearchMisses, TellsNoSearch, TellsVain};
 ghost use Rattle.ir_commands.specs.Writing.{KeptAt, storing, texts_of_paths};
 
 use crate::conditions::conditions_of;
@@ -65,7 +66,7 @@ where
         × TookEach (output_writer_of (P.taken files.old.outputs) (P.taken files.new.outputs) (P.broken files.new.outputs)) printed)
         (writer_of (O.written out.old) (O.written out.new) (O.broken out.new))) }
     ensures none { IfErr result (λ answered. TellsVain false plan.now.image.now plan.now.explore plan.now.conditions.now answered
-        (writer_of (O.written out.old) (O.written out.new) (O.broken out.new)) ⊎ TellsNoSearch answered
+        (writer_of (O.written out.old) (O.written out.new) (O.broken out.new)) ⊎ TellsNoSearch (LacksGuest plan.now.image.now plan.now.explore.profile) answered
         (writer_of (E.written faults.old) (E.written faults.new) (E.broken faults.new))) }
     ensures whole { OnOk result (W.whole files.new.trace ≡ true) }
     ensures home { W.home files.new.trace ≡ W.home files.old.trace }
@@ -98,7 +99,7 @@ where
         × TookEach (output_writer_of (P.taken files.old.outputs) (P.taken files.new.outputs) (P.broken files.new.outputs)) printed)
         (writer_of (O.written out.old) (O.written out.new) (O.broken out.new))) }
     ensures none { IfErr result (λ answered. ((text : List ℕ) × IsHangAnswer plan.now.image.now plan.now.explore (Err answered) text
-        × Took (writer_of (O.written out.old) (O.written out.new) (O.broken out.new)) text) ⊎ TellsNoSearch answered
+        × Took (writer_of (O.written out.old) (O.written out.new) (O.broken out.new)) text) ⊎ TellsNoSearch (LacksGuest plan.now.image.now plan.now.explore.profile ⊎ HangHasNoOrder plan.now.image.now plan.now.explore) answered
         (writer_of (E.written faults.old) (E.written faults.new) (E.broken faults.new))) }
     ensures whole { OnOk result (W.whole files.new.trace ≡ true) }
     ensures home { W.home files.new.trace ≡ W.home files.old.trace }
@@ -127,7 +128,7 @@ where
         (KeptAt (storing D.known D.known_closed (D.knows around.now.folder.now) (D.was_put around.now.folder.now)) places.entry.trace.now (texts_of_paths places.entry.outputs))
         (writer_of (O.written out.old) (O.written out.new) (O.broken out.new))) }
     ensures none { IfErr result (λ answered. TellsVain false plan.now.image.now plan.now.explore plan.now.conditions.now answered
-        (writer_of (O.written out.old) (O.written out.new) (O.broken out.new)) ⊎ TellsNoSearch answered
+        (writer_of (O.written out.old) (O.written out.new) (O.broken out.new)) ⊎ TellsNoSearch (LacksGuest plan.now.image.now plan.now.explore.profile) answered
         (writer_of (E.written faults.old) (E.written faults.new) (E.broken faults.new))) }
 {
     let Surroundings { rt, folder, .. } = *around;
@@ -155,7 +156,7 @@ where
         (KeptAt (storing D.known D.known_closed (D.knows around.now.folder.now) (D.was_put around.now.folder.now)) places.entry.trace.now (texts_of_paths places.entry.outputs))
         (writer_of (O.written out.old) (O.written out.new) (O.broken out.new))) }
     ensures none { IfErr result (λ answered. TellsVain true plan.now.image.now plan.now.explore plan.now.conditions.now answered
-        (writer_of (O.written out.old) (O.written out.new) (O.broken out.new)) ⊎ TellsNoSearch answered
+        (writer_of (O.written out.old) (O.written out.new) (O.broken out.new)) ⊎ TellsNoSearch (LacksGuest plan.now.image.now plan.now.explore.profile ⊎ HangHasNoOrder plan.now.image.now plan.now.explore) answered
         (writer_of (E.written faults.old) (E.written faults.new) (E.broken faults.new))) }
 {
     let Surroundings { rt, folder, .. } = *around;
@@ -181,7 +182,7 @@ fn found_by<R: Clock + AllocGlobal, D: Folder, G: Observer, O: Sink, E: Sink>(
         (storing D.known D.known_closed (D.knows around.now.folder.now) (D.was_put around.now.folder.now)) arguments.now
         (writer_of (O.written out.old) (O.written out.new) (O.broken out.new))) }
     ensures none { IfErr result (λ answered. SearchMisses (D.bytes_at around.now.folder.now) arguments.now answered
-        (writer_of (O.written out.old) (O.written out.new) (O.broken out.new)) ⊎ TellsNoSearch answered
+        (writer_of (O.written out.old) (O.written out.new) (O.broken out.new)) ⊎ TellsNoSearch (RefusesUntil (D.bytes_at around.now.folder.now) arguments.now) answered
         (writer_of (E.written faults.old) (E.written faults.new) (E.broken faults.new))) }
 {
     let (alloc, folder) = (around.rt.alloc(), around.folder);
