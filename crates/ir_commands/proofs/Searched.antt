@@ -195,6 +195,16 @@ shrink_stops d answered image plan given old new reports (inl h) =
 shrink_stops d answered image plan given old new reports (inr (before, after, list, is_minimal, is, inl f)) = inr (fault_is_no_recording Lines (λ r. tt) f.0)
 shrink_stops d answered image plan given old new reports (inr (before, after, list, is_minimal, is, inr s)) = inr (fault_is_no_recording s.0 (λ r. tt) s.2)
 
+-- a guest that an image lacks is refused to a search
+pub until_refuses : {at : Paths} {arguments : UntilArguments} {image : List ℕ} {plan : ExplorePlan} {conditions : List Condition}
+    → AsksSearch at arguments image plan conditions → LacksGuest image plan.profile → RefusesUntil at arguments
+until_refuses {at} {arguments} {image} asked lacks = inl (inl (inr (image, asked.is_image, subst (λ p. LacksGuest image p) asked.is_plan.profile lacks)))
+
+pub hang_refuses : {at : Paths} {arguments : UntilArguments} {image : List ℕ} {plan : ExplorePlan} {conditions : List Condition}
+    → AsksSearch at arguments image plan conditions → LacksGuest image plan.profile ⊎ HangHasNoOrder image plan → RefusesUntil at arguments
+hang_refuses asked (inl lacks) = until_refuses asked lacks
+hang_refuses {at} {arguments} {image} {plan} {conditions} asked (inr none) = inr (image, plan, conditions, asked, none)
+
 -- there is no run that is looked for, or nothing was searched
 pub search_misses : {at : Paths} {arguments : UntilArguments} {image : List ℕ} {plan : ExplorePlan} {conditions : List Condition} {hang : Bool} {told faults : Writer}
     {refuses : Type 0} (answered : ExitStatus) (out : Writer) → AsksSearch at arguments image plan conditions → hang ≡ arguments.hang → told ≡ faults

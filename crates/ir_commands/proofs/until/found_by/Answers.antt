@@ -8,7 +8,7 @@ use Rattle.ir_commands.specs.Files.{IsImageIn}
 use Rattle.ir_commands.specs.Searching.{AsksSearch, RecordsSought}
 use Rattle.ir_commands.specs.Writing.{KeptAsAsked, storing}
 use Rattle.ir_commands.proofs.Kept.{hang_kept, kept_as_asked, outcome_kept, output_paths_as_asked}
-use Rattle.ir_commands.proofs.Searched.{search_misses}
+use Rattle.ir_commands.proofs.Searched.{hang_refuses, search_misses, until_refuses}
 use Rattle.ir_commands.proofs.until.found_by.Goals as goal
 
 pub returns-then-arguments-clause-found : goal.returns-then-arguments-clause-found
@@ -62,7 +62,7 @@ returns-then-arguments-clause-none g c =
     let out = writer_of (g.O.Sink.written c.args.out.now) (g.O.Sink.written c.hang_into.new.out) (g.O.Sink.broken c.hang_into.new.out) in
     let kept = c.in_ok-outputs.ensures.kept ∙ c.in_ok-conditions.ensures.kept ∙ c.in_ok-image.ensures.kept ∙ c.if-loses_input.ensures.kept refl in
     IfErr-weaker c.hang_into.result _ _ (λ answered h. search_misses answered out asked (sym c.if-arguments.true) (ap
-    (λ f. writer_of (g.E.Sink.written f) (g.E.Sink.written c.hang_into.new.faults) (g.E.Sink.broken c.hang_into.new.faults)) kept) h) c.hang_into.ensures.none
+    (λ f. writer_of (g.E.Sink.written f) (g.E.Sink.written c.hang_into.new.faults) (g.E.Sink.broken c.hang_into.new.faults)) kept) (hang_refuses asked) h) c.hang_into.ensures.none
 
 pub returns-clause-found : goal.returns-clause-found
 returns-clause-found g c =
@@ -115,4 +115,4 @@ returns-clause-none g c =
     let out = writer_of (g.O.Sink.written c.args.out.now) (g.O.Sink.written c.found_into.new.out) (g.O.Sink.broken c.found_into.new.out) in
     let kept = c.in_ok-outputs.ensures.kept ∙ c.in_ok-conditions.ensures.kept ∙ c.in_ok-image.ensures.kept ∙ c.if-loses_input.ensures.kept refl in
     IfErr-weaker c.found_into.result _ _ (λ answered h. search_misses answered out asked (sym c.if-arguments.false) (ap
-    (λ f. writer_of (g.E.Sink.written f) (g.E.Sink.written c.found_into.new.faults) (g.E.Sink.broken c.found_into.new.faults)) kept) h) c.found_into.ensures.none
+    (λ f. writer_of (g.E.Sink.written f) (g.E.Sink.written c.found_into.new.faults) (g.E.Sink.broken c.found_into.new.faults)) kept) (until_refuses asked) h) c.found_into.ensures.none
