@@ -1,11 +1,11 @@
 #!/usr/bin/env python3
-"""How many host instructions `ir explore` and `ir explore --within` take for guests of some 1,250, 2,500 and 5,000 outcomes.
+"""How long `ir explore` and `ir explore --within` take for guests of 1,140, 2,600 and 4,960 outcomes.
 
-python3 bench/outcomes.py IR
+python3 bench/outcomes.py IR [--turns N]
 
 Two threads add to a word, each addition in an entry, and print what they read: so each order of their entries is another outcome. Thread 0 makes three
-additions. Prints for each guest its outcomes and states, and the instructions by valgrind's callgrind of the search alone, of both searches of a
-comparison of the guest with itself, and of what the comparison takes more than two searches, a number for each outcome.
+additions. Prints of each guest its outcomes, states and entries, and the seconds of processor time, best of N: of `ir explore`, the same for each entry of
+each outcome in microseconds, and of a comparison of the guest with itself, which makes two searches.
 """
 import argparse
 import os
@@ -14,10 +14,11 @@ import subprocess
 import tempfile
 from pathlib import Path
 
+from shrinking import processor_seconds
+
 from faults import call, get, of_threads, put, repeated, writes
 
 FEW, MANY = 3, (17, 23, 29)
-COLLECTED = re.compile(r"Collected : (\d+)")
 FINISHED = re.compile(r"finished outcomes (\d+) states (\d+) hangs 0")
 
 
@@ -28,26 +29,29 @@ def source(rounds):
     return of_threads(["one", "other"], lives)
 
 
-def instructions(words, folder):
-    """The host instructions of a command, and its lines."""
-    ended = subprocess.run(["valgrind", "--tool=callgrind", "--callgrind-out-file=/dev/null", *words], cwd=folder, check=True, capture_output=True, text=True)
-    return int(COLLECTED.search(ended.stderr)[1]), ended.stdout.splitlines()
+def least_seconds(words, folder, turns):
+    """The least processor time of a command, and its lines."""
+    runs = [processor_seconds(words, folder) for _ in range(turns)]
+    return min(seconds for seconds, _ in runs), runs[0][1]
 
 
 def main():
     parser = argparse.ArgumentParser(description=__doc__.splitlines()[0])
     parser.add_argument("program", metavar="IR", help="the built program")
-    program = os.path.abspath(parser.parse_args().program)
+    parser.add_argument("--turns", type=int, default=3, help="how often each is measured")
+    asked = parser.parse_args()
+    program = os.path.abspath(asked.program)
     with tempfile.TemporaryDirectory() as place:
         folder = Path(place)
         for rounds in MANY:
             (folder / "guest.s").write_text(source(rounds), encoding="ascii")
             subprocess.run([program, "asm", "guest.s", "guest.img"], cwd=folder, check=True)
-            search, lines = instructions([program, "explore", "guest.img"], folder)
+            search, lines = least_seconds([program, "explore", "guest.img"], folder, asked.turns)
             outcomes, states = (int(number) for number in FINISHED.search(lines[-1]).groups())
-            both, _ = instructions([program, "explore", "guest.img", "--within", "guest.img"], folder)
-            print(f"outcomes {outcomes} states {states}: search {search // outcomes:,} an outcome, comparison {both // outcomes:,}, "
-                  f"beyond two searches {(both - 2 * search) // outcomes:,}", flush=True)
+            entries = FEW + rounds
+            both, _ = least_seconds([program, "explore", "guest.img", "--within", "guest.img"], folder, asked.turns)
+            print(f"outcomes {outcomes} states {states} entries {entries}: {search:.2f} seconds, {search / outcomes / entries * 10**6:.1f} microseconds an entry; "
+                  f"compared with itself {both:.2f} seconds", flush=True)
 
 
 if __name__ == "__main__":
