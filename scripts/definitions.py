@@ -94,6 +94,13 @@ CLAIMS = [
         ("ir_within", "Classes", "`AreClasses`, `IsClassesText`: what is printed by classes"),
         ("ir_within", "Laws", "the laws"),
     ], (420, 200)),
+    Claim("Recording what is outside", "`ir explore --within` with a TRACE records the first outcome that the other guest doesn't have.", {
+        "ir_within/src/outside.rt": ["outside_run"],
+        "ir_within/src/laws.rt": ["recorded_is_outside"],
+    }, [
+        ("ir_within", "Outside", "`IsFirstMarked`, `IsOutsideTold`, `IsOutsideRecorded`: which run is recorded"),
+        ("ir_within", "Laws", "`RecordedIsOutside`: the law"),
+    ], (130, 55)),
     Claim("Hunting", "`ir hunt` says which seeds it tried, and which is the lowest that it found.", {"ir_hunt/src/hunting.rt": ["hunt_run"]}, [
         ("ir_schedule", "Schedules", "`IsSchedule`: the run by a chooser"),
         ("ir_hunt", "Hunt", "`Hunt`: what is hunted"),

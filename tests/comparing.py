@@ -152,7 +152,7 @@ ROWS = [
     ("lost.img x.trc", 2, None, "not provided: <--until <COND>|--within <OTHER>>"),
     ("lost.img --within lost.img --output x", 2, None, "not provided: <TRACE>"),
     ("lost.img x.trc --within lost.img", 0, "within", ""),
-    ("lost.img x.trc --within checked.img", 5, "thread 1 end 1 code 0 steps 25 events 2", ""),
+    ("lost.img x.trc --within checked.img", 5, "thread 1 end 1 code 0 steps 26 events 2", ""),
     ("lost.img x.trc --within checked.img --only codes", 0, "within", ""),
     ("lost.img x.trc --within checked.img --only 7", 2, None, "lost.img: the guest has no object 7, which --only names"),
     ("lost.img x.trc --within checked.img --states 2", 6, "unknown", ""),
