@@ -405,10 +405,10 @@ def test_progress(folder):
     source = [".large", *(f".thread {label}" for label in labels), *(f"{label}:" for label in labels[:15]), "ebreak"]
     assembled(folder, "last", "\n".join([*source, "thread15:", FOREVER]))
     status, message = at_terminal("record last.img last.trc --profile 2 --budget 4000000000", folder)
-    wants("the last thread's steps", (status, " million steps\x1b[?7h\r" in message), (0, True))
+    wants("the last thread's steps", (status, " million steps\x1b[?7h" in message), (0, True))
     # A hunt of seconds shows its seeds, and takes its line away before it ends.
     status, message = at_terminal("hunt last.img last.trc --profile 2 --budget 400000000 --seeds 0+8 --until 'end 15 2'", folder)
-    wants("a hunt", (status, " per second, up to " in message, message.endswith("\x1b[K")), (5, True, True))
+    wants("a hunt", (status, " per second, up to " in message, message.endswith("\r\x1b[K")), (5, True, True))
 
 
 def test_trace(folder):

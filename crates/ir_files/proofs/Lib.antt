@@ -3,4 +3,5 @@ mod InParts
 mod Putting
 mod ReadFiles
 mod Shown
+mod Standing
 pub mod CallerLemmas

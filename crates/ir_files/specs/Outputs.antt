@@ -1,6 +1,7 @@
 -- What takes the outputs of a recording, a thread's at a time.
-use Rattle.std.specs.Prelude.{◌≡◌, ◌<◌, ℕ, Bool, true, false, List, [], ◌∷◌, ◌++◌, length, map, take, codes, decimal, ⊤, Option, None, Some}
-use Rattle.std.specs.List.{enumerate_from}
+use Rattle.std.specs.Prelude.{◌≡◌, ◌<◌, ◌&&◌, ℕ, Bool, true, false, List, [], ◌∷◌, ◌++◌, length, map, take, codes, decimal, bytes_eq, slice_get, ⊤, Option, None, Some, if◌then◌else◌}
+use Rattle.std.specs.List.{enumerate_from, list_all}
+use Rattle.std.specs.Option.{is_some, option_map_or}
 use Rattle.ir_files.specs.Given.{KnownFile, IsAt, known_bytes}
 
 -- the number of a thread, and what it printed
@@ -25,11 +26,22 @@ Gains (Some xs) (Some ys) more = ys ≡ xs ++ more
 abbrev pub printed_in : ℕ × KnownFile → Printed
 printed_in output = (output.0, known_bytes output.1.bytes)
 
--- the outputs that were put in files, if it is known what these were given; without paths none is known
-abbrev pub outputs_given : {Path File : Type 0} → Bool → (File → ℕ × KnownFile) → Option Path → List File → Option (List Printed)
+-- all that an output's file was given is known, and it is at the path of the output's thread, as far as it is known where files are made
+abbrev pub is_put_at : List (List ℕ) → ℕ × KnownFile → Bool
+is_put_at paths output = is_some output.1.bytes
+    && option_map_or (λ path. option_map_or (λ p. bytes_eq p path) output.1.path true) (slice_get paths output.0) false
+
+-- the outputs that were put in files, each at the path of its thread, if it is known what these were given; without paths none is known
+abbrev pub outputs_given : {File : Type 0} → Bool → (File → ℕ × KnownFile) → Option (List (List ℕ)) → List File → Option (List Printed)
 outputs_given knows known None files = None
 outputs_given false known (Some paths) files = None
-outputs_given true known (Some paths) files = Some (map (λ file. printed_in (known file)) files)
+outputs_given true known (Some paths) files =
+    if list_all (λ file. is_put_at paths (known file)) files then Some (map (λ file. printed_in (known file)) files) else None
+
+-- what each thread printed stands in the file at the path of the thread, by what says that a file at a path has these bytes
+abbrev pub StandEach : (List ℕ → List ℕ → Type 0) → List (List ℕ) → List (List ℕ) → Type 0
+StandEach stored paths printed = (t : ℕ) (bytes : List ℕ) → slice_get printed t ≡ Some bytes
+    → (path : List ℕ) × (slice_get paths t ≡ Some path) × stored path bytes
 
 -- one file more than before, of this thread and at this path
 abbrev pub HasLast : {File : Type 0} → (File → ℕ × KnownFile) → List File → List File → ℕ → List ℕ → Type 0

@@ -172,7 +172,7 @@ impl<D: Folder> OutputSink for OutputFiles<'_, D> {
 
     ghost home = { λ f. (f.folder.now, option_map (λ paths. map string_bytes paths.now) f.paths) };
 
-    ghost taken = { λ f. outputs_given (D.knows f.folder.now) (λ o. (o.thread, D.known_closed o.file)) f.paths f.each.items };
+    ghost taken = { λ f. outputs_given (D.knows f.folder.now) (λ o. (o.thread, D.known_closed o.file)) (option_map (λ paths. map string_bytes paths.now) f.paths) f.each.items };
 
     ghost broken = { λ f. f.failed };
 
@@ -182,13 +182,13 @@ impl<D: Folder> OutputSink for OutputFiles<'_, D> {
 
     fn put(&mut self, thread: usize, bytes: &[u8]) -> Result<(), DeviceErr>
         ensures taken { OnOk result
-            (Gains (outputs_given (D.knows self.old.folder.now) (λ o. (o.thread, D.known_closed o.file)) self.old.paths self.old.each.items)
-            (outputs_given (D.knows self.new.folder.now) (λ o. (o.thread, D.known_closed o.file)) self.new.paths self.new.each.items)
+            (Gains (outputs_given (D.knows self.old.folder.now) (λ o. (o.thread, D.known_closed o.file)) (option_map (λ paths. map string_bytes paths.now) self.old.paths) self.old.each.items)
+            (outputs_given (D.knows self.new.folder.now) (λ o. (o.thread, D.known_closed o.file)) (option_map (λ paths. map string_bytes paths.now) self.new.paths) self.new.each.items)
             ((thread, bytes.now) ∷ [])) }
         ensures stays { OnOk result (self.new.failed ≡ self.old.failed) }
         ensures kept { OnErr result
-            (Gains (outputs_given (D.knows self.old.folder.now) (λ o. (o.thread, D.known_closed o.file)) self.old.paths self.old.each.items)
-            (outputs_given (D.knows self.new.folder.now) (λ o. (o.thread, D.known_closed o.file)) self.new.paths self.new.each.items)
+            (Gains (outputs_given (D.knows self.old.folder.now) (λ o. (o.thread, D.known_closed o.file)) (option_map (λ paths. map string_bytes paths.now) self.old.paths) self.old.each.items)
+            (outputs_given (D.knows self.new.folder.now) (λ o. (o.thread, D.known_closed o.file)) (option_map (λ paths. map string_bytes paths.now) self.new.paths) self.new.each.items)
             []) }
         ensures err { OnErr result (self.new.failed ≡ true) }
         // This is the file at the path of the thread, if there are paths.
