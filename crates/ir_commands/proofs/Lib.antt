@@ -4,3 +4,4 @@ mod Searched
 mod Stored
 mod Versions
 mod Written
+mod Asked
