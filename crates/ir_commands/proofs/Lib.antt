@@ -7,3 +7,4 @@ mod Searched
 mod Stored
 mod Versions
 mod Written
+mod Asked

@@ -5,7 +5,8 @@ ghost use Rattle.ir_past.specs.Answers.{AreCoherent};
 ghost use Rattle.ir_opened.specs.Paired.{ArePaired};
 ghost use Rattle.ir_picture.specs.Progress.{IsOfPicture};
 ghost use Rattle.ir_picture.specs.Answers.{IsThereIn};
-ghost use Rattle.ir_run_picture.specs.Answers.{IsRunPicture, IsRunViewUnsaid};
+ghost use Rattle.ir_past.specs.Replies.{IsTextless};
+ghost use Rattle.ir_run_picture.specs.Answers.{IsRunPicture, LacksAroundIn};
 ghost use Rattle.ir_run_picture.specs.Brief.{AreRunBoxes};
 ghost use Rattle.ir_run_picture.specs.Spans.{IsSpan};
 ghost use Rattle.ir_run_picture.specs.Held.{HaveHeld};
@@ -16,8 +17,8 @@ use crate::run_picture::RunPicture;
 use crate::spans::spans_of;
 use ir_fit::Fitted;
 use ir_holds::{HeldBoxes, Span, held_boxes};
-use ir_past::stale_writes;
-use ir_picture::{Around, Asked, EventBox, Picture, ViewErr, is_there, shown_boxes};
+use ir_past::{AskErr, stale_writes};
+use ir_picture::{Around, Asked, EventBox, Picture, is_there, shown_boxes};
 use ir_stale_run::rests;
 use std::alloc::{AllocError, Global};
 
@@ -90,11 +91,11 @@ fn picture_of_held(
 ///
 /// # Errors
 /// The run has no such event that the part could be around, or out of memory.
-pub fn run_picture_of(alloc: Global, fitted: &Fitted, asked: &Asked) -> Result<RunPicture, ViewErr>
+pub fn run_picture_of(alloc: Global, fitted: &Fitted, asked: &Asked) -> Result<RunPicture, AskErr>
     ensures drawn { IfOk result (λ x. IsRunPicture fitted.now (asked.now).around x.picture x.kept.items) }
     ensures of_trace { IfOk result (λ x. IsOfPicture fitted.now.recorded x.picture) }
     ensures there { OnOk result (IsThereIn fitted.now.recorded (asked.now).around) }
-    ensures fails { IfErr result (IsRunViewUnsaid asked.now fitted.now) }
+    ensures fails { IfErr result (IsTextless (LacksAroundIn asked.now fitted.now)) }
 {
     fitted.known();
     is_there(fitted.trace(), &asked.around)?;
