@@ -61,6 +61,7 @@ pub record IsHuntPlanOf (arguments : HuntArguments) (input : List ℕ) (plan : H
   pub seeds : plan.seeds ≡ arguments.seeds
   pub conditions : AreWritten arguments.until.items plan.conditions.now
   pub stale : plan.stale ≡ arguments.stale
+  pub jobs : plan.jobs ≡ arguments.jobs
   pub seconds : plan.seconds ≡ arguments.seconds
 
 -- what is hunted in, by the bytes of the files that are read

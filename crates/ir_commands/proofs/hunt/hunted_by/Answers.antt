@@ -39,6 +39,7 @@ returns-clause-done g c =
         conditions = subst (λ z. AreWritten arguments.until.items z) (sym c.as_slice-4.ensures.value)
             (subst (λ t. AreWritten t c.in_ok-conditions.conditions.items) c.as_slice-2.ensures.value c.in_ok-conditions.ensures.read);
         stale = refl;
+        jobs = refl;
         seconds = refl;
       };
     } in
