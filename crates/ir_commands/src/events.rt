@@ -32,7 +32,14 @@ fn of_run<O: Sink, E: Sink>(
         (writer_of (O.written out.old) (O.written out.new) (O.broken out.new)) (writer_of (E.written faults.old) (E.written faults.new) (E.broken faults.new)) }
     ensures quiet { result ≡ status.Done → faults.new ≡ faults.old }
 {
-    answer_of_run(alloc, image, trace, &EventsQuestion { symbols }, out, faults)
+    answer_of_run(
+        alloc,
+        image,
+        trace,
+        &EventsQuestion { symbols },
+        out,
+        faults,
+    )
 }
 
 // Prints the events of the run in two files, with the names of a map or of an ELF file. It is reported why there is none.

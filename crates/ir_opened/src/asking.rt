@@ -32,7 +32,12 @@ pub trait RunQuestion {
     /// # Errors
     /// The run doesn't have what the question is about, and nothing was written; or memory ran out or the writer failed, and a prefix of the
     /// answer was written.
-    fn print<O: Sink>(&self, alloc: Global, fitted: &Fitted, out: &mut O) -> Result<ExitStatus, AskErr>
+    fn print<O: Sink>(
+        &self,
+        alloc: Global,
+        fitted: &Fitted,
+        out: &mut O,
+    ) -> Result<ExitStatus, AskErr>
         requires { O.broken out.old ≡ false }
         ensures ok { IfOk result (λ s. Answered (is_answer self.now fitted.now) s (writer_of (O.written out.old) (O.written out.new) (O.broken out.new))) }
         ensures fails { IfErr result (λ e. IsUnsaid (is_answer self.now fitted.now) (is_absent self.now fitted.now) e (writer_of (O.written out.old) (O.written out.new) (O.broken out.new))) }

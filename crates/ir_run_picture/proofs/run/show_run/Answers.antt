@@ -21,8 +21,10 @@ returns-in_err-show_picture-clause-fails g c =
     let e = c.in_err-show_picture.field-0.0 in
     if_err_handed_on _ c.from_residual-in_err-show_picture.result (Unwritten e) p.0 p.1 p.2
     (not_answered_implied (IsFormOfRun asked.form f asked.around c.in_ok-shown.shown.picture c.in_ok-shown.shown.kept.items) (IsRunTold asked f) e _
-    (λ s text is. (c.in_ok-shown.ensures.there,
-    picture_form_is_answer asked f s text c.in_ok-shown.shown.picture c.in_ok-shown.shown.kept.items c.in_ok-shown.ensures.drawn is))
+    (λ s text is. (
+      c.in_ok-shown.ensures.there,
+      picture_form_is_answer asked f s text c.in_ok-shown.shown.picture c.in_ok-shown.shown.kept.items c.in_ok-shown.ensures.drawn is,
+    ))
     c.in_err-show_picture.ensures.fails)
 
 pub returns-clause-ok : goal.returns-clause-ok
@@ -30,8 +32,10 @@ returns-clause-ok g c =
     let f = c.args.fitted.now in
     let asked = c.args.asked.now in
     answered_implied (IsFormOfRun asked.form f asked.around c.in_ok-shown.shown.picture c.in_ok-shown.shown.kept.items) (IsRunTold asked f)
-    c.in_ok-show_picture.field-0 _ (λ text is. (c.in_ok-shown.ensures.there,
-    picture_form_is_answer asked f c.in_ok-show_picture.field-0 text c.in_ok-shown.shown.picture c.in_ok-shown.shown.kept.items c.in_ok-shown.ensures.drawn is))
+    c.in_ok-show_picture.field-0 _ (λ text is. (
+      c.in_ok-shown.ensures.there,
+      picture_form_is_answer asked f c.in_ok-show_picture.field-0 text c.in_ok-shown.shown.picture c.in_ok-shown.shown.kept.items c.in_ok-shown.ensures.drawn is,
+    ))
     c.in_ok-show_picture.ensures.ok
 
 pub returns-clause-status : goal.returns-clause-status

@@ -58,9 +58,10 @@ returns-in_err-put_answer-in-Err-clause-fails g c =
     let p = err_from_is_err_and c.from_residual-in_err-put_answer-in-Err.result c.from_residual-in_err-put_answer-in-Err.ensures.1 in
     let e = c.in_err-put_answer-in-Err.field-0.0 in
     if_err_handed_on _ c.from_residual-in_err-put_answer-in-Err.result (Unwritten e) p.0 p.1 p.2
-    (not_answered_if_stopped (IsViewTold asked r) c.in_ok-circle_answer-in-Err.field-0.status c.in_ok-circle_answer-in-Err.field-0.text.items e _
-    (c.in_ok-circle.ensures.there,
-    inl (c.in-Err.circle.thread, c.in-Err.circle.event, circle, c.in_ok-circle_answer-in-Err.ensures.0, c.in_ok-circle_answer-in-Err.ensures.1))
+    (not_answered_if_stopped (IsViewTold asked r) c.in_ok-circle_answer-in-Err.field-0.status c.in_ok-circle_answer-in-Err.field-0.text.items e _ (
+      c.in_ok-circle.ensures.there,
+      inl (c.in-Err.circle.thread, c.in-Err.circle.event, circle, c.in_ok-circle_answer-in-Err.ensures.0, c.in_ok-circle_answer-in-Err.ensures.1),
+    )
     c.in_err-put_answer-in-Err.ensures.fails)
 
 pub returns-in_ok-put_answer-in-Err-clause-ok : goal.returns-in_ok-put_answer-in-Err-clause-ok
@@ -73,9 +74,10 @@ returns-in_ok-put_answer-in-Err-clause-ok g c =
     answered_if_written (IsViewTold asked r) c.in_ok-put_answer-in-Err.field-0 (g.O.Sink.written c.args.out.now) (g.O.Sink.written c.put_answer.new.out)
     (g.O.Sink.broken c.put_answer.new.out) c.in_ok-circle_answer-in-Err.field-0.text.items
     (subst (λ (s : ExitStatus). IsViewTold asked r s c.in_ok-circle_answer-in-Err.field-0.text.items)
-    (sym c.in_ok-put_answer-in-Err.ensures.status)
-    (c.in_ok-circle.ensures.there,
-    inl (c.in-Err.circle.thread, c.in-Err.circle.event, circle, c.in_ok-circle_answer-in-Err.ensures.0, c.in_ok-circle_answer-in-Err.ensures.1)))
+    (sym c.in_ok-put_answer-in-Err.ensures.status) (
+      c.in_ok-circle.ensures.there,
+      inl (c.in-Err.circle.thread, c.in-Err.circle.event, circle, c.in_ok-circle_answer-in-Err.ensures.0, c.in_ok-circle_answer-in-Err.ensures.1),
+    ))
     c.in_ok-put_answer-in-Err.ensures.ok c.in_ok-put_answer-in-Err.ensures.works
 
 pub returns-in_ok-put_answer-in-Err-clause-status : goal.returns-in_ok-put_answer-in-Err-clause-status
