@@ -9,7 +9,7 @@ use Rattle.ir_past.specs.declared.absent.Absent.{Absent}
 use Rattle.ir_past.specs.declared.ask_err.AskErr.{AskErr}
 use Rattle.ir_past.specs.declared.ask_err.AskErr.TheVariants as ask
 use Rattle.ir_past.specs.declared.past_err.PastErr.{PastErr}
-use Rattle.ir_commands.specs.Printing.{Printed, PrintedIfThere}
+use Rattle.ir_commands.specs.Printing.{IsPrinted, PrintedIfThere}
 
 -- an answer that there is none of is one of what isn't there, or a failure
 no_reply_is_failure : {X : Type 0} (Are : X → Type 0) (A : X → ExitStatus → List ℕ → Type 0) (R : ExitStatus → List ℕ → Type 0) (s : ExitStatus) (e : AskErr)
@@ -25,7 +25,7 @@ fault_of_no_reply Are A R (ask.Unwritten e) out faults none reports = (e, none, 
 
 -- what is always there is printed, or a fault stopped it
 pub printed_if_always_there : {X : Type 0} (Are : X → Type 0) (A : X → ExitStatus → List ℕ → Type 0) (R : ExitStatus → List ℕ → Type 0) (s : ExitStatus)
-    (out faults : Writer) → PrintedIfThere (IsReply Are A R) (IsReplyless Are A (λ _ _. ⊥) R) s out faults → Printed (IsReply Are A R) s out faults
+    (out faults : Writer) → PrintedIfThere (IsReply Are A R) (IsReplyless Are A (λ _ _. ⊥) R) s out faults → IsPrinted (IsReply Are A R) s out faults
 printed_if_always_there Are A R s out faults h = (
   (λ works. h.0 works (λ bad. let e = h.1 (inr bad) in works (no_reply_is_failure Are A R s e.0 out e.1.0 e.1.1.0))),
   (λ failed. let e = h.1 (inl failed) in fault_of_no_reply Are A R e.0 out faults e.1.1.0 e.1.1.1),

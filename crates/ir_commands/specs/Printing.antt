@@ -48,8 +48,8 @@ abbrev pub Paths : Type 0
 Paths = List ℕ → Option (List ℕ)
 
 -- an answer was printed whole; or a fault stopped it, which is reported
-abbrev pub Printed : (ExitStatus → List ℕ → Type 0) → ExitStatus → Writer → Writer → Type 0
-Printed IsAnswer answered out faults =
+abbrev pub IsPrinted : (ExitStatus → List ℕ → Type 0) → ExitStatus → Writer → Writer → Type 0
+IsPrinted IsAnswer answered out faults =
     (answered ≢ status.Failed → Answered IsAnswer answered out)
     × (answered ≡ status.Failed → (e : PastErr) × NotAnswered IsAnswer e out × Reports faults (fault_text (fault_words e)))
 
@@ -80,7 +80,7 @@ PrintsCode at arguments answered out faults = OfNamedImage at arguments.image ar
 -- `ir events`
 abbrev pub PrintsEvents : Paths → EventsArguments → ExitStatus → Writer → Writer → Type 0
 PrintsEvents at arguments answered out faults = OfTrace (at (string_bytes arguments.trace)) (λ trace.
-    OfNamedImage at arguments.image arguments.map (λ image names. Printed (IsFitAnswerOf (AreEventLines names) image trace) answered out faults))
+    OfNamedImage at arguments.image arguments.map (λ image names. IsPrinted (IsFitAnswerOf (AreEventLines names) image trace) answered out faults))
 
 -- the exit status where an image or names for it aren't read
 abbrev pub IsStatusOfNoImage : {Z : Type 0} → Paths → String Z → Option (String Z) → ExitStatus → Type 0
@@ -89,9 +89,9 @@ IsStatusOfNoImage at path map answered = IsStatusOfNone (at (string_bytes path))
 -- `ir stale`: the stale writes, of an image those that rest on what was read
 abbrev pub PrintsStale : Paths → StaleArguments → ExitStatus → Writer → Writer → Type 0
 PrintsStale at arguments answered out faults = MatchOption arguments.image
-    (OfTrace (at (string_bytes arguments.trace)) (λ trace. Printed (IsAnswerOf IsStaleAnswer (recorded_at trace)) answered out faults))
+    (OfTrace (at (string_bytes arguments.trace)) (λ trace. IsPrinted (IsAnswerOf IsStaleAnswer (recorded_at trace)) answered out faults))
     (λ image. OfImageAndTrace (at (string_bytes image)) (at (string_bytes arguments.trace)) (λ bytes trace.
-    Printed (IsFitAnswerOf IsRestsAnswer bytes trace) answered out faults))
+    IsPrinted (IsFitAnswerOf IsRestsAnswer bytes trace) answered out faults))
 
 -- what `ir who` asks
 abbrev pub who_asked : WhoArguments → who.Question
@@ -135,7 +135,7 @@ PrintsWhy at arguments answered out faults = MatchOption arguments.image
 -- `ir diff`
 abbrev pub PrintsDiff : Paths → DiffArguments → ExitStatus → Writer → Writer → Type 0
 PrintsDiff at arguments answered out faults = OfTraces (at (string_bytes arguments.first)) (at (string_bytes arguments.second)) (λ first second.
-    Printed (IsDiffAnswer (recorded_at first) (recorded_at second)) answered out faults)
+    IsPrinted (IsDiffAnswer (recorded_at first) (recorded_at second)) answered out faults)
 
 -- what `ir view` asks: the data alone, events for other viewers, or else the page
 abbrev pub form_asked : Bool → Bool → Form

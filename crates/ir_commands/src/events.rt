@@ -5,7 +5,7 @@ ghost use Rattle.ir_files.specs.Writers.{writer_of};
 ghost use Rattle.ir_files.specs.declared.exit_status.ExitStatus.TheVariants as status;
 ghost use Rattle.ir_opened.specs.Answers.{IsFitAnswerOf};
 ghost use Rattle.ir_listing.specs.Events.{AreEventLines};
-ghost use Rattle.ir_commands.specs.Printing.{Printed, PrintsEvents, IsStatusOfNoImage, LeavesUnread};
+ghost use Rattle.ir_commands.specs.Printing.{IsPrinted, PrintsEvents, IsStatusOfNoImage, LeavesUnread};
 
 use crate::asking::answer_of_run;
 use crate::files::{bytes_of, image_of_file};
@@ -28,7 +28,7 @@ fn of_run<O: Sink, E: Sink>(
 ) -> ExitStatus
     requires writes { O.broken out.old ≡ false }
     requires reports { E.broken faults.old ≡ false }
-    ensures prints { Printed (IsFitAnswerOf (AreEventLines symbols.now) image.now trace.now) result
+    ensures prints { IsPrinted (IsFitAnswerOf (AreEventLines symbols.now) image.now trace.now) result
         (writer_of (O.written out.old) (O.written out.new) (O.broken out.new)) (writer_of (E.written faults.old) (E.written faults.new) (E.broken faults.new)) }
     ensures quiet { result ≡ status.Done → faults.new ≡ faults.old }
 {

@@ -9,7 +9,7 @@ ghost use Rattle.ir_past.specs.Lines.{IsStaleAnswer};
 ghost use Rattle.ir_opened.specs.Answers.{IsFitAnswerOf};
 ghost use Rattle.ir_stale_run.specs.Lines.{IsRestsAnswer};
 ghost use Rattle.ir_commands.specs.Files.{IsUnread};
-ghost use Rattle.ir_commands.specs.Printing.{Printed, PrintsStale, LeavesUnread};
+ghost use Rattle.ir_commands.specs.Printing.{IsPrinted, PrintsStale, LeavesUnread};
 
 use crate::asking::{answer_of_run, answer_of_trace};
 use crate::files::{bytes_of, image_in};
@@ -29,7 +29,7 @@ fn of_trace<O: Sink, E: Sink>(
 ) -> ExitStatus
     requires writes { O.broken out.old ≡ false }
     requires reports { E.broken faults.old ≡ false }
-    ensures prints { Printed (IsAnswerOf IsStaleAnswer (recorded_at trace.now)) result
+    ensures prints { IsPrinted (IsAnswerOf IsStaleAnswer (recorded_at trace.now)) result
         (writer_of (O.written out.old) (O.written out.new) (O.broken out.new)) (writer_of (E.written faults.old) (E.written faults.new) (E.broken faults.new)) }
     ensures quiet { result ≡ status.Done → faults.new ≡ faults.old }
 {
@@ -46,7 +46,7 @@ fn of_run<O: Sink, E: Sink>(
 ) -> ExitStatus
     requires writes { O.broken out.old ≡ false }
     requires reports { E.broken faults.old ≡ false }
-    ensures prints { Printed (IsFitAnswerOf IsRestsAnswer image.now trace.now) result
+    ensures prints { IsPrinted (IsFitAnswerOf IsRestsAnswer image.now trace.now) result
         (writer_of (O.written out.old) (O.written out.new) (O.broken out.new)) (writer_of (E.written faults.old) (E.written faults.new) (E.broken faults.new)) }
     ensures quiet { result ≡ status.Done → faults.new ≡ faults.old }
 {

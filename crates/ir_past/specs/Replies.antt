@@ -61,16 +61,16 @@ IsReplyless Are IsAnswer IsAbsent IsRefused (ask.Absent what) w = IsOfNothing Ar
 IsReplyless Are IsAnswer IsAbsent IsRefused (ask.Unwritten e) w = NotAnswered (IsReply Are IsAnswer IsRefused) e w
 
 -- a trace was read, and it is coherent
-abbrev pub IsRead : Result Recorded TraceErr → Recorded → Type 0
-IsRead read r = (read ≡ Ok r) × AreCoherent r
+abbrev pub IsTraceRead : Result Recorded TraceErr → Recorded → Type 0
+IsTraceRead read r = (read ≡ Ok r) × AreCoherent r
 
 -- the exit status and the text that the bytes of a trace are answered by, where the answer about a coherent trace is one such as these
 abbrev pub IsTraceReply : (Recorded → ExitStatus → List ℕ → Type 0) → Result Recorded TraceErr → ExitStatus → List ℕ → Type 0
-IsTraceReply IsAnswer read = IsReply (IsRead read) IsAnswer (IsRefusal read)
+IsTraceReply IsAnswer read = IsReply (IsTraceRead read) IsAnswer (IsRefusal read)
 
 -- why they aren't answered, and what that leaves
 abbrev pub IsTraceReplyless : (Recorded → ExitStatus → List ℕ → Type 0) → (Recorded → Absent → Type 0) → Result Recorded TraceErr → AskErr → Writer → Type 0
-IsTraceReplyless IsAnswer IsAbsent read = IsReplyless (IsRead read) IsAnswer IsAbsent (IsRefusal read)
+IsTraceReplyless IsAnswer IsAbsent read = IsReplyless (IsTraceRead read) IsAnswer IsAbsent (IsRefusal read)
 
 -- the same where the text alone is the answer about a coherent trace
 abbrev pub IsAnswerOf : (Recorded → List ℕ → Type 0) → Result Recorded TraceErr → ExitStatus → List ℕ → Type 0

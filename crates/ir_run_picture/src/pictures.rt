@@ -8,7 +8,7 @@ ghost use Rattle.ir_picture.specs.Answers.{IsThereIn};
 ghost use Rattle.ir_past.specs.Replies.{IsTextless};
 ghost use Rattle.ir_run_picture.specs.Answers.{IsRunPicture, LacksAroundIn};
 ghost use Rattle.ir_run_picture.specs.Brief.{AreRunBoxes};
-ghost use Rattle.ir_run_picture.specs.Spans.{IsSpan};
+ghost use Rattle.ir_run_picture.specs.Spans.{IsSpanOfBox};
 ghost use Rattle.ir_run_picture.specs.Held.{HaveHeld};
 
 use crate::folding::run_boxes_of;
@@ -30,7 +30,7 @@ fn held_in(
     spans: &[Span],
 ) -> Result<HeldBoxes, AllocError>
     requires events { AreRunBoxes fitted.now events.now }
-    requires go { ArePaired (IsSpan fitted.now) events.now spans.now }
+    requires go { ArePaired (IsSpanOfBox fitted.now) events.now spans.now }
     ensures { IfOk result (λ h. HaveHeld fitted.now h.boxes.items h.ends.items) }
 {
     fitted.known();
@@ -45,7 +45,7 @@ fn run_spans_of(
     events: &[EventBox],
 ) -> Result<Vec<Span>, AllocError>
     requires { AreRunBoxes fitted.now events.now }
-    ensures { IfOk result (λ v. ArePaired (IsSpan fitted.now) events.now v.items) }
+    ensures { IfOk result (λ v. ArePaired (IsSpanOfBox fitted.now) events.now v.items) }
 {
     spans_of(alloc, fitted, events)
 }

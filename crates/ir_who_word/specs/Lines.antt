@@ -26,13 +26,13 @@ changed_word_line i v d = codes "version " ++ (decimal v ++ (codes " by " ++ (ma
     ++ (codes " word " ++ (decimal i ++ (codes " " ++ (hex_word d.word ++ 10 ∷ []))))))))
 
 -- whether version v has another word than the version before; the first counts as such
-abbrev pub is_other : List Worded → ℕ → Bool
-is_other ds zero = true
-is_other ds (suc v) = not ((slice_index_or ds v unread).word == (slice_index_or ds (suc v) unread).word)
+abbrev pub word_changes : List Worded → ℕ → Bool
+word_changes ds zero = true
+word_changes ds (suc v) = not ((slice_index_or ds v unread).word == (slice_index_or ds (suc v) unread).word)
 
 -- the line of version v, if it has another word than the version before
 abbrev pub word_line_if : ℕ → List Worded → ℕ → List ℕ
-word_line_if i ds v = if is_other ds v then changed_word_line i v (slice_index_or ds v unread) else []
+word_line_if i ds v = if word_changes ds v then changed_word_line i v (slice_index_or ds v unread) else []
 
 -- the lines of the first n versions
 unfoldable pub changed_lines : ℕ → List Worded → ℕ → List ℕ

@@ -76,13 +76,13 @@ abbrev pub positions_asked : FitQuestion → Option (List ℕ)
 positions_asked asked = option_map (λ v. v.items) asked.at
 
 -- these are positions of all threads, and a consistent cut
-abbrev pub IsCutOf : FittedTrace → List ℕ → Type 0
-IsCutOf f ps = (length ps ≡ length f.guest.entries) × IsConsistentCut f ps
+abbrev pub IsCutOfThreads : FittedTrace → List ℕ → Type 0
+IsCutOfThreads f ps = (length ps ≡ length f.guest.entries) × IsConsistentCut f ps
 
 -- so are those that are asked about, if they are
 abbrev pub AreCuts : FittedTrace → Option (List ℕ) → Type 0
 AreCuts f None = ⊤
-AreCuts f (Some ps) = IsCutOf f ps
+AreCuts f (Some ps) = IsCutOfThreads f ps
 
 -- the answer about a guest and a trace of one of its runs
 pub record IsFitReason (asked : FitQuestion) (f : FittedTrace) (text : List ℕ) : Type 0 where

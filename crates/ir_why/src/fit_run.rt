@@ -9,7 +9,7 @@ ghost use Rattle.ir_past.specs.declared.absent.Absent.TheVariants as absent;
 ghost use Rattle.ir_past.specs.declared.ask_err.AskErr.TheVariants as ask;
 ghost use Rattle.ir_past.specs.declared.past_err.PastErr.TheVariants.{NoMem};
 ghost use Rattle.ir_opened.specs.Positions.{IsInside};
-ghost use Rattle.ir_why.specs.FitAnswers.{AreCuts, IsCutOf, IsReasonIn, IsFitReason, LacksFitAsked, positions_asked};
+ghost use Rattle.ir_why.specs.FitAnswers.{AreCuts, IsCutOfThreads, IsReasonIn, IsFitReason, LacksFitAsked, positions_asked};
 
 use crate::fit_question::FitQuestion;
 use crate::fit_texts::reason_in;
@@ -25,8 +25,8 @@ use std::alloc::{AllocError, Global};
 
 // Whether there is a position for each thread, and they are a consistent cut.
 fn is_cut(fitted: &Fitted, cut: &Cut) -> bool
-    ensures is { result ≡ true → IsCutOf fitted.now cut.now }
-    ensures not { result ≡ false → IsCutOf fitted.now cut.now → ⊥ }
+    ensures is { result ≡ true → IsCutOfThreads fitted.now cut.now }
+    ensures not { result ≡ false → IsCutOfThreads fitted.now cut.now → ⊥ }
 {
     if cut.positions().len() != fitted.image().entries().len() {
         return false;

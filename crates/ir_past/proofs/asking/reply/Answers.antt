@@ -4,7 +4,7 @@ use Rattle.ir_trace.specs.Recorded.{recorded_at}
 use Rattle.ir_files.proofs.CallerLemmas.{if_err_handed_on}
 use Rattle.ir_files.specs.Writers.{writer_of}
 use Rattle.ir_past.specs.Answers.{IsOpened, IsRefusal}
-use Rattle.ir_past.specs.Replies.{IsRead}
+use Rattle.ir_past.specs.Replies.{IsTraceRead}
 use Rattle.ir_past.specs.declared.ask_err.AskErr.TheVariants.{Unwritten}
 use Rattle.ir_past.specs.declared.opened.Opened.TheVariants.{Coherent, Refused}
 use Rattle.ir_past.proofs.Shown.{refusal_is_answered, reply_if_answered}
@@ -15,7 +15,7 @@ returns-in-Coherent g c =
     let read = recorded_at c.args.bytes.now in
     let question = c.args.question.now in
     let opened : IsOpened read (Coherent c.in-Coherent.trace) = subst (IsOpened read) c.in-Coherent.is c.in_ok-trace.ensures in
-    let h = reply_if_answered (IsRead read) (g.Q.TraceQuestion.is_answer question) (g.Q.TraceQuestion.is_absent question) (IsRefusal read) c.in-Coherent.trace
+    let h = reply_if_answered (IsTraceRead read) (g.Q.TraceQuestion.is_answer question) (g.Q.TraceQuestion.is_absent question) (IsRefusal read) c.in-Coherent.trace
     c.print.result (writer_of (g.O.Sink.written c.args.out.now) (g.O.Sink.written c.print.new.out) (g.O.Sink.broken c.print.new.out)) opened
     c.print.ensures.ok c.print.ensures.fails in
     record { ok = h.0; fails = h.1; status = c.print.ensures.status }
