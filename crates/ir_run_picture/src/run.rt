@@ -133,6 +133,7 @@ fn show_run<O: Sink>(
 
 /// What is asked of a picture, of a run: its boxes have the steps of the run, and its stale writes are those that rest on what was read. Nothing is
 /// written before all is judged.
+#[derive(Clone, Copy, Debug)]
 pub struct RunView<'a> {
     /// The form, and the part.
     pub asked: &'a Asked,
