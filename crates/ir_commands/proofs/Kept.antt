@@ -1,5 +1,7 @@
 -- What recordings leave in files, where it is asked for.
-use Rattle.std.proofs.Common.{◌≡◌, ◌<◌, ◌∙◌, ◌+◌, ℕ, Bool, true, false, false≢true, List, [], Option, None, Some, IfSome, String, Bor, length, get_or, map, ap, inl, inr, arith, refl, subst, sym}
+use Rattle.std.proofs.Common.{◌≡◌, ◌<◌, ◌∙◌, ◌+◌, ℕ, Bool, true, false, List, [], Option, None, Some, IfSome, String, length, get_or, map, ap, inl, inr, arith, refl, subst, sym}
+use Rattle.std.proofs.lemmas.Bool.{false≢true}
+use Rattle.std.specs.Borrow.{Bor}
 use Rattle.std.specs.List.{range_with_len, slice_get}
 use Rattle.std.specs.Option.{option_map, option_map_or}
 use Rattle.std.specs.String.{string_bytes}
@@ -69,15 +71,15 @@ outputs_as_asked : {Z : Type 0} (stored : Storing) (prefix : Option (String Z)) 
     → IfSome paths (λ each. stored.knows ≡ true → StandEach stored.output each printed)
     → IfSome prefix (λ begin. stored.knows ≡ true → StandBehind stored.output (string_bytes begin) printed)
 outputs_as_asked stored None paths printed are stand = tt
-outputs_as_asked stored (Some begin) paths printed are stand yes =
+outputs_as_asked stored (Some begin) paths printed are stand = λ yes.
     stand_behind stored.output (string_bytes begin) are.0 printed
     (subst (λ z. IfSome z (λ each. stored.knows ≡ true → StandEach stored.output each printed)) are.1 stand yes)
 
 -- what is kept at the paths of what is asked for is kept as it is asked for
-pub kept_as_asked : {Z : Type 0} (stored : Storing) {place other : List ℕ} {prefix : Option (String Z)} {paths : Option (List (List ℕ))} → place ≡ other
+pub kept_as_asked : {Z : Type 0} (stored : Storing) {place other : List ℕ} (prefix : Option (String Z)) (paths : Option (List (List ℕ))) → place ≡ other
     → AreOutputPaths prefix paths → (bytes : List ℕ) (printed : List (List ℕ)) → KeptAt stored place paths bytes printed
     → KeptAsAsked stored other prefix bytes printed
-kept_as_asked stored {place} {other} {prefix} {paths} here are bytes printed kept =
+kept_as_asked stored {place} {other} prefix paths here are bytes printed kept =
     (subst (λ p. stored.whole p bytes) here kept.0, outputs_as_asked stored prefix paths printed are kept.1)
 
 -- paths that are lent have the same texts

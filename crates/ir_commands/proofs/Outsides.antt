@@ -45,8 +45,8 @@ within_fault_is (within.Unwritten e) why p = explore_fault_is e why p
 pub no_comparison_no_recording : (at : Paths) (arguments : WithinArguments) {answered : ExitStatus} → IsStatusOfNoComparison at arguments answered
     → IsStatusOfNoRecording (RefusesGuest (at (string_bytes arguments.explore.image)) arguments.explore.profile
     ⊎ RefusesGuest (at (string_bytes arguments.other)) arguments.explore.profile) answered
-no_comparison_no_recording at arguments (inl none) = none_is_no_recording (λ refused. inl (inl refused)) none
-no_comparison_no_recording at arguments (inr (inl none)) = none_is_no_recording (λ refused. inr (inl refused)) none
+no_comparison_no_recording at arguments (inl none) = none_is_no_recording _ (λ refused. inl (inl refused)) none
+no_comparison_no_recording at arguments (inr (inl none)) = none_is_no_recording _ (λ refused. inr (inl refused)) none
 no_comparison_no_recording at arguments (inr (inr bad)) = inl bad.0
 
 -- what a comparison tells that records nothing
@@ -55,10 +55,10 @@ pub outside_tells_none : {W P O : Type 0} (d : Tellings W P O) (answered : ExitS
     → TellsNoneOutside c answered (lines_between d old new)
     ⊎ TellsNoSearch (LacksGuest c.image c.plan.profile ⊎ LacksGuest c.other c.plan.profile) answered reports
 outside_tells_none d answered c old new reports (inl h) = inl h.3
-outside_tells_none d answered c old new reports (inr (inl (e, is, trace, outputs, none, words, are, told))) =
-    inr (within_fault_is e (told_lacks_guest e c _ none) is, (words, told))
+outside_tells_none d answered c old new reports (inr (inl h)) =
+    inr (within_fault_is h.0 (told_lacks_guest h.0 c _ h.4) h.1, (h.5.0, h.5.2))
 outside_tells_none d answered c old new reports (inr (inr h)) = inr (fault_is_no_recording h.0 (λ r. inl (spelled_lacks_guest _ h.5.told.first.leads.spelled
-    (stopped_lacks_guest h.0 c.image h.3 (recording c.plan (Some h.3)) h.5.guest h.5.is.0 refl h.7.1 r))) h.1, reported_is_told h.0 c.image _ _ _ reports h.7.0)
+    (stopped_lacks_guest h.0 c.image h.3 (recording c.plan (Some h.3)) h.5.guest _ _ _ _ _ _ h.5.is.0 refl h.7.1 r))) h.1, reported_is_told h.0 c.image _ _ _ reports h.7.0)
 
 either_refused : (at : Paths) (arguments : OutsideArguments) (c : Comparison) → AsksComparison at arguments.within c
     → LacksGuest c.image c.plan.profile ⊎ LacksGuest c.other c.plan.profile → RefusesEither at arguments
@@ -75,7 +75,7 @@ outside_misses {at} {arguments} {c} answered out asked same (inr h) =
     inr (subst (λ w. TellsNoSearch (RefusesEither at arguments) answered w) same (refused_since (either_refused at arguments c asked) h.0, h.1))
 
 -- the guest of one of two files lacks an object whose words count
-pub either_lacks : {known others : Option (List ℕ)} {image other first second : List ℕ} (counted : Counted) → IsImageIn known image → IsImageIn others other
+pub either_lacks : (known others : Option (List ℕ)) {image other first second : List ℕ} (counted : Counted) → IsImageIn known image → IsImageIn others other
     → first ≡ image → second ≡ other → LacksCounted first counted ⊎ LacksCounted second counted → LacksIn known counted ⊎ LacksIn others counted
-either_lacks {known} {others} {image} {other} counted is is_other same same_other (inl h) = inl (image, is, subst (λ z. LacksCounted z counted) same h)
-either_lacks {known} {others} {image} {other} counted is is_other same same_other (inr h) = inr (other, is_other, subst (λ z. LacksCounted z counted) same_other h)
+either_lacks known others {image} {other} counted is is_other same same_other (inl h) = inl (image, is, subst (λ z. LacksCounted z counted) same h)
+either_lacks known others {image} {other} counted is is_other same same_other (inr h) = inr (other, is_other, subst (λ z. LacksCounted z counted) same_other h)

@@ -31,7 +31,7 @@ use Rattle.ir_commands.specs.Writing.{IsStatusOfNoRecording}
 pub failed_is_not_refused : {A : Type 0} → status.Failed ≡ status.Refused → A
 failed_is_not_refused e = let bad : 1 ≡ 3 = ap status_number e in absurd (omega (arith, bad))
 
-is_ok : {A E : Type 0} → Result A E → Bool
+abbrev is_ok : {A E : Type 0} → Result A E → Bool
 is_ok (Ok x) = true
 is_ok (Err e) = false
 
@@ -66,10 +66,10 @@ explore_fault_is explore.NoMem why p = inr (inl p)
 explore_fault_is explore.Write why p = inr (inl p)
 
 -- the status where no image is had of a file
-pub none_is_no_recording : {refuses : Type 0} {known : Option (List ℕ)} {answered : ExitStatus} → (IfSome known IsNoGuest → refuses)
+pub none_is_no_recording : {refuses : Type 0} (known : Option (List ℕ)) {answered : ExitStatus} → (IfSome known IsNoGuest → refuses)
     → IsStatusOfNone known answered → IsStatusOfNoRecording refuses answered
-none_is_no_recording to (inl failed) = inr (inl failed)
-none_is_no_recording to (inr refused) = inr (inr (refused.0, to refused.1))
+none_is_no_recording known to (inl failed) = inr (inl failed)
+none_is_no_recording known to (inr refused) = inr (inr (refused.0, to refused.1))
 
 -- ---- guests
 
@@ -102,20 +102,20 @@ spells_none image list plan guest threads is order r =
     ap (λ n. order_of n list) (sym many) ∙ ap (order_of threads) (sym same) ∙ r.8
 
 -- why the recording of a guest by a list stopped
-pub stopped_lacks_guest : (e : RecordFault) (image list : List ℕ) (plan : Plan) (guest : Guest) {trace out : Writer} {outputs : OutputWriter} {all later last : Type 0}
+pub stopped_lacks_guest : (e : RecordFault) (image list : List ℕ) (plan : Plan) (guest : Guest) (trace : Writer) (outputs : OutputWriter) (out : Writer) (all later last : Type 0)
     → guest_at image ≡ Ok guest → plan.order ≡ Some list → StopsRecord e image plan trace outputs out all later last → fault_status e ≡ status.Refused
     → LacksGuest image plan.profile ⊎ (order_of (length guest.entries) list ≡ None)
-stopped_lacks_guest (Image e) image list plan guest is order (inl r) refused = inl (faulty_lacks_guest image plan.profile e r.0)
-stopped_lacks_guest (Image e) image list plan guest is order (inr w) refused = absurd w.3
-stopped_lacks_guest TooLarge image list plan guest is order (inl r) refused = inl (unallowed_lacks_guest image plan.profile r.0.0 r.0.1 r.0.2)
-stopped_lacks_guest TooLarge image list plan guest is order (inr w) refused = absurd w.3
-stopped_lacks_guest (Order threads) image list plan guest is order (inl r) refused = inr (spells_none image list plan guest threads is order r.0)
-stopped_lacks_guest (Order threads) image list plan guest is order (inr w) refused = absurd w.3
-stopped_lacks_guest NoMem image list plan guest is order s refused = failed_is_not_refused refused
-stopped_lacks_guest Clock image list plan guest is order s refused = failed_is_not_refused refused
-stopped_lacks_guest Trace image list plan guest is order s refused = failed_is_not_refused refused
-stopped_lacks_guest Output image list plan guest is order s refused = failed_is_not_refused refused
-stopped_lacks_guest Lines image list plan guest is order s refused = failed_is_not_refused refused
+stopped_lacks_guest (Image e) image list plan guest trace outputs out all later last is order (inl r) refused = inl (faulty_lacks_guest image plan.profile e r.0)
+stopped_lacks_guest (Image e) image list plan guest trace outputs out all later last is order (inr w) refused = absurd w.3
+stopped_lacks_guest TooLarge image list plan guest trace outputs out all later last is order (inl r) refused = inl (unallowed_lacks_guest image plan.profile r.0.0 r.0.1 r.0.2)
+stopped_lacks_guest TooLarge image list plan guest trace outputs out all later last is order (inr w) refused = absurd w.3
+stopped_lacks_guest (Order threads) image list plan guest trace outputs out all later last is order (inl r) refused = inr (spells_none image list plan guest threads is order r.0)
+stopped_lacks_guest (Order threads) image list plan guest trace outputs out all later last is order (inr w) refused = absurd w.3
+stopped_lacks_guest NoMem image list plan guest trace outputs out all later last is order s refused = failed_is_not_refused refused
+stopped_lacks_guest Clock image list plan guest trace outputs out all later last is order s refused = failed_is_not_refused refused
+stopped_lacks_guest Trace image list plan guest trace outputs out all later last is order s refused = failed_is_not_refused refused
+stopped_lacks_guest Output image list plan guest trace outputs out all later last is order s refused = failed_is_not_refused refused
+stopped_lacks_guest Lines image list plan guest trace outputs out all later last is order s refused = failed_is_not_refused refused
 
 -- the same where the list spells an order
 pub spelled_lacks_guest : {T lacks : Type 0} (spelled : T) {order : Option T} → order ≡ Some spelled → lacks ⊎ (order ≡ None) → lacks
@@ -143,8 +143,3 @@ hang_lacks_guest (explore.Image e) image plan w h is = explored_lacks_guest (exp
 hang_lacks_guest explore.TooLarge image plan w h is = explored_lacks_guest explore.TooLarge image plan w h is
 hang_lacks_guest explore.NoMem image plan w h is = failed_is_not_refused is
 hang_lacks_guest explore.Write image plan w h is = failed_is_not_refused is
-
--- a guest that an image lacks is refused
-pub lacking_is_refused : {known : Option (List ℕ)} {image other : List ℕ} {profile : Profile} → IsImageIn known image → other ≡ image → LacksGuest other profile
-    → RefusesGuest known profile
-lacking_is_refused {known} {image} {other} {profile} is same lacks = inr (image, is, subst (λ z. LacksGuest z profile) same lacks)

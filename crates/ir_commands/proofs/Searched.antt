@@ -1,5 +1,5 @@
 -- What searches leave that record what they find.
-use Rattle.std.proofs.Common.{◌≡◌, ◌∙◌, ◌⊎◌, List, ℕ, ap, inl, inr, map, refl, subst, sym}
+use Rattle.std.proofs.Common.{◌≡◌, ◌∙◌, ◌⊎◌, List, ℕ, zero, suc, Some, ap, inl, inr, map, refl, subst, sym}
 use Rattle.std.specs.Prelude.{⊤, Bool, Option, None, length, IfErr, IfOk, OnErr, OnOk, Result, Ok, Err, true, false}
 use Rattle.std.specs.String.{string_bytes}
 use Rattle.ir_explore.specs.Faults.{explore_fault_status, explore_fault_words}
@@ -58,23 +58,23 @@ found_or_lost Lost (Ok x) found lost is stopped = inl (is, found)
 found_or_lost Lost (Err e) found lost is stopped = inr (subst Lost (sym stopped) lost)
 
 -- how many seeds were left out is told, or what is told is as before
-pub left_out_is_told : (left_out : ℕ) {reports : Writer} {same : Type 0} → (same → reports.after ≡ reports.before) → TellsLeftOut left_out reports same
+pub left_out_is_told : (left_out : ℕ) (reports : Writer) {same : Type 0} → (same → reports.after ≡ reports.before) → TellsLeftOut left_out reports same
     → TellsLeftOut left_out reports (reports.before ≡ reports.after)
-left_out_is_told zero to told = sym (to told)
-left_out_is_told (suc n) to told = told
+left_out_is_told zero reports to told = sym (to told)
+left_out_is_told (suc n) reports to told = told
 
 -- what a hunt tells that records nothing
 pub hunt_tells_none : {W P O : Type 0} (d : Tellings W P O) (answered : ExitStatus) (image : List ℕ) (plan : HuntPlan) (old new : Devices W P O) (reports : Writer)
     {same : Type 0} → (same → reports.after ≡ reports.before) → StopsHunt d answered image plan old new reports same
     → TellsNoSeed image plan answered (lines_between d old new) reports ⊎ TellsNoSearch (LacksGuest image plan.record.profile) answered reports
 hunt_tells_none d answered image plan old new reports to (inl h) =
-    inl (record { last = h.0; left_out = h.1; none = h.3; status = h.2; lines = h.6; told = left_out_is_told h.1 to h.7 })
+    inl (record { last = h.0; left_out = h.1; none = h.3; status = h.2; lines = h.6; told = left_out_is_told h.1 reports to h.7 })
 hunt_tells_none d answered image plan old new reports to (inr (e, is, inl t)) =
     inr (fault_is_no_recording e (hunt_lacks_guest e image plan.record t.0) is, (record_fault_words e, t.4))
 hunt_tells_none d answered image plan old new reports to (inr (e, is, inr (inl t))) =
     inr (fault_is_no_recording Lines failed_is_not_refused (is ∙ ap fault_status t.1), (record_fault_words e, t.6))
 hunt_tells_none d answered image plan old new reports to (inr (e, is, inr (inr t))) =
-    inr (fault_is_no_recording e (λ r. spelled_lacks_guest _ t.4.lowest.found.spelled (stopped_lacks_guest e image t.2 (by_list plan.record t.2) t.4.guest t.4.is refl t.6.1 r)) is,
+    inr (fault_is_no_recording e (λ r. spelled_lacks_guest _ t.4.lowest.found.spelled (stopped_lacks_guest e image t.2 (by_list plan.record t.2) t.4.guest _ _ _ _ _ _ t.4.is refl t.6.1 r)) is,
     reported_is_told e image _ _ _ reports t.6.0)
 
 -- what a search for an outcome tells that records nothing
@@ -85,7 +85,7 @@ search_tells_none d answered image plan conditions old new reports (inl h) = inl
 search_tells_none d answered image plan conditions old new reports (inr (inl h)) =
     inr (explore_fault_is h.0 (answer_lacks_guest h.0 image plan (map as_condition conditions) _ h.4) h.1, (explore_fault_words h.0, h.5))
 search_tells_none d answered image plan conditions old new reports (inr (inr h)) =
-    inr (fault_is_no_recording h.0 (λ r. spelled_lacks_guest _ h.5.says.hit.spelled (stopped_lacks_guest h.0 image h.3 (recording plan (Some h.3)) h.5.guest h.5.is refl h.7.1 r)) h.1,
+    inr (fault_is_no_recording h.0 (λ r. spelled_lacks_guest _ h.5.says.hit.spelled (stopped_lacks_guest h.0 image h.3 (recording plan (Some h.3)) h.5.guest _ _ _ _ _ _ h.5.is refl h.7.1 r)) h.1,
     reported_is_told h.0 image _ _ _ reports h.7.0)
 
 hang_or_guest : (image : List ℕ) (plan : ExplorePlan) (order : HangOrder) (text : List ℕ) (told : IsHangAnswer image plan (Ok order) text)
@@ -104,7 +104,7 @@ hang_tells_none d answered image plan old new reports (inr (inl h)) =
     inr (explore_fault_is h.0 (λ r. inl (hang_lacks_guest h.0 image plan _ h.4 r)) h.1, (explore_fault_words h.0, h.5))
 hang_tells_none d answered image plan old new reports (inr (inr h)) =
     inr (fault_is_no_recording h.0 (λ r. hang_or_guest image plan h.2 h.3 h.5
-    (stopped_lacks_guest h.0 image (string_bytes h.2.list) (hang_plan plan h.2) h.5.guest h.5.is refl h.7.1 r)) h.1, reported_is_told h.0 image _ _ _ reports h.7.0)
+    (stopped_lacks_guest h.0 image (string_bytes h.2.list) (hang_plan plan h.2) h.5.guest _ _ _ _ _ _ h.5.is refl h.7.1 r)) h.1, reported_is_told h.0 image _ _ _ reports h.7.0)
 
 -- a plan that is the same may stand for it
 pub with_plan : {image : List ℕ} {plan other : ExplorePlan} {is_kept : Keeping} {out : Writer} → plan ≡ other

@@ -2,6 +2,7 @@
 use Rattle.std.specs.Prelude.{◌≡◌, ◌⊎◌, ◌&&◌, ℕ, Bool, true, List, [], ◌∷◌, ◌++◌, Option, Some, None, option_map, IfSome, IsSomeAnd, MatchOption, Ok, Err, String, map, not, slice_get, ⊤, if◌then◌else◌}
 use Rattle.std.specs.List.{list_all, range_with_len}
 use Rattle.std.specs.String.{string_bytes}
+use Rattle.std.specs.Borrow.{Bor}
 use Rattle.std.specs.Str.{IsUtf8}
 use Rattle.ir_asm.specs.Passes.{labels_of}
 use Rattle.ir_asm.specs.Source.{Fault}

@@ -52,6 +52,6 @@ returns-clause-done g c =
     (hunt_comes_to g.O.Sink.written g.O.Sink.broken g.E.Sink.written g.E.Sink.broken at stored arguments image plan
     c.args.out.now c.hunted_into-found.new.out c.ended.new.out c.beside_of.new.faults c.hunted_into-found.new.faults c.ended.new.faults c.ended.result
     (KeptAt stored c.new-places.result.trace.now (texts_of_paths c.new-places.result.outputs)) c.hunted_into-found.result asked
-    (kept_as_asked stored (c.new-places.ensures.trace ∙ c.paths-paths.ensures.trace) outs)
+    (kept_as_asked stored _ _ (c.new-places.ensures.trace ∙ c.paths-paths.ensures.trace) outs)
     c.hunted_into-found.ensures.found c.hunted_into-found.ensures.none c.ended.ensures.stopped c.ended.ensures.quiet c.ended.ensures.kept c.ended.ensures.done
     c.ended.ensures.shrunk)

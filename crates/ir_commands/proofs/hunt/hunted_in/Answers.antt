@@ -14,7 +14,7 @@ returns-clause-found g c = IfOk-weaker c.hunt_run.result _ _ (λ recorded done. 
   finding = done.4;
   kept = (done.5, done.6);
   lines = done.7;
-  told = left_out_is_told done.0 (ap g.E.Sink.written) done.8;
+  told = left_out_is_told done.0 _ (ap g.E.Sink.written) done.8;
 }) c.hunt_run.ensures.done
 
 pub returns-clause-none : goal.returns-clause-none

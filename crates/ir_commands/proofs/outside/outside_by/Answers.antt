@@ -34,7 +34,7 @@ returns-clause-found g c =
     on_ok_weaker c.outside_into.result (λ found. record {
       comparison = comparison;
       asked = asked;
-      found = outside_kept (kept_as_asked stored (c.new-places.ensures.trace ∙ c.paths-paths.ensures.trace) outs) found;
+      found = outside_kept (kept_as_asked stored _ _ (c.new-places.ensures.trace ∙ c.paths-paths.ensures.trace) outs) found;
     }) c.outside_into.ensures.found
 
 pub returns-clause-none : goal.returns-clause-none

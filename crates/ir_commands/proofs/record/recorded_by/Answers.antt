@@ -35,7 +35,7 @@ returns-clause-done g c =
       printed = done.0;
       asked = asked;
       is = done.1;
-      kept = kept_as_asked stored (c.new-places.ensures.trace ∙ c.as_str-2.ensures.value) outs (encoding recorded) done.0 (
+      kept = kept_as_asked stored _ _ (c.new-places.ensures.trace ∙ c.as_str-2.ensures.value) outs (encoding recorded) done.0 (
         stored_in_place g.D.Folder.known g.D.Folder.knows g.D.Folder.was_put (λ m. m.file) c.args.around.now.folder.now files.trace.folder.now
           after.trace.folder.now c.new-places.result.trace.now files.trace.place.now after.trace.place.now files.trace.made after.trace.made
           (encoding recorded) c.record_files-files.ensures.folder c.record_files-files.ensures.place

@@ -49,7 +49,7 @@ returns-clause-done g c =
       given = c.in_ok-trace.trace;
       plan = plan;
       asked = asked;
-      shrunk = shrunk_at (kept_as_asked stored (c.new-places.ensures.trace ∙ c.as_str.ensures.value) outs) (ap (λ o. writer_of (g.O.Sink.written o) (g.O.Sink.written
+      shrunk = shrunk_at (kept_as_asked stored _ _ (c.new-places.ensures.trace ∙ c.as_str.ensures.value) outs) (ap (λ o. writer_of (g.O.Sink.written o) (g.O.Sink.written
           c.shrunk_into.new.out) (g.O.Sink.broken c.shrunk_into.new.out)) c.in_ok-trace.ensures.quiet) h;
     }) c.shrunk_into.ensures.done
 

@@ -38,7 +38,7 @@ returns-then-arguments-clause-found g c =
       conditions = conditions;
       asked = asked;
       found = subst (λ b. RecordsSought b image plan conditions (KeptAsAsked stored (string_bytes arguments.trace) arguments.output) out) (sym c.if-arguments.true)
-          (hang_kept (kept_as_asked stored (c.new-places.ensures.trace ∙ c.paths-paths.ensures.trace) outs) found);
+          (hang_kept (kept_as_asked stored _ _ (c.new-places.ensures.trace ∙ c.paths-paths.ensures.trace) outs) found);
     }) c.hang_into.ensures.found
 
 pub returns-then-arguments-clause-none : goal.returns-then-arguments-clause-none
@@ -91,7 +91,7 @@ returns-clause-found g c =
       conditions = conditions;
       asked = asked;
       found = subst (λ b. RecordsSought b image plan conditions (KeptAsAsked stored (string_bytes arguments.trace) arguments.output) out) (sym c.if-arguments.false)
-          (outcome_kept (kept_as_asked stored (c.new-places.ensures.trace ∙ c.paths-paths.ensures.trace) outs) found);
+          (outcome_kept (kept_as_asked stored _ _ (c.new-places.ensures.trace ∙ c.paths-paths.ensures.trace) outs) found);
     }) c.found_into.ensures.found
 
 pub returns-clause-none : goal.returns-clause-none

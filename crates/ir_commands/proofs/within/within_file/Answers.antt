@@ -55,7 +55,7 @@ returns-then-lacks_either g c =
       prints = inr (record {
         status = inr (inr (
           refl,
-          either_lacks c.args.arguments.now.counted c.in-Ok.ensures.image c.in-Ok.ensures.other c.both_images-both.ensures.0 c.both_images-both.ensures.1
+          either_lacks _ _ c.args.arguments.now.counted c.in-Ok.ensures.image c.in-Ok.ensures.other c.both_images-both.ensures.0 c.both_images-both.ensures.1
               (c.if-lacks_either.ensures.lacks refl),
         ));
         kept = refl;
