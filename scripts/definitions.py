@@ -133,21 +133,23 @@ CLAIMS = [
         ("ir_gdb", "Laws", "the laws"),
     ], (3024, 1603)),
     Claim("Questions about a recording", "The lines of `ir stale`, `who`, `why`, `diff`, `view`, `events` and `list`.", {
-        "ir_past/src/run.rt": ["stale_run"],
-        "ir_stale_run/src/run.rt": ["rests_run"],
-        "ir_who/src/run.rt": ["who_run"],
-        "ir_who/src/fit_run.rt": ["who_fit_run"],
-        "ir_who_word/src/run.rt": ["word_fit_run"],
-        "ir_why/src/run.rt": ["why_run"],
-        "ir_why/src/fit_run.rt": ["why_fit_run"],
+        "ir_past/src/asking.rt": ["TraceQuestion", "ask_trace"],
+        "ir_past/src/run.rt": ["TraceQuestion for StaleQuestion"],
+        "ir_opened/src/asking.rt": ["RunQuestion", "ask_run"],
+        "ir_stale_run/src/run.rt": ["RunQuestion for RestsQuestion"],
+        "ir_who/src/run.rt": ["TraceQuestion for Question"],
+        "ir_who/src/fit_run.rt": ["RunQuestion for Question"],
+        "ir_who_word/src/run.rt": ["RunQuestion for Question"],
+        "ir_why/src/run.rt": ["TraceQuestion for Question"],
+        "ir_why/src/fit_run.rt": ["RunQuestion for FitQuestion"],
         "ir_why/src/laws.rt": ["needs_left_before", "waits_before"],
-        "ir_diff/src/run.rt": ["diff_run"],
-        "ir_picture/src/run.rt": ["view_run"],
+        "ir_diff/src/run.rt": ["TraceQuestion for Difference"],
+        "ir_picture/src/run.rt": ["TraceQuestion for Asked"],
         "ir_picture/src/laws.rt": ["needs_are_left", "runs_have_no_circle"],
-        "ir_run_picture/src/run.rt": ["view_fit_run"],
+        "ir_run_picture/src/run.rt": ["RunQuestion for RunView"],
         "ir_run_picture/src/laws.rt": ["behind_comes_first", "behind_is_in_cut", "behind_is_left", "left_is_consistent", "left_is_cut", "right_is_an_order",
                                        "rows_do_not_overlap"],
-        "ir_listing/src/events.rt": ["events_run"],
+        "ir_listing/src/events.rt": ["RunQuestion for EventsQuestion"],
         "ir_listing/src/code.rt": ["list_report"],
     }, [
         ("ir_past", "Past", "`event_at`, `IsMadeBy`: what made a version"),
@@ -382,9 +384,9 @@ def types_in(signature, text, file):
 
 
 def named_by_contract(file, item):
-    """What the contract of a function names, or the contracts of a trait, and what the types of the function's signature name."""
+    """What the contract of a function names, or the contracts of a trait, or the ghosts of an impl, and what the types of the function's signature name."""
     text, where = code(file)
-    begins = re.search(rf"^pub (?:fn|trait) {item}\b.*?^[{{}}]", text, re.MULTILINE | re.DOTALL)
+    begins = re.search(rf"^(?:pub fn|pub trait|impl(?:<[^>]*>)?) {item}\b.*?^[{{}}]", text, re.MULTILINE | re.DOTALL)
     if begins is None:
         sys.exit(f"scripts/definitions.py: crates/{file} has no {item}")
     signature = re.split(r"^ *(?:requires|ensures)\b", begins[0], maxsplit=1, flags=re.MULTILINE)[0] if begins[0].startswith("pub fn") else ""

@@ -1,7 +1,10 @@
 mod Explored
+mod Kept
 mod Listed
 mod Outsides
+mod Refused
 mod Searched
 mod Stored
 mod Versions
 mod Written
+mod Asked

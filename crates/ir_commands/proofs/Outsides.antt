@@ -1,53 +1,78 @@
 -- What a comparison that records leaves where nothing is recorded.
-use Rattle.std.proofs.Common.{◌≡◌, ◌⊎◌, List, ℕ, Option, inl, inr, subst}
+use Rattle.std.proofs.Common.{◌≡◌, ◌⊎◌, List, ℕ, Option, Some, inl, inr, refl, subst}
+use Rattle.std.specs.String.{string_bytes}
 use Rattle.ir_arguments.specs.declared.within.Counted.{Counted}
 use Rattle.ir_arguments.specs.declared.within.OutsideArguments.{OutsideArguments}
 use Rattle.ir_arguments.specs.declared.within.WithinArguments.{WithinArguments}
 use Rattle.ir_files.specs.Writers.{Writer}
 use Rattle.ir_files.specs.declared.exit_status.ExitStatus.{ExitStatus}
+use Rattle.ir_files.specs.declared.exit_status.ExitStatus.TheVariants as status
 use Rattle.ir_record_command.specs.Stopping.{Tellings, Devices, lines_between}
-use Rattle.ir_within.specs.Faults.{Comparison, within_fault_status}
+use Rattle.ir_explore.specs.Until.{recording}
+use Rattle.ir_explore.specs.declared.fault.ExploreFault.TheVariants as explore
+use Rattle.ir_within.specs.Faults.{Comparison, ToldNone, within_fault_status}
 use Rattle.ir_within.specs.Outside.{StopsOutside}
 use Rattle.ir_within.specs.declared.fault.WithinFault.{WithinFault}
 use Rattle.ir_within.specs.declared.fault.WithinFault.TheVariants as within
 use Rattle.ir_commands.specs.Exploring.{AsksComparison, IsStatusOfNoComparison, LacksCounted, LacksIn}
-use Rattle.ir_commands.specs.Files.{IsImageIn}
-use Rattle.ir_commands.specs.Outside.{MissesOutside, TellsNoneOutside}
+use Rattle.ir_commands.specs.Files.{IsImageIn, LacksGuest, RefusesGuest}
+use Rattle.ir_commands.specs.Outside.{MissesOutside, RefusesEither, TellsNoneOutside}
 use Rattle.ir_commands.specs.Printing.{Paths}
 use Rattle.ir_commands.specs.Searching.{TellsNoSearch}
 use Rattle.ir_commands.specs.Writing.{IsStatusOfNoRecording}
-use Rattle.ir_commands.proofs.Searched.{explore_fault_is, fault_is_no_recording}
+use Rattle.ir_commands.proofs.Refused.{explore_fault_is, explored_lacks_guest, failed_is_not_refused, fault_is_no_recording, none_is_no_recording, refused_since}
+use Rattle.ir_commands.proofs.Refused.{spelled_lacks_guest, stopped_lacks_guest}
 use Rattle.ir_commands.proofs.Stored.{reported_is_told}
 
+-- why no comparison is told
+told_lacks_guest : (e : WithinFault) (c : Comparison) (w : Writer) → ToldNone e c w → within_fault_status e ≡ status.Refused
+    → LacksGuest c.image c.plan.profile ⊎ LacksGuest c.other c.plan.profile
+told_lacks_guest (within.Image e) c w h is = inl (explored_lacks_guest e c.image c.plan w h is)
+told_lacks_guest (within.Other e) c w h is = inr (explored_lacks_guest e c.other c.plan w h is)
+told_lacks_guest (within.Unwritten explore.NoMem) c w h is = failed_is_not_refused is
+told_lacks_guest (within.Unwritten explore.Write) c w h is = failed_is_not_refused is
+told_lacks_guest (within.Unwritten (explore.Image e)) c w h is = absurd h
+told_lacks_guest (within.Unwritten explore.TooLarge) c w h is = absurd h
+
 -- the status of a fault of a comparison is that of no recording
-within_fault_is : (e : WithinFault) {answered : ExitStatus} → answered ≡ within_fault_status e → IsStatusOfNoRecording answered
-within_fault_is (within.Image e) p = explore_fault_is e p
-within_fault_is (within.Other e) p = explore_fault_is e p
-within_fault_is (within.Unwritten e) p = explore_fault_is e p
+within_fault_is : {refuses : Type 0} (e : WithinFault) {answered : ExitStatus} → (within_fault_status e ≡ status.Refused → refuses)
+    → answered ≡ within_fault_status e → IsStatusOfNoRecording refuses answered
+within_fault_is (within.Image e) why p = explore_fault_is e why p
+within_fault_is (within.Other e) why p = explore_fault_is e why p
+within_fault_is (within.Unwritten e) why p = explore_fault_is e why p
 
 -- and so is the status where two images aren't had
 pub no_comparison_no_recording : (at : Paths) (arguments : WithinArguments) {answered : ExitStatus} → IsStatusOfNoComparison at arguments answered
-    → IsStatusOfNoRecording answered
-no_comparison_no_recording at arguments (inl (inl failed)) = inr (inl failed)
-no_comparison_no_recording at arguments (inl (inr refused)) = inr (inr refused.0)
-no_comparison_no_recording at arguments (inr (inl (inl failed))) = inr (inl failed)
-no_comparison_no_recording at arguments (inr (inl (inr refused))) = inr (inr refused.0)
+    → IsStatusOfNoRecording (RefusesGuest (at (string_bytes arguments.explore.image)) arguments.explore.profile
+    ⊎ RefusesGuest (at (string_bytes arguments.other)) arguments.explore.profile) answered
+no_comparison_no_recording at arguments (inl none) = none_is_no_recording (λ refused. inl (inl refused)) none
+no_comparison_no_recording at arguments (inr (inl none)) = none_is_no_recording (λ refused. inr (inl refused)) none
 no_comparison_no_recording at arguments (inr (inr bad)) = inl bad.0
 
 -- what a comparison tells that records nothing
 pub outside_tells_none : {W P O : Type 0} (d : Tellings W P O) (answered : ExitStatus) (c : Comparison) (old new : Devices W P O) (reports : Writer)
     {same : Type 0} → StopsOutside d answered c old new reports same
-    → TellsNoneOutside c answered (lines_between d old new) ⊎ TellsNoSearch answered reports
+    → TellsNoneOutside c answered (lines_between d old new)
+    ⊎ TellsNoSearch (LacksGuest c.image c.plan.profile ⊎ LacksGuest c.other c.plan.profile) answered reports
 outside_tells_none d answered c old new reports (inl h) = inl h.3
-outside_tells_none d answered c old new reports (inr (inl (e, is, trace, outputs, none, words, are, told))) = inr (within_fault_is e is, (words, told))
-outside_tells_none d answered c old new reports (inr (inr h)) = inr (fault_is_no_recording h.0 h.1, reported_is_told h.0 c.image _ _ _ reports h.7.0)
+outside_tells_none d answered c old new reports (inr (inl (e, is, trace, outputs, none, words, are, told))) =
+    inr (within_fault_is e (told_lacks_guest e c _ none) is, (words, told))
+outside_tells_none d answered c old new reports (inr (inr h)) = inr (fault_is_no_recording h.0 (λ r. inl (spelled_lacks_guest _ h.5.told.first.leads.spelled
+    (stopped_lacks_guest h.0 c.image h.3 (recording c.plan (Some h.3)) h.5.guest h.5.is.0 refl h.7.1 r))) h.1, reported_is_told h.0 c.image _ _ _ reports h.7.0)
+
+either_refused : (at : Paths) (arguments : OutsideArguments) (c : Comparison) → AsksComparison at arguments.within c
+    → LacksGuest c.image c.plan.profile ⊎ LacksGuest c.other c.plan.profile → RefusesEither at arguments
+either_refused at arguments c asked (inl lacks) = inl (inr (c.image, asked.is_image, subst (λ p. LacksGuest c.image p) asked.is_plan.profile lacks))
+either_refused at arguments c asked (inr lacks) = inr (inr (c.other, asked.is_other, subst (λ p. LacksGuest c.other p) asked.is_plan.profile lacks))
 
 -- no outcome is known to be outside, or nothing was compared
 pub outside_misses : {at : Paths} {arguments : OutsideArguments} {c : Comparison} {told faults : Writer} (answered : ExitStatus) (out : Writer)
-    → AsksComparison at arguments.within c → told ≡ faults → TellsNoneOutside c answered out ⊎ TellsNoSearch answered told
-    → MissesOutside at arguments answered out ⊎ TellsNoSearch answered faults
+    → AsksComparison at arguments.within c → told ≡ faults
+    → TellsNoneOutside c answered out ⊎ TellsNoSearch (LacksGuest c.image c.plan.profile ⊎ LacksGuest c.other c.plan.profile) answered told
+    → MissesOutside at arguments answered out ⊎ TellsNoSearch (RefusesEither at arguments) answered faults
 outside_misses {at} {arguments} {c} answered out asked same (inl h) = inl (record { comparison = c; asked = asked; vain = h })
-outside_misses answered out asked same (inr h) = inr (subst (λ w. TellsNoSearch answered w) same h)
+outside_misses {at} {arguments} {c} answered out asked same (inr h) =
+    inr (subst (λ w. TellsNoSearch (RefusesEither at arguments) answered w) same (refused_since (either_refused at arguments c asked) h.0, h.1))
 
 -- the guest of one of two files lacks an object whose words count
 pub either_lacks : {known others : Option (List ℕ)} {image other first second : List ℕ} (counted : Counted) → IsImageIn known image → IsImageIn others other

@@ -1,11 +1,11 @@
 -- What searches leave that record what they find.
-use Rattle.std.proofs.Common.{◌≡◌, ◌⊎◌, List, ℕ, inl, inr, map, refl, subst, sym}
-use Rattle.std.specs.Prelude.{Bool, IfErr, IfOk, OnErr, OnOk, Option, Result, Ok, Err, true, false}
+use Rattle.std.proofs.Common.{◌≡◌, ◌∙◌, ◌⊎◌, List, ℕ, ap, inl, inr, map, refl, subst, sym}
+use Rattle.std.specs.Prelude.{⊤, Bool, Option, None, length, IfErr, IfOk, OnErr, OnOk, Result, Ok, Err, true, false}
 use Rattle.std.specs.String.{string_bytes}
 use Rattle.ir_explore.specs.Faults.{explore_fault_status, explore_fault_words}
-use Rattle.ir_explore.specs.Hang.{IsHangAnswer, StopsHang}
+use Rattle.ir_explore.specs.Hang.{IsHangAnswer, StopsHang, hang_plan}
 use Rattle.ir_explore.specs.Plan.{ExplorePlan}
-use Rattle.ir_explore.specs.Until.{StopsUntil}
+use Rattle.ir_explore.specs.Until.{StopsUntil, recording}
 use Rattle.ir_explore.specs.declared.fault.ExploreFault.{ExploreFault}
 use Rattle.ir_explore.specs.declared.fault.ExploreFault.TheVariants as fault
 use Rattle.ir_arguments.specs.declared.explore.UntilArguments.{UntilArguments}
@@ -14,9 +14,13 @@ use Rattle.ir_arguments.specs.declared.shrink.ShrinkArguments.{ShrinkArguments}
 use Rattle.ir_files.specs.Writers.{Took, Writer, writer_of}
 use Rattle.ir_files.specs.declared.exit_status.ExitStatus.{ExitStatus}
 use Rattle.ir_files.specs.declared.exit_status.ExitStatus.TheVariants as status
-use Rattle.ir_hunt.specs.Stopping.{StopsHunt}
+use Rattle.ir_explore.specs.declared.hang_order.HangOrder.{HangOrder}
+use Rattle.ir_hunt.specs.Finding.{by_list}
+use Rattle.ir_hunt.specs.Stopping.{StopsHunt, TellsLeftOut}
 use Rattle.ir_hunt.specs.declared.plan.HuntPlan.{HuntPlan}
 use Rattle.ir_record_command.specs.Faults.{fault_status, record_fault_words}
+use Rattle.ir_record_command.specs.Order.{order_of}
+use Rattle.ir_record_command.specs.Plan.{Plan}
 use Rattle.ir_record_command.specs.Stopping.{Tellings, Devices, lines_between}
 use Rattle.ir_record_command.specs.declared.record_fault.RecordFault.{RecordFault}
 use Rattle.ir_record_command.specs.declared.record_fault.RecordFault.TheVariants.{Clock, Image, TooLarge, Order, NoMem, Trace, Output, Lines}
@@ -27,11 +31,14 @@ use Rattle.ir_shrink.specs.declared.plan.ShrinkPlan.{ShrinkPlan}
 use Rattle.ir_shrink.specs.declared.refusal.Refusal.{Refusal}
 use Rattle.ir_shrink.specs.declared.refusal.Refusal.TheVariants as refused
 use Rattle.ir_trace.specs.Recorded.{Recorded}
-use Rattle.ir_commands.specs.Files.{TellsFault}
+use Rattle.ir_commands.specs.Files.{LacksGuest, TellsFault}
 use Rattle.ir_commands.specs.Printing.{Paths}
-use Rattle.ir_commands.specs.Searching.{AsksHunt, AsksSearch, AsksShrink, EndsFound, HuntsFile, IsShrinkPlanOfHunt, IsStatusOfNoShrinking, RecordsHang, RecordsHunted}
-use Rattle.ir_commands.specs.Searching.{RecordsShrunkRun, RefusesFound, RefusesGiven, SearchFinds, SearchMisses, SearchesFile, ShrinkRefuses, ShrinksFound, TellsNoSearch, TellsNoSeed, TellsVain}
-use Rattle.ir_commands.specs.Writing.{IsStatusOfNoRecording, Storing}
+use Rattle.ir_commands.specs.Searching.{AsksHunt, AsksSearch, AsksShrink, EndsFound, HangHasNoOrder, HuntsFile, IsShrinkPlanOfHunt, IsStatusOfNoShrinking, RecordsHang, RecordsHunted}
+use Rattle.ir_commands.specs.Searching.{RecordsShrunkRun, RefusesFound, RefusesGiven, RefusesSearch, RefusesUntil, SearchFinds, SearchMisses, SearchesFile, ShrinkRefuses, ShrinksFound, TellsNoSearch, TellsNoSeed, TellsVain}
+use Rattle.ir_commands.specs.Writing.{IsStatusOfNoRecording, KeptAsAsked, Keeping, Storing}
+use Rattle.ir_commands.proofs.Kept.{ends_kept, hunted_kept, shrunk_kept}
+use Rattle.ir_commands.proofs.Refused.{answer_lacks_guest, explore_fault_is, failed_is_not_refused, fault_is_no_recording, hang_lacks_guest, hunt_lacks_guest}
+use Rattle.ir_commands.proofs.Refused.{refused_since, spelled_lacks_guest, stopped_lacks_guest}
 use Rattle.ir_commands.proofs.Stored.{reported_is_told}
 
 -- what holds wherever there is a value, by what holds of it
@@ -50,76 +57,86 @@ pub found_or_lost : {T Found : Type 0} (Lost : ExitStatus → Type 0) {done answ
 found_or_lost Lost (Ok x) found lost is stopped = inl (is, found)
 found_or_lost Lost (Err e) found lost is stopped = inr (subst Lost (sym stopped) lost)
 
--- the status of a fault is that of no recording
-pub fault_is_no_recording : (e : RecordFault) {answered : ExitStatus} → answered ≡ fault_status e → IsStatusOfNoRecording answered
-fault_is_no_recording (Image e) p = inr (inr p)
-fault_is_no_recording TooLarge p = inr (inr p)
-fault_is_no_recording (Order threads) p = inr (inr p)
-fault_is_no_recording NoMem p = inr (inl p)
-fault_is_no_recording Clock p = inr (inl p)
-fault_is_no_recording Trace p = inr (inl p)
-fault_is_no_recording Output p = inr (inl p)
-fault_is_no_recording Lines p = inr (inl p)
-
-pub explore_fault_is : (e : ExploreFault) {answered : ExitStatus} → answered ≡ explore_fault_status e → IsStatusOfNoRecording answered
-explore_fault_is (fault.Image e) p = inr (inr p)
-explore_fault_is fault.TooLarge p = inr (inr p)
-explore_fault_is fault.NoMem p = inr (inl p)
-explore_fault_is fault.Write p = inr (inl p)
+-- how many seeds were left out is told, or what is told is as before
+pub left_out_is_told : (left_out : ℕ) {reports : Writer} {same : Type 0} → (same → reports.after ≡ reports.before) → TellsLeftOut left_out reports same
+    → TellsLeftOut left_out reports (reports.before ≡ reports.after)
+left_out_is_told zero to told = sym (to told)
+left_out_is_told (suc n) to told = told
 
 -- what a hunt tells that records nothing
 pub hunt_tells_none : {W P O : Type 0} (d : Tellings W P O) (answered : ExitStatus) (image : List ℕ) (plan : HuntPlan) (old new : Devices W P O) (reports : Writer)
-    {same : Type 0} → StopsHunt d answered image plan old new reports same
-    → TellsNoSeed image plan answered (lines_between d old new) ⊎ TellsNoSearch answered reports
-hunt_tells_none d answered image plan old new reports (inl h) = inl (record { last = h.0; left_out = h.1; none = h.3; status = h.2; lines = h.6 })
-hunt_tells_none d answered image plan old new reports (inr (e, is, inl t)) = inr (fault_is_no_recording e is, (record_fault_words e, t.4))
-hunt_tells_none d answered image plan old new reports (inr (e, is, inr (inl t))) = inr (fault_is_no_recording e is, (record_fault_words e, t.6))
-hunt_tells_none d answered image plan old new reports (inr (e, is, inr (inr t))) = inr (fault_is_no_recording e is, reported_is_told e image _ _ _ reports t.6.0)
+    {same : Type 0} → (same → reports.after ≡ reports.before) → StopsHunt d answered image plan old new reports same
+    → TellsNoSeed image plan answered (lines_between d old new) reports ⊎ TellsNoSearch (LacksGuest image plan.record.profile) answered reports
+hunt_tells_none d answered image plan old new reports to (inl h) =
+    inl (record { last = h.0; left_out = h.1; none = h.3; status = h.2; lines = h.6; told = left_out_is_told h.1 to h.7 })
+hunt_tells_none d answered image plan old new reports to (inr (e, is, inl t)) =
+    inr (fault_is_no_recording e (hunt_lacks_guest e image plan.record t.0) is, (record_fault_words e, t.4))
+hunt_tells_none d answered image plan old new reports to (inr (e, is, inr (inl t))) =
+    inr (fault_is_no_recording Lines failed_is_not_refused (is ∙ ap fault_status t.1), (record_fault_words e, t.6))
+hunt_tells_none d answered image plan old new reports to (inr (e, is, inr (inr t))) =
+    inr (fault_is_no_recording e (λ r. spelled_lacks_guest _ t.4.lowest.found.spelled (stopped_lacks_guest e image t.2 (by_list plan.record t.2) t.4.guest t.4.is refl t.6.1 r)) is,
+    reported_is_told e image _ _ _ reports t.6.0)
 
 -- what a search for an outcome tells that records nothing
 pub search_tells_none : {W P O : Type 0} (d : Tellings W P O) (answered : ExitStatus) (image : List ℕ) (plan : ExplorePlan) (conditions : List Condition)
     (old new : Devices W P O) (reports : Writer) {same : Type 0} → StopsUntil d answered image plan (map as_condition conditions) old new reports same
-    → TellsVain false image plan conditions answered (lines_between d old new) ⊎ TellsNoSearch answered reports
+    → TellsVain false image plan conditions answered (lines_between d old new) ⊎ TellsNoSearch (LacksGuest image plan.profile) answered reports
 search_tells_none d answered image plan conditions old new reports (inl h) = inl h.3
-search_tells_none d answered image plan conditions old new reports (inr (inl h)) = inr (explore_fault_is h.0 h.1, (explore_fault_words h.0, h.5))
+search_tells_none d answered image plan conditions old new reports (inr (inl h)) =
+    inr (explore_fault_is h.0 (answer_lacks_guest h.0 image plan (map as_condition conditions) _ h.4) h.1, (explore_fault_words h.0, h.5))
 search_tells_none d answered image plan conditions old new reports (inr (inr h)) =
-    inr (fault_is_no_recording h.0 h.1, reported_is_told h.0 image _ _ _ reports h.7.0)
+    inr (fault_is_no_recording h.0 (λ r. spelled_lacks_guest _ h.5.says.hit.spelled (stopped_lacks_guest h.0 image h.3 (recording plan (Some h.3)) h.5.guest h.5.is refl h.7.1 r)) h.1,
+    reported_is_told h.0 image _ _ _ reports h.7.0)
+
+hang_or_guest : (image : List ℕ) (plan : ExplorePlan) (order : HangOrder) (text : List ℕ) (told : IsHangAnswer image plan (Ok order) text)
+    → LacksGuest image plan.profile ⊎ (order_of (length told.guest.entries) (string_bytes order.list) ≡ None) → LacksGuest image plan.profile ⊎ HangHasNoOrder image plan
+hang_or_guest image plan order text told (inl lacks) = inl lacks
+hang_or_guest image plan order text told (inr none) =
+    inr (record { order = order; text = text; told = told; guest = told.guest; is = told.is; none = none })
 
 -- the same of a search for a hang
 pub hang_tells_none : {W P O : Type 0} (d : Tellings W P O) (answered : ExitStatus) (image : List ℕ) (plan : ExplorePlan)
     (old new : Devices W P O) (reports : Writer) {same : Type 0} → StopsHang d answered image plan old new reports same
-    → ((text : List ℕ) × IsHangAnswer image plan (Err answered) text × Took (lines_between d old new) text) ⊎ TellsNoSearch answered reports
+    → ((text : List ℕ) × IsHangAnswer image plan (Err answered) text × Took (lines_between d old new) text)
+    ⊎ TellsNoSearch (LacksGuest image plan.profile ⊎ HangHasNoOrder image plan) answered reports
 hang_tells_none d answered image plan old new reports (inl h) = inl h.3
-hang_tells_none d answered image plan old new reports (inr (inl h)) = inr (explore_fault_is h.0 h.1, (explore_fault_words h.0, h.5))
+hang_tells_none d answered image plan old new reports (inr (inl h)) =
+    inr (explore_fault_is h.0 (λ r. inl (hang_lacks_guest h.0 image plan _ h.4 r)) h.1, (explore_fault_words h.0, h.5))
 hang_tells_none d answered image plan old new reports (inr (inr h)) =
-    inr (fault_is_no_recording h.0 h.1, reported_is_told h.0 image _ _ _ reports h.7.0)
+    inr (fault_is_no_recording h.0 (λ r. hang_or_guest image plan h.2 h.3 h.5
+    (stopped_lacks_guest h.0 image (string_bytes h.2.list) (hang_plan plan h.2) h.5.guest h.5.is refl h.7.1 r)) h.1, reported_is_told h.0 image _ _ _ reports h.7.0)
 
 -- a plan that is the same may stand for it
-pub with_plan : {image : List ℕ} {plan other : ExplorePlan} {is_kept : List ℕ → Type 0} {out : Writer} → plan ≡ other
+pub with_plan : {image : List ℕ} {plan other : ExplorePlan} {is_kept : Keeping} {out : Writer} → plan ≡ other
     → RecordsHang image plan is_kept out → RecordsHang image other is_kept out
 with_plan {image} {plan} {other} {is_kept} {out} same found = subst (λ p. RecordsHang image p is_kept out) same found
 
 pub hang_vain : {image : List ℕ} {plan other : ExplorePlan} {answered : ExitStatus} {reports : Writer} (out : Writer) → plan ≡ other
-    → ((text : List ℕ) × IsHangAnswer image plan (Err answered) text × Took out text) ⊎ TellsNoSearch answered reports
-    → ((text : List ℕ) × IsHangAnswer image other (Err answered) text × Took out text) ⊎ TellsNoSearch answered reports
+    → ((text : List ℕ) × IsHangAnswer image plan (Err answered) text × Took out text)
+    ⊎ TellsNoSearch (LacksGuest image plan.profile ⊎ HangHasNoOrder image plan) answered reports
+    → ((text : List ℕ) × IsHangAnswer image other (Err answered) text × Took out text)
+    ⊎ TellsNoSearch (LacksGuest image other.profile ⊎ HangHasNoOrder image other) answered reports
 hang_vain {image} {plan} {other} {answered} out same (inl h) =
     inl (h.0, subst (λ (p : ExplorePlan). IsHangAnswer image p (Err answered) h.0) same h.1, h.2)
-hang_vain out same (inr h) = inr h
+hang_vain {image} {plan} {other} {answered} {reports} out same (inr h) =
+    inr (subst (λ (p : ExplorePlan). TellsNoSearch (LacksGuest image p.profile ⊎ HangHasNoOrder image p) answered reports) same h)
 
 -- what a hunt comes to, by what it found and what was made of that
 pub hunt_comes_to : {O E : Type 0} (written : O → Option (List ℕ)) (broken : O → Bool) (reported : E → Option (List ℕ)) (fails : E → Bool) (at : Paths) (stored : Storing)
-    (arguments : HuntArguments) (image : List ℕ) (plan : HuntPlan) (out said out' : O) (faults told faults' : E) (answered : ExitStatus) (place : List ℕ)
-    (r : Result Recorded ExitStatus) → AsksHunt at arguments image plan → place ≡ string_bytes arguments.trace
-    → IfOk r (λ recorded. RecordsHunted image plan recorded (stored place) (writer_of (written out) (written said) (broken said)))
-    → IfErr r (λ e. TellsNoSeed image plan e (writer_of (written out) (written said) (broken said))
-    ⊎ TellsNoSearch e (writer_of (reported faults) (reported told) (fails told)))
+    (arguments : HuntArguments) (image : List ℕ) (plan : HuntPlan) (out said out' : O) (faults told faults' : E) (answered : ExitStatus) (one : Keeping)
+    (r : Result Recorded ExitStatus) → AsksHunt at arguments image plan
+    → ((bytes : List ℕ) (printed : List (List ℕ)) → one bytes printed
+    → KeptAsAsked stored (string_bytes arguments.trace) arguments.options.output bytes printed)
+    → IfOk r (λ recorded. RecordsHunted image plan recorded one (writer_of (written out) (written said) (broken said)) (writer_of (reported faults) (reported told) (fails told)))
+    → IfErr r (λ e. TellsNoSeed image plan e (writer_of (written out) (written said) (broken said)) (writer_of (reported faults) (reported told) (fails told))
+    ⊎ TellsNoSearch (LacksGuest image plan.record.profile) e (writer_of (reported faults) (reported told) (fails told)))
     → IfErr r (λ e. answered ≡ e) → OnErr r (out' ≡ said) → OnErr r (faults' ≡ told)
     → (arguments.shrinks ≡ false → OnOk r ((answered ≡ status.Done) × (out' ≡ said)))
-    → (arguments.shrinks ≡ true → IfOk r (λ given. EndsFound image plan given (stored place) answered (writer_of (written said) (written out') (broken out'))
+    → (arguments.shrinks ≡ true → IfOk r (λ given. EndsFound image plan given one answered (writer_of (written said) (written out') (broken out'))
     (writer_of (reported told) (reported faults') (fails faults'))))
     → HuntsFile at stored arguments answered (writer_of (written out) (written out') (broken out')) (writer_of (reported faults) (reported faults') (fails faults'))
-hunt_comes_to written broken reported fails at stored arguments image plan out said out' faults told faults' answered place (Ok x) asked here found none stopped quiet kept done shrunk =
-    let hunted = subst (λ p. RecordsHunted image plan x (stored p) (writer_of (written out) (written said) (broken said))) here found in
+hunt_comes_to written broken reported fails at stored arguments image plan out said out' faults told faults' answered one (Ok x) asked here found none stopped quiet kept done shrunk =
+    let hunted = hunted_kept here found in
     inl (
       λ no. record {
         image = image;
@@ -129,8 +146,10 @@ hunt_comes_to written broken reported fails at stored arguments image plan out s
           (done no).0,
           (
             x,
-            subst (λ o. RecordsHunted image plan x (stored (string_bytes arguments.trace)) (writer_of (written out) (written o) (broken o)))
-                (sym (done no).1) hunted,
+            writer_of (reported faults) (reported told) (fails told),
+            refl,
+            subst (λ o. RecordsHunted image plan x (KeptAsAsked stored (string_bytes arguments.trace) arguments.options.output) (writer_of (written out) (written o) (broken o))
+                (writer_of (reported faults) (reported told) (fails told))) (sym (done no).1) hunted,
           ),
         );
       },
@@ -141,21 +160,25 @@ hunt_comes_to written broken reported fails at stored arguments image plan out s
         ended = inl (record {
           given = x;
           said = writer_of (written out) (written said) (broken said);
-          reported = reported told;
-          begins = refl;
+          reported = writer_of (reported faults) (reported told) (fails told);
+          begins = (refl, refl);
           hunted = hunted;
-          ended = subst (λ p. EndsFound image plan x (stored p) answered (writer_of (written said) (written out') (broken out'))
-              (writer_of (reported told) (reported faults') (fails faults'))) here (shrunk yes);
+          ended = ends_kept here (shrunk yes);
         });
       },
     )
-hunt_comes_to written broken reported fails at stored arguments image plan out said out' faults told faults' answered place (Err e) asked here found (inl none) stopped quiet kept done shrunk =
-    let seedless = subst (λ a. TellsNoSeed image plan a (writer_of (written out) (written out') (broken out'))) (sym stopped)
-    (subst (λ o. TellsNoSeed image plan e (writer_of (written out) (written o) (broken o))) (sym quiet) none) in
+hunt_comes_to written broken reported fails at stored arguments image plan out said out' faults told faults' answered one (Err e) asked here found (inl none) stopped quiet kept done shrunk =
+    let seedless = subst (λ a. TellsNoSeed image plan a (writer_of (written out) (written out') (broken out')) (writer_of (reported faults) (reported faults') (fails faults')))
+        (sym stopped)
+        (subst (λ f. TellsNoSeed image plan e (writer_of (written out) (written out') (broken out')) (writer_of (reported faults) (reported f) (fails f))) (sym kept)
+        (subst (λ o. TellsNoSeed image plan e (writer_of (written out) (written o) (broken o)) (writer_of (reported faults) (reported told) (fails told))) (sym quiet) none)) in
     inl (λ no. record { image = image; plan = plan; asked = asked; ended = inr seedless }, λ yes. record { image = image; plan = plan; asked = asked; ended = inr seedless })
-hunt_comes_to written broken reported fails at stored arguments image plan out said out' faults told faults' answered place (Err e) asked here found (inr none) stopped quiet kept done shrunk =
-    inr (subst (λ a. TellsNoSearch a (writer_of (reported faults) (reported faults') (fails faults'))) (sym stopped)
-    (subst (λ f. TellsNoSearch e (writer_of (reported faults) (reported f) (fails f))) (sym kept) none))
+hunt_comes_to written broken reported fails at stored arguments image plan out said out' faults told faults' answered one (Err e) asked here found (inr none) stopped quiet kept done shrunk =
+    let refuses = RefusesSearch (at (string_bytes arguments.image)) arguments.options.profile arguments.until.items in
+    let why : LacksGuest image plan.record.profile → refuses = λ lacks. inl (inr (image, asked.is_image,
+        subst (λ (p : Plan). LacksGuest image p.profile) asked.is_plan.how lacks)) in
+    inr (subst (λ a. TellsNoSearch refuses a (writer_of (reported faults) (reported faults') (fails faults'))) (sym stopped)
+    (subst (λ f. TellsNoSearch refuses e (writer_of (reported faults) (reported f) (fails f))) (sym kept) (refused_since why none.0, none.1)))
 
 refusal_is_told : (e : Refusal) (plan : ShrinkPlan) (reports : Writer) → IsRefusalTold e plan reports → TellsFault reports
 refusal_is_told (refused.Fault e) plan reports t = (record_fault_words e, t)
@@ -166,45 +189,58 @@ refusal_is_told refused.Stale plan reports t = (unmet_words (wanted_text plan.st
 -- why a run wasn't shrunk
 pub shrink_stops : {W P O : Type 0} (d : Tellings W P O) (answered : ExitStatus) (image : List ℕ) (plan : ShrinkPlan) (given : Recorded) (old new : Devices W P O)
     (reports : Writer) → StopsShrink d answered image plan given old new reports
-    → RefusesGiven image given plan answered reports ⊎ IsStatusOfNoRecording answered
+    → RefusesGiven image given plan answered reports ⊎ IsStatusOfNoRecording ⊤ answered
 shrink_stops d answered image plan given old new reports (inl h) =
     inl (record { refusal = h.0; refuses = h.2.0; status = h.1; told = refusal_is_told h.0 plan reports h.2.4 })
-shrink_stops d answered image plan given old new reports (inr (before, after, list, is_minimal, is, inl f)) = inr (fault_is_no_recording Lines f.0)
-shrink_stops d answered image plan given old new reports (inr (before, after, list, is_minimal, is, inr s)) = inr (fault_is_no_recording s.0 s.2)
+shrink_stops d answered image plan given old new reports (inr (before, after, list, is_minimal, is, inl f)) = inr (fault_is_no_recording Lines (λ r. tt) f.0)
+shrink_stops d answered image plan given old new reports (inr (before, after, list, is_minimal, is, inr s)) = inr (fault_is_no_recording s.0 (λ r. tt) s.2)
+
+-- a guest that an image lacks is refused to a search
+pub until_refuses : {at : Paths} {arguments : UntilArguments} {image : List ℕ} {plan : ExplorePlan} {conditions : List Condition}
+    → AsksSearch at arguments image plan conditions → LacksGuest image plan.profile → RefusesUntil at arguments
+until_refuses {at} {arguments} {image} asked lacks = inl (inl (inr (image, asked.is_image, subst (λ p. LacksGuest image p) asked.is_plan.profile lacks)))
+
+pub hang_refuses : {at : Paths} {arguments : UntilArguments} {image : List ℕ} {plan : ExplorePlan} {conditions : List Condition}
+    → AsksSearch at arguments image plan conditions → LacksGuest image plan.profile ⊎ HangHasNoOrder image plan → RefusesUntil at arguments
+hang_refuses asked (inl lacks) = until_refuses asked lacks
+hang_refuses {at} {arguments} {image} {plan} {conditions} asked (inr none) = inr (image, plan, conditions, asked, none)
 
 -- there is no run that is looked for, or nothing was searched
 pub search_misses : {at : Paths} {arguments : UntilArguments} {image : List ℕ} {plan : ExplorePlan} {conditions : List Condition} {hang : Bool} {told faults : Writer}
-    (answered : ExitStatus) (out : Writer) → AsksSearch at arguments image plan conditions → hang ≡ arguments.hang → told ≡ faults
-    → TellsVain hang image plan conditions answered out ⊎ TellsNoSearch answered told → SearchMisses at arguments answered out ⊎ TellsNoSearch answered faults
-search_misses {at} {arguments} {image} {plan} {conditions} answered out asked is same (inl h) = inl (record {
+    {refuses : Type 0} (answered : ExitStatus) (out : Writer) → AsksSearch at arguments image plan conditions → hang ≡ arguments.hang → told ≡ faults
+    → (refuses → RefusesUntil at arguments) → TellsVain hang image plan conditions answered out ⊎ TellsNoSearch refuses answered told
+    → SearchMisses at arguments answered out ⊎ TellsNoSearch (RefusesUntil at arguments) answered faults
+search_misses {at} {arguments} {image} {plan} {conditions} answered out asked is same why (inl h) = inl (record {
   image = image;
   plan = plan;
   conditions = conditions;
   asked = asked;
   vain = subst (λ b. TellsVain b image plan conditions answered out) is h;
 })
-search_misses answered out asked is same (inr h) = inr (subst (λ w. TellsNoSearch answered w) same h)
+search_misses {at} {arguments} answered out asked is same why (inr h) =
+    inr (subst (λ w. TellsNoSearch (RefusesUntil at arguments) answered w) same (refused_since why h.0, h.1))
 
 -- what a search comes to, by what it found
 pub search_comes_to : {T : Type 0} (at : Paths) (stored : Storing) (arguments : UntilArguments) (answered : ExitStatus) (out told faults : Writer)
-    (r : Result T ExitStatus) → OnOk r (SearchFinds at stored arguments out) → IfErr r (λ e. SearchMisses at arguments e out ⊎ TellsNoSearch e told)
+    (r : Result T ExitStatus) → OnOk r (SearchFinds at stored arguments out) → IfErr r (λ e. SearchMisses at arguments e out ⊎ TellsNoSearch (RefusesUntil at arguments) e told)
     → OnOk r (answered ≡ status.Done) → IfErr r (λ e. answered ≡ e) → OnErr r (told ≡ faults) → SearchesFile at stored arguments answered out faults
 search_comes_to at stored arguments answered out told faults (Ok x) found none done stopped kept = inl (done, found)
 search_comes_to at stored arguments answered out told faults (Err e) found (inl none) done stopped kept =
     inr (inl (subst (λ a. SearchMisses at arguments a out) (sym stopped) none))
 search_comes_to at stored arguments answered out told faults (Err e) found (inr none) done stopped kept =
-    inr (inr (subst (λ a. TellsNoSearch a faults) (sym stopped) (subst (λ w. TellsNoSearch e w) kept none)))
+    inr (inr (subst (λ a. TellsNoSearch (RefusesUntil at arguments) a faults) (sym stopped)
+    (subst (λ w. TellsNoSearch (RefusesUntil at arguments) e w) kept none)))
 
--- a run that is shrunk is so wherever its trace is
-pub shrunk_at : {image : List ℕ} {given : Recorded} {plan : ShrinkPlan} {is_minimal : Bool} {place other : List ℕ} {out last : Writer} (stored : Storing)
-    → place ≡ other → out ≡ last → RecordsShrunkRun image given plan is_minimal (stored place) out → RecordsShrunkRun image given plan is_minimal (stored other) last
-shrunk_at {image} {given} {plan} {is_minimal} {place} {other} {out} {last} stored here same h =
-    subst (λ w. RecordsShrunkRun image given plan is_minimal (stored other) w) same
-    (subst (λ p. RecordsShrunkRun image given plan is_minimal (stored p) out) here h)
+-- a run that is shrunk is so wherever what it leaves is kept
+pub shrunk_at : {image : List ℕ} {given : Recorded} {plan : ShrinkPlan} {is_minimal : Bool} {one other : Keeping} {out last : Writer}
+    → ((bytes : List ℕ) (printed : List (List ℕ)) → one bytes printed → other bytes printed) → out ≡ last
+    → RecordsShrunkRun image given plan is_minimal one out → RecordsShrunkRun image given plan is_minimal other last
+shrunk_at {image} {given} {plan} {is_minimal} {one} {other} {out} {last} to same h =
+    subst (λ w. RecordsShrunkRun image given plan is_minimal other w) same (shrunk_kept to h)
 
 -- a run isn't shrunk
 pub shrink_refuses : {at : Paths} {arguments : ShrinkArguments} {image : List ℕ} {given : Recorded} {plan : ShrinkPlan} {told faults : Writer} (answered : ExitStatus)
-    → AsksShrink at arguments image given plan → told ≡ faults → RefusesGiven image given plan answered told ⊎ IsStatusOfNoRecording answered
+    → AsksShrink at arguments image given plan → told ≡ faults → RefusesGiven image given plan answered told ⊎ IsStatusOfNoRecording ⊤ answered
     → ShrinkRefuses at arguments answered faults ⊎ IsStatusOfNoShrinking answered
 shrink_refuses {at} {arguments} {image} {given} {plan} answered asked same (inl h) = inl (record {
   image = image;
@@ -216,7 +252,7 @@ shrink_refuses {at} {arguments} {image} {given} {plan} answered asked same (inl 
 shrink_refuses answered asked same (inr h) = inr (inl h)
 
 -- a run that was found is shrunk as the hunt looked for it
-pub found_shrinks : {image : List ℕ} {hunt view : HuntPlan} {given : Recorded} {plan : ShrinkPlan} {is_minimal : Bool} {is_kept : List ℕ → Type 0} {out : Writer}
+pub found_shrinks : {image : List ℕ} {hunt view : HuntPlan} {given : Recorded} {plan : ShrinkPlan} {is_minimal : Bool} {is_kept : Keeping} {out : Writer}
     → view ≡ hunt → IsShrinkPlanOfHunt view given plan → RecordsShrunkRun image given plan is_minimal is_kept out
     → ShrinksFound image hunt given is_minimal is_kept out
 found_shrinks {image} {hunt} {view} {given} {plan} same is_plan h =
@@ -224,8 +260,8 @@ found_shrinks {image} {hunt} {view} {given} {plan} same is_plan h =
 
 -- or it isn't
 pub found_refuses : {image : List ℕ} {hunt view : HuntPlan} {given : Recorded} {plan : ShrinkPlan} {answered : ExitStatus} {faults : Writer}
-    → view ≡ hunt → IsShrinkPlanOfHunt view given plan → RefusesGiven image given plan answered faults ⊎ IsStatusOfNoRecording answered
-    → RefusesFound image hunt given answered faults ⊎ IsStatusOfNoRecording answered
+    → view ≡ hunt → IsShrinkPlanOfHunt view given plan → RefusesGiven image given plan answered faults ⊎ IsStatusOfNoRecording ⊤ answered
+    → RefusesFound image hunt given answered faults ⊎ IsStatusOfNoRecording ⊤ answered
 found_refuses {image} {hunt} {view} {given} {plan} same is_plan (inl h) =
     inl (record { plan = plan; is_plan = subst (λ z. IsShrinkPlanOfHunt z given plan) same is_plan; why = h })
 found_refuses same is_plan (inr h) = inr h

@@ -4,7 +4,10 @@ use Rattle.std.specs.String.{string_bytes}
 use Rattle.ir_elf.specs.declared.refusal.Refusal.{Refusal}
 use Rattle.ir_files.specs.declared.exit_status.ExitStatus.{ExitStatus}
 use Rattle.ir_files.specs.declared.exit_status.ExitStatus.TheVariants as status
+use Rattle.ir_image.specs.Guest.{Guest, guest_at}
 use Rattle.ir_make.specs.Opening.{image_bytes, is_elf}
+use Rattle.ir_thread.specs.State.{IsAllowed}
+use Rattle.ir_thread.specs.declared.profile.Profile.{Profile}
 use Rattle.ir_symbols.specs.Symbols.{Symbol}
 use Rattle.ir_symbols.specs.Maps.{symbols_at, IsTableOf}
 use Rattle.ir_symbols.specs.Tables.{IsSortOf}
@@ -24,6 +27,14 @@ IsImageIn known image = IfSome known (λ file. image_bytes file ≡ Ok image)
 -- the file is an ELF file that is no guest
 abbrev pub IsNoGuest : List ℕ → Type 0
 IsNoGuest file = (why : Refusal) × (image_bytes file ≡ Err why)
+
+-- no guest that the profile allows is in these bytes
+abbrev pub LacksGuest : List ℕ → Profile → Type 0
+LacksGuest image profile = (guest : Guest) → guest_at image ≡ Ok guest → IsAllowed profile guest → ⊥
+
+-- the guest of a file is refused: it is an ELF file that is no guest, or the image has none that the profile allows
+abbrev pub RefusesGuest : Option (List ℕ) → Profile → Type 0
+RefusesGuest known profile = IfSome known IsNoGuest ⊎ ((image : List ℕ) × IsImageIn known image × LacksGuest image profile)
 
 -- the exit status where no image is had of a file: it isn't read, or it is an ELF file that is no guest
 abbrev pub IsStatusOfNone : Option (List ℕ) → ExitStatus → Type 0

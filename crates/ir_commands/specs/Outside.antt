@@ -11,18 +11,19 @@ use Rattle.ir_trace.specs.Recorded.{Recorded}
 use Rattle.ir_within.specs.Faults.{Comparison}
 use Rattle.ir_within.specs.Outside.{IsOutsideAnswer, IsOutsideRecorded}
 use Rattle.ir_commands.specs.Exploring.{AsksComparison}
+use Rattle.ir_commands.specs.Files.{RefusesGuest}
 use Rattle.ir_commands.specs.Printing.{Paths}
 use Rattle.ir_commands.specs.Searching.{TellsNoSearch}
-use Rattle.ir_commands.specs.Writing.{Storing}
+use Rattle.ir_commands.specs.Writing.{KeptAsAsked, Keeping, Storing}
 
--- a run with the first outcome that is outside was recorded: this holds of its trace, and its lines were printed behind those of the comparison
-pub record RecordsOutside (c : Comparison) (is_kept : List ℕ → Type 0) (out : Writer) : Type 0 where
+-- a run with the first outcome that is outside was recorded: this holds of its trace and of what its threads printed, and its lines were printed behind those of the comparison
+pub record RecordsOutside (c : Comparison) (is_kept : Keeping) (out : Writer) : Type 0 where
   pub list : List ℕ
   pub text : List ℕ
   pub recorded : Recorded
   pub printed : List (List ℕ)
   pub finding : IsOutsideRecorded c list text recorded printed
-  pub trace : is_kept (encoding recorded)
+  pub kept : is_kept (encoding recorded) printed
   pub lines : Took out (text ++ recording_lines recorded)
 
 -- no outcome is known to be outside, and what was found out was printed
@@ -33,7 +34,7 @@ TellsNoneOutside c answered out = (text : List ℕ) × IsOutsideAnswer c (Err an
 pub record FindsOutside (at : Paths) (stored : Storing) (arguments : OutsideArguments) (out : Writer) : Type 0 where
   pub comparison : Comparison
   pub asked : AsksComparison at arguments.within comparison
-  pub found : RecordsOutside comparison (stored (string_bytes arguments.trace)) out
+  pub found : RecordsOutside comparison (KeptAsAsked stored (string_bytes arguments.trace) arguments.output) out
 
 -- none is known to be
 pub record MissesOutside (at : Paths) (arguments : OutsideArguments) (answered : ExitStatus) (out : Writer) : Type 0 where
@@ -41,7 +42,12 @@ pub record MissesOutside (at : Paths) (arguments : OutsideArguments) (answered :
   pub asked : AsksComparison at arguments.within comparison
   pub vain : TellsNoneOutside comparison answered out
 
+-- one of the two guests is refused
+abbrev pub RefusesEither : Paths → OutsideArguments → Type 0
+RefusesEither at arguments = RefusesGuest (at (string_bytes arguments.within.explore.image)) arguments.within.explore.profile
+    ⊎ RefusesGuest (at (string_bytes arguments.within.other)) arguments.within.explore.profile
+
 -- what `ir explore --within` with a trace did: the first outcome that is outside was recorded; or none is known to be; or a fault stopped it
 abbrev pub OutsideFile : Paths → Storing → OutsideArguments → ExitStatus → Writer → Writer → Type 0
 OutsideFile at stored arguments answered out faults = ((answered ≡ status.NotSo) × FindsOutside at stored arguments out)
-    ⊎ (MissesOutside at arguments answered out ⊎ TellsNoSearch answered faults)
+    ⊎ (MissesOutside at arguments answered out ⊎ TellsNoSearch (RefusesEither at arguments) answered faults)

@@ -6,22 +6,24 @@ use Rattle.ir_files.specs.Writers.{Writer, Reports, Took, fault_text}
 use Rattle.ir_files.specs.declared.exit_status.ExitStatus.{ExitStatus}
 use Rattle.ir_files.specs.declared.exit_status.ExitStatus.TheVariants as status
 use Rattle.ir_symbols.specs.Symbols.{Symbol}
-use Rattle.ir_past.specs.Answers.{IsAnswerOf, Answered, NotAnswered, Stops, fault_words}
+use Rattle.ir_past.specs.Answers.{Answered, NotAnswered, Stops, fault_words}
+use Rattle.ir_past.specs.Replies.{IsAnswerOf, ask_status, ask_words}
+use Rattle.ir_past.specs.declared.ask_err.AskErr.{AskErr}
 use Rattle.ir_past.specs.Lines.{IsStaleAnswer}
 use Rattle.ir_past.specs.declared.past_err.PastErr.{PastErr}
 use Rattle.ir_opened.specs.Answers.{IsFitAnswerOf}
 use Rattle.ir_stale_run.specs.Lines.{IsRestsAnswer}
-use Rattle.ir_who.specs.Lines.{IsWhoAnswer, IsWhoUnanswered, who_status, who_fault_words}
+use Rattle.ir_who.specs.Lines.{IsWhoAnswer, IsWhoUnanswered}
 use Rattle.ir_who.specs.FitLines.{IsFitWhoAnswer, IsFitUnanswered}
 use Rattle.ir_who.specs.declared.question.Question as who
-use Rattle.ir_who_word.specs.Lines.{IsWordAnswer, IsWordUnanswered, word_status, word_fault_words}
+use Rattle.ir_who_word.specs.Lines.{IsWordAnswer, IsWordUnanswered}
 use Rattle.ir_who_word.specs.declared.question.Question as word
 use Rattle.ir_why.specs.Answers.{IsWhyAnswer, IsWhyUnanswered}
-use Rattle.ir_why.specs.FitAnswers.{IsFitReason, IsWhyFitUnanswered, why_status, why_fault_words}
+use Rattle.ir_why.specs.FitAnswers.{IsFitReason, IsWhyFitUnanswered}
 use Rattle.ir_why.specs.declared.question.Question as why
 use Rattle.ir_why.specs.declared.fit_question.FitQuestion.{FitQuestion}
 use Rattle.ir_diff.specs.Lines.{IsDiffAnswer}
-use Rattle.ir_picture.specs.Answers.{IsViewAnswer, IsViewUnanswered, view_status, view_fault_words}
+use Rattle.ir_picture.specs.Answers.{IsViewAnswer, IsViewUnanswered}
 use Rattle.ir_picture.specs.declared.asked.Asked.{Asked}
 use Rattle.ir_picture.specs.declared.asked.Around.{Around}
 use Rattle.ir_picture.specs.declared.asked.Form.{Form}
@@ -46,18 +48,17 @@ abbrev pub Paths : Type 0
 Paths = List ℕ → Option (List ℕ)
 
 -- an answer was printed whole; or a fault stopped it, which is reported
-abbrev pub Printed : (ExitStatus → List ℕ → Type 0) → ExitStatus → Writer → Writer → Type 0
-Printed IsAnswer answered out faults =
+abbrev pub IsPrinted : (ExitStatus → List ℕ → Type 0) → ExitStatus → Writer → Writer → Type 0
+IsPrinted IsAnswer answered out faults =
     (answered ≢ status.Failed → Answered IsAnswer answered out)
     × (answered ≡ status.Failed → (e : PastErr) × NotAnswered IsAnswer e out × Reports faults (fault_text (fault_words e)))
 
 -- the same where what is asked about may not be there
-abbrev pub PrintedIfThere : {E : Type 0} → (E → ExitStatus) → (E → List ℕ) → (ExitStatus → List ℕ → Type 0) → (E → Writer → Type 0)
-    → ExitStatus → Writer → Writer → Type 0
-PrintedIfThere status_of words_of IsAnswer IsUnanswered answered out faults =
+abbrev pub PrintedIfThere : (ExitStatus → List ℕ → Type 0) → (AskErr → Writer → Type 0) → ExitStatus → Writer → Writer → Type 0
+PrintedIfThere IsAnswer IsUnanswered answered out faults =
     (answered ≢ status.Failed → answered ≢ status.BadArguments → Answered IsAnswer answered out)
     × ((answered ≡ status.Failed) ⊎ (answered ≡ status.BadArguments)
-    → (e : _) × (answered ≡ status_of e) × IsUnanswered e out × Reports faults (fault_text (words_of e)))
+    → (e : AskErr) × (answered ≡ ask_status e) × IsUnanswered e out × Reports faults (fault_text (ask_words e)))
 
 -- `ir trace`: the lines of the trace, or why it is none; or a fault stopped them
 pub record PrintsTrace (at : Paths) (arguments : TraceArguments) (answered : ExitStatus) (out faults : Writer) : Type 0 where
@@ -79,7 +80,7 @@ PrintsCode at arguments answered out faults = OfNamedImage at arguments.image ar
 -- `ir events`
 abbrev pub PrintsEvents : Paths → EventsArguments → ExitStatus → Writer → Writer → Type 0
 PrintsEvents at arguments answered out faults = OfTrace (at (string_bytes arguments.trace)) (λ trace.
-    OfNamedImage at arguments.image arguments.map (λ image names. Printed (IsFitAnswerOf (AreEventLines names) image trace) answered out faults))
+    OfNamedImage at arguments.image arguments.map (λ image names. IsPrinted (IsFitAnswerOf (AreEventLines names) image trace) answered out faults))
 
 -- the exit status where an image or names for it aren't read
 abbrev pub IsStatusOfNoImage : {Z : Type 0} → Paths → String Z → Option (String Z) → ExitStatus → Type 0
@@ -88,9 +89,9 @@ IsStatusOfNoImage at path map answered = IsStatusOfNone (at (string_bytes path))
 -- `ir stale`: the stale writes, of an image those that rest on what was read
 abbrev pub PrintsStale : Paths → StaleArguments → ExitStatus → Writer → Writer → Type 0
 PrintsStale at arguments answered out faults = MatchOption arguments.image
-    (OfTrace (at (string_bytes arguments.trace)) (λ trace. Printed (IsAnswerOf IsStaleAnswer (recorded_at trace)) answered out faults))
+    (OfTrace (at (string_bytes arguments.trace)) (λ trace. IsPrinted (IsAnswerOf IsStaleAnswer (recorded_at trace)) answered out faults))
     (λ image. OfImageAndTrace (at (string_bytes image)) (at (string_bytes arguments.trace)) (λ bytes trace.
-    Printed (IsFitAnswerOf IsRestsAnswer bytes trace) answered out faults))
+    IsPrinted (IsFitAnswerOf IsRestsAnswer bytes trace) answered out faults))
 
 -- what `ir who` asks
 abbrev pub who_asked : WhoArguments → who.Question
@@ -102,15 +103,15 @@ word_asked arguments number = record { object = arguments.object; word = number 
 -- the versions of an object of a run, or those in which a word changed
 abbrev pub PrintsVersions : List ℕ → List ℕ → WhoArguments → ExitStatus → Writer → Writer → Type 0
 PrintsVersions image trace arguments answered out faults = MatchOption arguments.word
-    (PrintedIfThere who_status who_fault_words (IsFitAnswerOf (IsFitWhoAnswer (who_asked arguments)) image trace)
+    (PrintedIfThere (IsFitAnswerOf (IsFitWhoAnswer (who_asked arguments)) image trace)
     (IsFitUnanswered (who_asked arguments) image trace) answered out faults)
-    (λ number. PrintedIfThere word_status word_fault_words (IsFitAnswerOf (IsWordAnswer (word_asked arguments number)) image trace)
+    (λ number. PrintedIfThere (IsFitAnswerOf (IsWordAnswer (word_asked arguments number)) image trace)
     (IsWordUnanswered (word_asked arguments number) image trace) answered out faults)
 
 -- `ir who`
 abbrev pub PrintsWho : Paths → WhoArguments → ExitStatus → Writer → Writer → Type 0
 PrintsWho at arguments answered out faults = MatchOption arguments.image
-    (OfTrace (at (string_bytes arguments.trace)) (λ trace. PrintedIfThere who_status who_fault_words
+    (OfTrace (at (string_bytes arguments.trace)) (λ trace. PrintedIfThere
     (IsAnswerOf (IsWhoAnswer (who_asked arguments)) (recorded_at trace)) (IsWhoUnanswered (who_asked arguments) (recorded_at trace)) answered out faults))
     (λ image. OfImageAndTrace (at (string_bytes image)) (at (string_bytes arguments.trace)) (λ bytes trace.
     PrintsVersions bytes trace arguments answered out faults))
@@ -125,16 +126,16 @@ why_asked_at arguments = record { what = why_asked arguments; at = arguments.at 
 -- `ir why`
 abbrev pub PrintsWhy : Paths → WhyArguments → ExitStatus → Writer → Writer → Type 0
 PrintsWhy at arguments answered out faults = MatchOption arguments.image
-    (OfTrace (at (string_bytes arguments.trace)) (λ trace. PrintedIfThere view_status view_fault_words
+    (OfTrace (at (string_bytes arguments.trace)) (λ trace. PrintedIfThere
     (IsWhyAnswer (why_asked arguments) (recorded_at trace)) (IsWhyUnanswered (why_asked arguments) (recorded_at trace)) answered out faults))
     (λ image. OfImageAndTrace (at (string_bytes image)) (at (string_bytes arguments.trace)) (λ bytes trace.
-    PrintedIfThere why_status why_fault_words (IsFitAnswerOf (IsFitReason (why_asked_at arguments)) bytes trace)
+    PrintedIfThere (IsFitAnswerOf (IsFitReason (why_asked_at arguments)) bytes trace)
     (IsWhyFitUnanswered (why_asked_at arguments) bytes trace) answered out faults))
 
 -- `ir diff`
 abbrev pub PrintsDiff : Paths → DiffArguments → ExitStatus → Writer → Writer → Type 0
 PrintsDiff at arguments answered out faults = OfTraces (at (string_bytes arguments.first)) (at (string_bytes arguments.second)) (λ first second.
-    Printed (IsDiffAnswer (recorded_at first) (recorded_at second)) answered out faults)
+    IsPrinted (IsDiffAnswer (recorded_at first) (recorded_at second)) answered out faults)
 
 -- what `ir view` asks: the data alone, events for other viewers, or else the page
 abbrev pub form_asked : Bool → Bool → Form
@@ -151,10 +152,10 @@ view_asked arguments = record { form = form_asked arguments.json arguments.chrom
 -- `ir view`
 abbrev pub PrintsView : Paths → ViewArguments → ExitStatus → Writer → Writer → Type 0
 PrintsView at arguments answered out faults = MatchOption arguments.image
-    (OfTrace (at (string_bytes arguments.trace)) (λ trace. PrintedIfThere view_status view_fault_words
+    (OfTrace (at (string_bytes arguments.trace)) (λ trace. PrintedIfThere
     (IsViewAnswer (view_asked arguments) (recorded_at trace)) (IsViewUnanswered (view_asked arguments) (recorded_at trace)) answered out faults))
     (λ image. OfImageAndTrace (at (string_bytes image)) (at (string_bytes arguments.trace)) (λ bytes trace.
-    PrintedIfThere view_status view_fault_words (IsRunViewAnswer (view_asked arguments) bytes trace)
+    PrintedIfThere (IsRunViewAnswer (view_asked arguments) bytes trace)
     (IsRunViewUnanswered (view_asked arguments) bytes trace) answered out faults))
 
 -- no answer is printed where a file isn't read, and a line tells why

@@ -1,5 +1,5 @@
 -- What the commands that look for a run leave, by the bytes that a folder says are at the paths of their arguments.
-use Rattle.std.specs.Prelude.{◌≡◌, ◌⊎◌, ℕ, Bool, true, false, List, ◌++◌, Option, None, Ok, Err, map, nat_lt}
+use Rattle.std.specs.Prelude.{◌≡◌, ◌⊎◌, ℕ, Bool, true, false, List, ◌++◌, Option, None, Ok, Err, length, map, nat_lt, ⊤}
 use Rattle.std.specs.String.{string_bytes}
 use Rattle.ir_arguments.specs.declared.explore.UntilArguments.{UntilArguments}
 use Rattle.ir_arguments.specs.declared.hunt.HuntArguments.{HuntArguments}
@@ -11,10 +11,12 @@ use Rattle.ir_explore.specs.declared.hang_order.HangOrder.{HangOrder}
 use Rattle.ir_files.specs.Writers.{Writer, Took, writer_of}
 use Rattle.ir_files.specs.declared.exit_status.ExitStatus.{ExitStatus}
 use Rattle.ir_files.specs.declared.exit_status.ExitStatus.TheVariants as status
+use Rattle.ir_image.specs.Guest.{Guest, guest_at}
 use Rattle.ir_hunt.specs.Hunted.{IsFinding, IsNoneIn}
 use Rattle.ir_hunt.specs.Lines.{found_line, none_lines}
-use Rattle.ir_hunt.specs.Stopping.{none_status}
+use Rattle.ir_hunt.specs.Stopping.{TellsLeftOut, none_status}
 use Rattle.ir_hunt.specs.declared.plan.HuntPlan.{HuntPlan}
+use Rattle.ir_record_command.specs.Order.{order_of}
 use Rattle.ir_record_command.specs.Plan.{Plan}
 use Rattle.ir_record_command.specs.Recording.{recording_lines}
 use Rattle.ir_schedule.specs.Conditions.{as_condition}
@@ -23,17 +25,22 @@ use Rattle.ir_shrink.specs.Lines.{shrunk_lines}
 use Rattle.ir_shrink.specs.Stopping.{IsShrinking, RefusesShrink, shrink_status}
 use Rattle.ir_shrink.specs.declared.plan.ShrinkPlan.{ShrinkPlan}
 use Rattle.ir_shrink.specs.declared.refusal.Refusal.{Refusal}
+use Rattle.ir_thread.specs.declared.profile.Profile.{Profile}
 use Rattle.ir_trace.specs.Encoding.{encoding}
 use Rattle.ir_trace.specs.Recorded.{Recorded, recorded_at}
-use Rattle.ir_commands.specs.Conditions.{AreWritten}
+use Rattle.ir_commands.specs.Conditions.{AreAboutNothing, AreWritten}
 use Rattle.ir_commands.specs.Exploring.{IsInput, IsPlanOf}
-use Rattle.ir_commands.specs.Files.{IsFileIn, IsImageIn, TellsFault}
+use Rattle.ir_commands.specs.Files.{IsFileIn, IsImageIn, RefusesGuest, TellsFault}
 use Rattle.ir_commands.specs.Printing.{Paths}
-use Rattle.ir_commands.specs.Writing.{IsStatusOfNoRecording, Storing}
+use Rattle.ir_commands.specs.Writing.{IsStatusOfNoRecording, KeptAsAsked, Keeping, Storing}
 
--- nothing was recorded, by a fault or since a file isn't taken, and a line tells why
-abbrev pub TellsNoSearch : ExitStatus → Writer → Type 0
-TellsNoSearch answered faults = IsStatusOfNoRecording answered × TellsFault faults
+-- nothing was recorded, by a fault or since a file isn't taken, and a line tells why; where it was refused, this holds
+abbrev pub TellsNoSearch : Type 0 → ExitStatus → Writer → Type 0
+TellsNoSearch refuses answered faults = IsStatusOfNoRecording refuses answered × TellsFault faults
+
+-- a search is refused: its guest is, or a condition is about what the guest doesn't have
+abbrev pub RefusesSearch : Option (List ℕ) → Profile → List (List ℕ) → Type 0
+RefusesSearch known profile until = RefusesGuest known profile ⊎ ((image : List ℕ) × IsImageIn known image × AreAboutNothing until image)
 
 -- ---- `ir hunt`
 
@@ -54,6 +61,7 @@ pub record IsHuntPlanOf (arguments : HuntArguments) (input : List ℕ) (plan : H
   pub seeds : plan.seeds ≡ arguments.seeds
   pub conditions : AreWritten arguments.until.items plan.conditions.now
   pub stale : plan.stale ≡ arguments.stale
+  pub jobs : plan.jobs ≡ arguments.jobs
   pub seconds : plan.seconds ≡ arguments.seconds
 
 -- what is hunted in, by the bytes of the files that are read
@@ -63,31 +71,35 @@ pub record AsksHunt (at : Paths) (arguments : HuntArguments) (image : List ℕ) 
   pub is_input : IsInput at arguments.options.input input
   pub is_plan : IsHuntPlanOf arguments input plan
 
--- the run of the lowest seed that is found was recorded: this holds of its trace, and its lines were printed
-pub record RecordsHunted (image : List ℕ) (plan : HuntPlan) (recorded : Recorded) (is_kept : List ℕ → Type 0) (out : Writer) : Type 0 where
+-- the run of the lowest seed that is found was recorded: this holds of its trace and of what its threads printed, and its lines were printed; and it was reported
+-- how many seeds were left out, if some were
+pub record RecordsHunted (image : List ℕ) (plan : HuntPlan) (recorded : Recorded) (is_kept : Keeping) (out reports : Writer) : Type 0 where
   pub left_out : ℕ
   pub seed : ℕ
   pub list : List ℕ
   pub printed : List (List ℕ)
   pub finding : IsFinding image plan left_out seed list recorded printed
-  pub trace : is_kept (encoding recorded)
+  pub kept : is_kept (encoding recorded) printed
   pub lines : Took out (found_line seed list ++ recording_lines recorded)
+  pub told : TellsLeftOut left_out reports (reports.before ≡ reports.after)
 
 -- none of the seeds up to one was found, each of which was tried, and that was printed
-pub record TellsNoSeed (image : List ℕ) (plan : HuntPlan) (answered : ExitStatus) (out : Writer) : Type 0 where
+pub record TellsNoSeed (image : List ℕ) (plan : HuntPlan) (answered : ExitStatus) (out reports : Writer) : Type 0 where
   pub last : ℕ
   pub left_out : ℕ
   pub none : IsNoneIn image plan last left_out
   pub status : answered ≡ none_status (nat_lt last plan.seeds.last) left_out
   pub lines : Took out (none_lines plan.seeds.first last plan.seeds.last)
+  pub told : TellsLeftOut left_out reports (reports.before ≡ reports.after)
 
 -- a guest was hunted in: the run that is found was recorded and its trace is at the path of TRACE, or no seed was found
-pub record Hunts (at : Paths) (stored : Storing) (arguments : HuntArguments) (answered : ExitStatus) (out : Writer) : Type 0 where
+pub record Hunts (at : Paths) (stored : Storing) (arguments : HuntArguments) (answered : ExitStatus) (out faults : Writer) : Type 0 where
   pub image : List ℕ
   pub plan : HuntPlan
   pub asked : AsksHunt at arguments image plan
-  pub ended : ((answered ≡ status.Done) × ((recorded : Recorded) × RecordsHunted image plan recorded (stored (string_bytes arguments.trace)) out))
-      ⊎ TellsNoSeed image plan answered out
+  pub ended : ((answered ≡ status.Done) × ((recorded : Recorded) × (reports : Writer) × (reports.before ≡ faults.before)
+      × RecordsHunted image plan recorded (KeptAsAsked stored (string_bytes arguments.trace) arguments.options.output) out reports))
+      ⊎ TellsNoSeed image plan answered out faults
 
 -- ---- `ir explore --until`
 
@@ -99,28 +111,28 @@ pub record AsksSearch (at : Paths) (arguments : UntilArguments) (image : List �
   pub is_plan : IsPlanOf arguments.explore input plan
   pub are_conditions : AreWritten arguments.until.items conditions
 
--- a run with the first outcome that fulfils the conditions was recorded: this holds of its trace, and its lines were printed behind those of the outcomes
-pub record RecordsOutcome (image : List ℕ) (plan : ExplorePlan) (conditions : List Condition) (is_kept : List ℕ → Type 0) (out : Writer) : Type 0 where
+-- a run with the first outcome that fulfils the conditions was recorded: this holds of its trace and of what its threads printed, and its lines were printed behind those of the outcomes
+pub record RecordsOutcome (image : List ℕ) (plan : ExplorePlan) (conditions : List Condition) (is_kept : Keeping) (out : Writer) : Type 0 where
   pub list : List ℕ
   pub text : List ℕ
   pub recorded : Recorded
   pub printed : List (List ℕ)
   pub finding : IsOutcomeFinding image plan (map as_condition conditions) list text recorded printed
-  pub trace : is_kept (encoding recorded)
+  pub kept : is_kept (encoding recorded) printed
   pub lines : Took out (text ++ recording_lines recorded)
 
 -- the same of a run that hangs
-pub record RecordsHang (image : List ℕ) (plan : ExplorePlan) (is_kept : List ℕ → Type 0) (out : Writer) : Type 0 where
+pub record RecordsHang (image : List ℕ) (plan : ExplorePlan) (is_kept : Keeping) (out : Writer) : Type 0 where
   pub order : HangOrder
   pub text : List ℕ
   pub recorded : Recorded
   pub printed : List (List ℕ)
   pub finding : IsHangRecorded image plan order text recorded printed
-  pub trace : is_kept (encoding recorded)
+  pub kept : is_kept (encoding recorded) printed
   pub lines : Took out (text ++ recording_lines recorded)
 
 -- what is looked for was recorded: a run that hangs, where that is asked for, or else a run with an outcome
-abbrev pub RecordsSought : Bool → List ℕ → ExplorePlan → List Condition → (List ℕ → Type 0) → Writer → Type 0
+abbrev pub RecordsSought : Bool → List ℕ → ExplorePlan → List Condition → Keeping → Writer → Type 0
 RecordsSought false image plan conditions is_kept out = RecordsOutcome image plan conditions is_kept out
 RecordsSought true image plan conditions is_kept out = RecordsHang image plan is_kept out
 
@@ -135,7 +147,7 @@ pub record SearchFinds (at : Paths) (stored : Storing) (arguments : UntilArgumen
   pub plan : ExplorePlan
   pub conditions : List Condition
   pub asked : AsksSearch at arguments image plan conditions
-  pub found : RecordsSought arguments.hang image plan conditions (stored (string_bytes arguments.trace)) out
+  pub found : RecordsSought arguments.hang image plan conditions (KeptAsAsked stored (string_bytes arguments.trace) arguments.output) out
 
 -- there is none
 pub record SearchMisses (at : Paths) (arguments : UntilArguments) (answered : ExitStatus) (out : Writer) : Type 0 where
@@ -145,10 +157,25 @@ pub record SearchMisses (at : Paths) (arguments : UntilArguments) (answered : Ex
   pub asked : AsksSearch at arguments image plan conditions
   pub vain : TellsVain arguments.hang image plan conditions answered out
 
+-- a hang was told, and its list spells no order of the guest's threads
+pub record HangHasNoOrder (image : List ℕ) (plan : ExplorePlan) : Type 0 where
+  pub order : HangOrder
+  pub text : List ℕ
+  pub told : IsHangAnswer image plan (Ok order) text
+  pub guest : Guest
+  pub is : guest_at image ≡ Ok guest
+  pub none : order_of (length guest.entries) (string_bytes order.list) ≡ None
+
+-- a search is refused, or the hang that it found can't be recorded by its list
+abbrev pub RefusesUntil : Paths → UntilArguments → Type 0
+RefusesUntil at arguments = RefusesSearch (at (string_bytes arguments.explore.image)) arguments.explore.profile arguments.until.items
+    ⊎ ((image : List ℕ) × (plan : ExplorePlan) × (conditions : List Condition) × AsksSearch at arguments image plan conditions
+    × HangHasNoOrder image plan)
+
 -- what `ir explore --until` did: what is looked for was recorded; or there is none; or a fault stopped it
 abbrev pub SearchesFile : Paths → Storing → UntilArguments → ExitStatus → Writer → Writer → Type 0
 SearchesFile at stored arguments answered out faults = ((answered ≡ status.Done) × SearchFinds at stored arguments out)
-    ⊎ (SearchMisses at arguments answered out ⊎ TellsNoSearch answered faults)
+    ⊎ (SearchMisses at arguments answered out ⊎ TellsNoSearch (RefusesUntil at arguments) answered faults)
 
 -- ---- `ir shrink`
 
@@ -173,15 +200,15 @@ pub record AsksShrink (at : Paths) (arguments : ShrinkArguments) (image : List �
   pub is_input : IsInput at arguments.input input
   pub is_plan : IsShrinkPlanOf arguments given input plan
 
--- the run was shrunk: this holds of the trace of what it was shrunk to, and its lines were printed
-pub record RecordsShrunkRun (image : List ℕ) (given : Recorded) (plan : ShrinkPlan) (is_minimal : Bool) (is_kept : List ℕ → Type 0) (out : Writer) : Type 0 where
+-- the run was shrunk: this holds of the trace of what it was shrunk to and of what its threads printed, and its lines were printed
+pub record RecordsShrunkRun (image : List ℕ) (given : Recorded) (plan : ShrinkPlan) (is_minimal : Bool) (is_kept : Keeping) (out : Writer) : Type 0 where
   pub before : ℕ
   pub after : ℕ
   pub list : List ℕ
   pub recorded : Recorded
   pub printed : List (List ℕ)
   pub shrinking : IsShrinking image plan given before after list is_minimal recorded printed
-  pub trace : is_kept (encoding recorded)
+  pub kept : is_kept (encoding recorded) printed
   pub lines : Took out (shrunk_lines before after list is_minimal ++ recording_lines recorded)
 
 -- the run isn't shrunk, and a line tells why: it fails a condition, or what is wanted of its stale writes, or there is a fault
@@ -202,7 +229,7 @@ pub record ShrinksTo (at : Paths) (stored : Storing) (arguments : ShrinkArgument
   pub given : Recorded
   pub plan : ShrinkPlan
   pub asked : AsksShrink at arguments image given plan
-  pub shrunk : RecordsShrunkRun image given plan is_minimal (stored (string_bytes arguments.out)) out
+  pub shrunk : RecordsShrunkRun image given plan is_minimal (KeptAsAsked stored (string_bytes arguments.out) arguments.output) out
 
 -- it isn't shrunk
 pub record ShrinkRefuses (at : Paths) (arguments : ShrinkArguments) (answered : ExitStatus) (faults : Writer) : Type 0 where
@@ -214,7 +241,7 @@ pub record ShrinkRefuses (at : Paths) (arguments : ShrinkArguments) (answered : 
 
 -- the exit status where no run is shrunk: as where no recording begins, or no run of the image's guest has the trace
 abbrev pub IsStatusOfNoShrinking : ExitStatus → Type 0
-IsStatusOfNoShrinking answered = IsStatusOfNoRecording answered ⊎ (answered ≡ status.NotFit)
+IsStatusOfNoShrinking answered = IsStatusOfNoRecording ⊤ answered ⊎ (answered ≡ status.NotFit)
 
 -- what `ir shrink` did: a run was shrunk; or it wasn't; or no such run was had
 abbrev pub ShrinksFile : Paths → Storing → ShrinkArguments → ExitStatus → Writer → Writer → Type 0
@@ -231,7 +258,7 @@ pub record IsShrinkPlanOfHunt (hunt : HuntPlan) (given : Recorded) (plan : Shrin
   pub seconds : plan.seconds ≡ hunt.seconds
 
 -- the run that was found was shrunk so
-pub record ShrinksFound (image : List ℕ) (hunt : HuntPlan) (given : Recorded) (is_minimal : Bool) (is_kept : List ℕ → Type 0) (out : Writer) : Type 0 where
+pub record ShrinksFound (image : List ℕ) (hunt : HuntPlan) (given : Recorded) (is_minimal : Bool) (is_kept : Keeping) (out : Writer) : Type 0 where
   pub plan : ShrinkPlan
   pub is_plan : IsShrinkPlanOfHunt hunt given plan
   pub shrunk : RecordsShrunkRun image given plan is_minimal is_kept out
@@ -243,30 +270,31 @@ pub record RefusesFound (image : List ℕ) (hunt : HuntPlan) (given : Recorded) 
   pub why : RefusesGiven image given plan answered faults
 
 -- how the shrinking of a run that was found ended
-abbrev pub EndsFound : List ℕ → HuntPlan → Recorded → (List ℕ → Type 0) → ExitStatus → Writer → Writer → Type 0
+abbrev pub EndsFound : List ℕ → HuntPlan → Recorded → Keeping → ExitStatus → Writer → Writer → Type 0
 EndsFound image hunt given is_kept answered out faults =
     ((is_minimal : Bool) × (answered ≡ shrunk_status is_minimal) × ShrinksFound image hunt given is_minimal is_kept out)
-    ⊎ (RefusesFound image hunt given answered faults ⊎ IsStatusOfNoRecording answered)
+    ⊎ (RefusesFound image hunt given answered faults ⊎ IsStatusOfNoRecording ⊤ answered)
 
 -- the run of the lowest seed that is found was recorded and its lines were printed, and then it was shrunk
-pub record HuntsThenShrinks (image : List ℕ) (plan : HuntPlan) (is_kept : List ℕ → Type 0) (answered : ExitStatus) (out faults : Writer) : Type 0 where
+pub record HuntsThenShrinks (image : List ℕ) (plan : HuntPlan) (is_kept : Keeping) (answered : ExitStatus) (out faults : Writer) : Type 0 where
   pub given : Recorded
   -- what was printed and reported by then
   pub said : Writer
-  pub reported : Option (List ℕ)
-  pub begins : said.before ≡ out.before
-  pub hunted : RecordsHunted image plan given is_kept said
-  pub ended : EndsFound image plan given is_kept answered (writer_of said.after out.after out.failed) (writer_of reported faults.after faults.failed)
+  pub reported : Writer
+  pub begins : (said.before ≡ out.before) × (reported.before ≡ faults.before)
+  pub hunted : RecordsHunted image plan given is_kept said reported
+  pub ended : EndsFound image plan given is_kept answered (writer_of said.after out.after out.failed) (writer_of reported.after faults.after faults.failed)
 
 -- a guest was hunted in, and what was found was shrunk
 pub record HuntsToShrink (at : Paths) (stored : Storing) (arguments : HuntArguments) (answered : ExitStatus) (out faults : Writer) : Type 0 where
   pub image : List ℕ
   pub plan : HuntPlan
   pub asked : AsksHunt at arguments image plan
-  pub ended : HuntsThenShrinks image plan (stored (string_bytes arguments.trace)) answered out faults ⊎ TellsNoSeed image plan answered out
+  pub ended : HuntsThenShrinks image plan (KeptAsAsked stored (string_bytes arguments.trace) arguments.options.output) answered out faults
+      ⊎ TellsNoSeed image plan answered out faults
 
 -- what `ir hunt` did
 abbrev pub HuntsFile : Paths → Storing → HuntArguments → ExitStatus → Writer → Writer → Type 0
 HuntsFile at stored arguments answered out faults =
-    ((arguments.shrinks ≡ false → Hunts at stored arguments answered out) × (arguments.shrinks ≡ true → HuntsToShrink at stored arguments answered out faults))
-    ⊎ TellsNoSearch answered faults
+    ((arguments.shrinks ≡ false → Hunts at stored arguments answered out faults) × (arguments.shrinks ≡ true → HuntsToShrink at stored arguments answered out faults))
+    ⊎ TellsNoSearch (RefusesSearch (at (string_bytes arguments.image)) arguments.options.profile arguments.until.items) answered faults

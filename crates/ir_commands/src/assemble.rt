@@ -9,7 +9,7 @@ ghost use Rattle.ir_symbols.specs.Tables.{IsSortOf};
 ghost use Rattle.std.specs.List.{All};
 ghost use Rattle.ir_files.specs.Given.{IsStored};
 ghost use Rattle.ir_make.specs.Mapping.{IsNamed};
-ghost use Rattle.ir_commands.specs.Writing.{Assembles, Makes, RefusesSource};
+ghost use Rattle.ir_commands.specs.Writing.{Assembles, Makes, RefusesSource, storing};
 
 use crate::files::{bytes_of, is_lost, shown_path, told_of_file};
 use crate::maps::labels_into;
@@ -71,7 +71,7 @@ pub fn assemble_file<D: Folder, E: Sink>(
     faults: &mut E,
 ) -> ExitStatus
     requires reports { E.broken faults.old ≡ false }
-    ensures { Makes (Assembles (D.bytes_at folder.now) (λ place bytes. IsStored D.known (D.knows folder.now) (D.was_put folder.now) place bytes) arguments.now)
+    ensures { Makes (Assembles (D.bytes_at folder.now) (storing D.known D.known_closed (D.knows folder.now) (D.was_put folder.now)) arguments.now)
         (RefusesSource (D.bytes_at folder.now) arguments.now) result }
 {
     if loses_file(folder, faults, arguments) {

@@ -1,8 +1,8 @@
 //! Conditions that arguments give.
 
-ghost use Rattle.std.specs.Prelude.{◌≡◌, IfErr, OnErr, OnOk, IfOk, false};
+ghost use Rattle.std.specs.Prelude.{◌≡◌, IfErr, OnErr, OnOk, OnSome, IfOk, false};
 ghost use Rattle.ir_files.specs.Writers.{writer_of};
-ghost use Rattle.ir_commands.specs.Conditions.{AreWritten};
+ghost use Rattle.ir_commands.specs.Conditions.{AreAboutNothing, AreWritten};
 ghost use Rattle.ir_commands.specs.Files.{TellsFault};
 ghost use Rattle.ir_commands.specs.Writing.{IsStatusOfNoRecording};
 
@@ -31,7 +31,10 @@ fn about_nothing<'a>(
     image: &ParsedImage<'_>,
     conditions: &[Condition<'_>],
     texts: &'a [ConditionText],
-) -> Option<&'a str> {
+) -> Option<&'a str>
+    requires { AreWritten texts.now conditions.now }
+    ensures { OnSome result (AreAboutNothing texts.now image.now) }
+{
     let guest = image.guest()?;
     let place = conditions
         .iter()
@@ -47,7 +50,7 @@ pub fn conditions_of<'a, E: Sink>(
     texts: &'a [ConditionText],
 ) -> Result<Vec<Condition<'a>>, ExitStatus>
     ensures kept { OnOk result (faults.new ≡ faults.old) }
-    ensures status { IfErr result IsStatusOfNoRecording }
+    ensures status { IfErr result (IsStatusOfNoRecording (AreAboutNothing texts.now image.now)) }
     ensures told { OnErr result (E.broken faults.old ≡ false → TellsFault (writer_of (E.written faults.old) (E.written faults.new) (E.broken faults.new))) }
     ensures read { IfOk result (λ conditions. AreWritten texts.now conditions.items) }
 {

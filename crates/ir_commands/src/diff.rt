@@ -5,13 +5,14 @@ ghost use Rattle.ir_files.specs.Writers.{writer_of};
 ghost use Rattle.ir_files.specs.declared.exit_status.ExitStatus.TheVariants as status;
 ghost use Rattle.ir_trace.specs.Recorded.{recorded_at};
 ghost use Rattle.ir_diff.specs.Lines.{IsDiffAnswer};
-ghost use Rattle.ir_commands.specs.Printing.{Printed, PrintsDiff, LeavesUnread};
+ghost use Rattle.ir_commands.specs.Printing.{IsPrinted, PrintsDiff, LeavesUnread};
 
 use crate::explaining::explain_trace;
 use crate::files::bytes_of;
 use ir_arguments::DiffArguments;
-use ir_diff::diff_run;
+use ir_diff::Difference;
 use ir_files::{ExitStatus, Folder, MOST_FILE_BYTES};
+use ir_past::ask_trace;
 use ir_stream::Sink;
 use std::alloc::Global;
 
@@ -25,11 +26,11 @@ fn of_traces<O: Sink, E: Sink>(
 ) -> ExitStatus
     requires writes { O.broken out.old ≡ false }
     requires reports { E.broken faults.old ≡ false }
-    ensures prints { Printed (IsDiffAnswer (recorded_at first.now) (recorded_at second.now)) result
+    ensures prints { IsPrinted (IsDiffAnswer (recorded_at first.now) (recorded_at second.now)) result
         (writer_of (O.written out.old) (O.written out.new) (O.broken out.new)) (writer_of (E.written faults.old) (E.written faults.new) (E.broken faults.new)) }
     ensures quiet { result ≡ status.Done → faults.new ≡ faults.old }
 {
-    let status = diff_run(alloc, first, second, out, faults);
+    let status = ask_trace(alloc, first, &Difference { second }, out, faults);
     explain_trace(alloc, "the first trace", first, status, faults);
     explain_trace(alloc, "the second trace", second, status, faults);
     status

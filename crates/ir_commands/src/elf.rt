@@ -1,8 +1,7 @@
 //! `ir elf`: a program in an ELF file is made the image of a guest in another.
 
 ghost use Rattle.std.specs.Prelude.{◌≡◌, false};
-ghost use Rattle.ir_files.specs.Given.{IsStored};
-ghost use Rattle.ir_commands.specs.Writing.{Converts, Makes, RefusesElf};
+ghost use Rattle.ir_commands.specs.Writing.{Converts, Makes, RefusesElf, storing};
 
 use crate::files::{bytes_of, is_lost, say, shown_path, told_of_file};
 use ir_arguments::ElfArguments;
@@ -33,7 +32,7 @@ pub fn convert_file<D: Folder, E: Sink>(
     faults: &mut E,
 ) -> ExitStatus
     requires reports { E.broken faults.old ≡ false }
-    ensures { Makes (Converts (D.bytes_at folder.now) (λ place bytes. IsStored D.known (D.knows folder.now) (D.was_put folder.now) place bytes) arguments.now)
+    ensures { Makes (Converts (D.bytes_at folder.now) (storing D.known D.known_closed (D.knows folder.now) (D.was_put folder.now)) arguments.now)
         (RefusesElf (D.bytes_at folder.now) arguments.now) result }
 {
     let elf = arguments.elf.as_str();

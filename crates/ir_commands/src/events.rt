@@ -5,14 +5,14 @@ ghost use Rattle.ir_files.specs.Writers.{writer_of};
 ghost use Rattle.ir_files.specs.declared.exit_status.ExitStatus.TheVariants as status;
 ghost use Rattle.ir_opened.specs.Answers.{IsFitAnswerOf};
 ghost use Rattle.ir_listing.specs.Events.{AreEventLines};
-ghost use Rattle.ir_commands.specs.Printing.{Printed, PrintsEvents, IsStatusOfNoImage, LeavesUnread};
+ghost use Rattle.ir_commands.specs.Printing.{IsPrinted, PrintsEvents, IsStatusOfNoImage, LeavesUnread};
 
-use crate::explaining::explain_files;
+use crate::asking::answer_of_run;
 use crate::files::{bytes_of, image_of_file};
 use crate::maps::names_in;
 use ir_arguments::EventsArguments;
 use ir_files::{ExitStatus, Folder, MOST_FILE_BYTES};
-use ir_listing::events_run;
+use ir_listing::EventsQuestion;
 use ir_stream::Sink;
 use ir_symbols::SymbolTable;
 use std::alloc::Global;
@@ -28,13 +28,18 @@ fn of_run<O: Sink, E: Sink>(
 ) -> ExitStatus
     requires writes { O.broken out.old ≡ false }
     requires reports { E.broken faults.old ≡ false }
-    ensures prints { Printed (IsFitAnswerOf (AreEventLines symbols.now) image.now trace.now) result
+    ensures prints { IsPrinted (IsFitAnswerOf (AreEventLines symbols.now) image.now trace.now) result
         (writer_of (O.written out.old) (O.written out.new) (O.broken out.new)) (writer_of (E.written faults.old) (E.written faults.new) (E.broken faults.new)) }
     ensures quiet { result ≡ status.Done → faults.new ≡ faults.old }
 {
-    let status = events_run(alloc, image, trace, symbols, out, faults);
-    explain_files(alloc, image, trace, status, faults);
-    status
+    answer_of_run(
+        alloc,
+        image,
+        trace,
+        &EventsQuestion { symbols },
+        out,
+        faults,
+    )
 }
 
 // Prints the events of the run in two files, with the names of a map or of an ELF file. It is reported why there is none.

@@ -1,13 +1,14 @@
 //! `ir hunt`: the first of many seeds whose run fulfils conditions is recorded.
 
-ghost use Rattle.std.specs.Prelude.{◌≡◌, ◌⊎◌, IfErr, IfOk, OnErr, OnOk, false, true};
+ghost use Rattle.std.specs.Prelude.{◌≡◌, ◌⊎◌, IfErr, IfOk, OnErr, OnOk, false, true, option_map, ⊤};
 ghost use Rattle.std.specs.Io.KnownBytes.{Appends};
 ghost use Rattle.std.specs.String.{string_bytes};
-ghost use Rattle.ir_files.specs.Given.{IsStored};
+ghost use Rattle.ir_files.specs.Outputs.{TookEach, output_writer_of};
 ghost use Rattle.ir_files.specs.Writers.{writer_of};
 ghost use Rattle.ir_files.specs.declared.exit_status.ExitStatus.TheVariants as exit;
-ghost use Rattle.ir_commands.specs.Searching.{EndsFound, HuntsFile, RecordsHunted, RefusesFound, ShrinksFound, TellsNoSearch, TellsNoSeed};
-ghost use Rattle.ir_commands.specs.Writing.{IsStatusOfNoRecording};
+ghost use Rattle.ir_commands.specs.Files.{LacksGuest};
+ghost use Rattle.ir_commands.specs.Searching.{EndsFound, HuntsFile, RecordsHunted, RefusesFound, RefusesSearch, ShrinksFound, TellsNoSearch, TellsNoSeed};
+ghost use Rattle.ir_commands.specs.Writing.{KeptAt, storing, texts_of_paths, IsStatusOfNoRecording};
 
 use crate::conditions::{conditions_of, copied_texts};
 use crate::ends::recorded_status;
@@ -30,6 +31,7 @@ fn paths(arguments: &HuntArguments) -> RecordingPaths<'_>
     ensures image { result.image.now ≡ string_bytes arguments.now.image }
     ensures trace { result.trace.now ≡ string_bytes arguments.now.trace }
     ensures input { result.input.now ≡ arguments.now.options.input }
+    ensures output { option_map (λ prefix. prefix.now) result.output ≡ arguments.now.options.output }
 {
     RecordingPaths {
         image: arguments.image.as_str(),
@@ -61,13 +63,15 @@ where
     requires prints { O.broken out.old ≡ false }
     requires reports { E.broken faults.old ≡ false }
     ensures found { IfOk result (λ recorded. RecordsHunted image.now plan.now recorded
-        (λ bytes. Appends (W.written files.old.trace) (W.written files.new.trace) bytes)
-        (writer_of (O.written out.old) (O.written out.new) (O.broken out.new))) }
-    ensures none { IfErr result (λ answered. TellsNoSeed image.now plan.now answered
-        (writer_of (O.written out.old) (O.written out.new) (O.broken out.new)) ⊎ TellsNoSearch answered
+        (λ bytes printed. Appends (W.written files.old.trace) (W.written files.new.trace) bytes
+        × TookEach (output_writer_of (P.taken files.old.outputs) (P.taken files.new.outputs) (P.broken files.new.outputs)) printed)
+        (writer_of (O.written out.old) (O.written out.new) (O.broken out.new)) (writer_of (E.written faults.old) (E.written faults.new) (E.broken faults.new))) }
+    ensures none { IfErr result (λ answered. TellsNoSeed image.now plan.now answered (writer_of (O.written out.old) (O.written out.new) (O.broken out.new))
+        (writer_of (E.written faults.old) (E.written faults.new) (E.broken faults.new)) ⊎ TellsNoSearch (LacksGuest image.now plan.now.record.profile) answered
         (writer_of (E.written faults.old) (E.written faults.new) (E.broken faults.new))) }
     ensures whole { OnOk result (W.whole files.new.trace ≡ true) }
     ensures home { W.home files.new.trace ≡ W.home files.old.trace }
+    ensures places { P.home files.new.outputs ≡ P.home files.old.outputs }
 {
     hunt_run(rt, image, plan, files, out, faults)
 }
@@ -89,10 +93,10 @@ where
     requires writes { O.broken out.old ≡ false }
     requires reports { E.broken faults.old ≡ false }
     ensures found { IfOk result (λ recorded. RecordsHunted image.now plan.now recorded
-        (λ bytes. IsStored D.known (D.knows around.now.folder.now) (D.was_put around.now.folder.now) places.entry.trace.now bytes)
-        (writer_of (O.written out.old) (O.written out.new) (O.broken out.new))) }
-    ensures none { IfErr result (λ answered. TellsNoSeed image.now plan.now answered
-        (writer_of (O.written out.old) (O.written out.new) (O.broken out.new)) ⊎ TellsNoSearch answered
+        (KeptAt (storing D.known D.known_closed (D.knows around.now.folder.now) (D.was_put around.now.folder.now)) places.entry.trace.now (texts_of_paths places.entry.outputs))
+        (writer_of (O.written out.old) (O.written out.new) (O.broken out.new)) (writer_of (E.written faults.old) (E.written faults.new) (E.broken faults.new))) }
+    ensures none { IfErr result (λ answered. TellsNoSeed image.now plan.now answered (writer_of (O.written out.old) (O.written out.new) (O.broken out.new))
+        (writer_of (E.written faults.old) (E.written faults.new) (E.broken faults.new)) ⊎ TellsNoSearch (LacksGuest image.now plan.now.record.profile) answered
         (writer_of (E.written faults.old) (E.written faults.new) (E.broken faults.new))) }
 {
     let Surroundings { rt, folder, .. } = *around;
@@ -120,10 +124,10 @@ fn shrunk<'a, R: Clock + Eprint + AllocGlobal, D: Folder, G, O: Sink, E: Sink>(
     requires writes { O.broken out.old ≡ false }
     requires reports { E.broken faults.old ≡ false }
     ensures done { IfOk result (λ shrunk. ShrinksFound hunted.entry.image.now hunted.entry.plan.now found.now shrunk.is_minimal
-        (λ bytes. IsStored D.known (D.knows around.now.folder.now) (D.was_put around.now.folder.now) places.entry.trace.now bytes)
+        (KeptAt (storing D.known D.known_closed (D.knows around.now.folder.now) (D.was_put around.now.folder.now)) places.entry.trace.now (texts_of_paths places.entry.outputs))
         (writer_of (O.written out.old) (O.written out.new) (O.broken out.new))) }
     ensures stopped { IfErr result (λ answered. RefusesFound hunted.entry.image.now hunted.entry.plan.now found.now answered
-        (writer_of (E.written faults.old) (E.written faults.new) (E.broken faults.new)) ⊎ IsStatusOfNoRecording answered) }
+        (writer_of (E.written faults.old) (E.written faults.new) (E.broken faults.new)) ⊎ IsStatusOfNoRecording ⊤ answered) }
 {
     let until = hunted.arguments.until.as_slice();
     let Ok(texts) = copied_texts(around.rt.alloc(), until) else {
@@ -161,7 +165,7 @@ where
     O: Sink,
     E: Sink,
     ensures { EndsFound hunted.entry.image.now hunted.entry.plan.now found.now
-        (λ bytes. IsStored D.known (D.knows around.now.folder.now) (D.was_put around.now.folder.now) places.entry.trace.now bytes) result
+        (KeptAt (storing D.known D.known_closed (D.knows around.now.folder.now) (D.was_put around.now.folder.now)) places.entry.trace.now (texts_of_paths places.entry.outputs)) result
         (writer_of (O.written out.old) (O.written out.new) (O.broken out.new)) (writer_of (E.written faults.old) (E.written faults.new) (E.broken faults.new)) }
 {
     if out.failed() || faults.failed() {
@@ -193,7 +197,7 @@ where
     ensures kept { OnErr found (faults.new ≡ faults.old) }
     ensures done { hunted.entry.arguments.now.shrinks ≡ false → OnOk found ((result ≡ exit.Done) × (out.new ≡ out.old)) }
     ensures shrunk { hunted.entry.arguments.now.shrinks ≡ true → IfOk found (λ given. EndsFound hunted.entry.image.now hunted.entry.plan.now given
-        (λ bytes. IsStored D.known (D.knows around.now.folder.now) (D.was_put around.now.folder.now) places.entry.trace.now bytes) result
+        (KeptAt (storing D.known D.known_closed (D.knows around.now.folder.now) (D.was_put around.now.folder.now)) places.entry.trace.now (texts_of_paths places.entry.outputs)) result
         (writer_of (O.written out.old) (O.written out.new) (O.broken out.new)) (writer_of (E.written faults.old) (E.written faults.new) (E.broken faults.new))) }
 {
     match found {
@@ -220,9 +224,10 @@ fn hunted_by<R: Threads + Sync + Clock + Eprint + AllocGlobal, D: Folder, G, O: 
     requires writes { O.broken out.old ≡ false }
     requires reports { E.broken faults.old ≡ false }
     ensures done { IfOk result (λ answered. HuntsFile (D.bytes_at around.now.folder.now)
-        (λ place bytes. IsStored D.known (D.knows around.now.folder.now) (D.was_put around.now.folder.now) place bytes)
+        (storing D.known D.known_closed (D.knows around.now.folder.now) (D.was_put around.now.folder.now))
         arguments.now answered (writer_of (O.written out.old) (O.written out.new) (O.broken out.new)) (writer_of (E.written faults.old) (E.written faults.new) (E.broken faults.new))) }
-    ensures stopped { IfErr result (λ answered. TellsNoSearch answered (writer_of (E.written faults.old) (E.written faults.new) (E.broken faults.new))) }
+    ensures stopped { IfErr result (λ answered. TellsNoSearch (RefusesSearch (D.bytes_at around.now.folder.now (string_bytes arguments.now.image)) arguments.now.options.profile
+        arguments.now.until.items) answered (writer_of (E.written faults.old) (E.written faults.new) (E.broken faults.new))) }
 {
     let (alloc, folder) = (around.rt.alloc(), around.folder);
     let paths = paths(arguments);
@@ -269,7 +274,7 @@ where
     E: Sink,
     requires writes { O.broken out.old ≡ false }
     requires reports { E.broken faults.old ≡ false }
-    ensures { HuntsFile (D.bytes_at around.now.folder.now) (λ place bytes. IsStored D.known (D.knows around.now.folder.now) (D.was_put around.now.folder.now) place bytes)
+    ensures { HuntsFile (D.bytes_at around.now.folder.now) (storing D.known D.known_closed (D.knows around.now.folder.now) (D.was_put around.now.folder.now))
         arguments.now result (writer_of (O.written out.old) (O.written out.new) (O.broken out.new)) (writer_of (E.written faults.old) (E.written faults.new) (E.broken faults.new)) }
 {
     match hunted_by(around, arguments, explains, out, faults) {

@@ -2,6 +2,7 @@
 //! the exit status. The commands that open a session are ir_program's.
 #![tactic(auto)]
 
+mod asking;
 mod assemble;
 mod conditions;
 mod diff;

@@ -1,13 +1,15 @@
 //! `ir explore --within` with a trace: the first outcome of a guest that another guest doesn't have is recorded.
 
-ghost use Rattle.std.specs.Prelude.{◌≡◌, ◌⊎◌, IfErr, OnOk, true, false};
+ghost use Rattle.std.specs.Prelude.{◌≡◌, ◌⊎◌, IfErr, OnOk, true, false, option_map};
 ghost use Rattle.std.specs.Io.KnownBytes.{Appends};
 ghost use Rattle.std.specs.String.{string_bytes};
-ghost use Rattle.ir_files.specs.Given.{IsStored};
+ghost use Rattle.ir_files.specs.Outputs.{TookEach, output_writer_of};
 ghost use Rattle.ir_files.specs.Writers.{writer_of};
 ghost use Rattle.ir_within.specs.Plans.{comparison_of};
-ghost use Rattle.ir_commands.specs.Outside.{FindsOutside, MissesOutside, OutsideFile, RecordsOutside, TellsNoneOutside};
+ghost use Rattle.ir_commands.specs.Files.{LacksGuest};
+ghost use Rattle.ir_commands.specs.Outside.{FindsOutside, MissesOutside, OutsideFile, RecordsOutside, RefusesEither, TellsNoneOutside};
 ghost use Rattle.ir_commands.specs.Searching.{TellsNoSearch};
+ghost use Rattle.ir_commands.specs.Writing.{KeptAt, storing, texts_of_paths};
 
 use crate::ends::tell_ends;
 use crate::explore::plan_of;
@@ -25,7 +27,8 @@ use std::time::Clock;
 
 // The files of the recording.
 fn paths(arguments: &OutsideArguments) -> RecordingPaths<'_>
-    ensures { result.trace.now ≡ string_bytes arguments.now.trace }
+    ensures trace { result.trace.now ≡ string_bytes arguments.now.trace }
+    ensures output { option_map (λ prefix. prefix.now) result.output ≡ arguments.now.output }
 {
     let within = &arguments.within;
     RecordingPaths {
@@ -58,13 +61,15 @@ where
     requires prints { O.broken out.old ≡ false }
     requires reports { E.broken faults.old ≡ false }
     ensures found { OnOk result (RecordsOutside (comparison_of plan.now)
-        (λ bytes. Appends (W.written files.old.trace) (W.written files.new.trace) bytes)
+        (λ bytes printed. Appends (W.written files.old.trace) (W.written files.new.trace) bytes
+        × TookEach (output_writer_of (P.taken files.old.outputs) (P.taken files.new.outputs) (P.broken files.new.outputs)) printed)
         (writer_of (O.written out.old) (O.written out.new) (O.broken out.new))) }
     ensures none { IfErr result (λ answered. TellsNoneOutside (comparison_of plan.now) answered
-        (writer_of (O.written out.old) (O.written out.new) (O.broken out.new)) ⊎ TellsNoSearch answered
+        (writer_of (O.written out.old) (O.written out.new) (O.broken out.new)) ⊎ TellsNoSearch (LacksGuest (comparison_of plan.now).image plan.now.explore.profile ⊎ LacksGuest (comparison_of plan.now).other plan.now.explore.profile) answered
         (writer_of (E.written faults.old) (E.written faults.new) (E.broken faults.new))) }
     ensures whole { OnOk result (W.whole files.new.trace ≡ true) }
     ensures home { W.home files.new.trace ≡ W.home files.old.trace }
+    ensures places { P.home files.new.outputs ≡ P.home files.old.outputs }
 {
     outside_run(rt, plan, files, out, faults)
 }
@@ -86,10 +91,10 @@ where
     requires writes { O.broken out.old ≡ false }
     requires reports { E.broken faults.old ≡ false }
     ensures found { OnOk result (RecordsOutside (comparison_of plan.now)
-        (λ bytes. IsStored D.known (D.knows around.now.folder.now) (D.was_put around.now.folder.now) places.entry.trace.now bytes)
+        (KeptAt (storing D.known D.known_closed (D.knows around.now.folder.now) (D.was_put around.now.folder.now)) places.entry.trace.now (texts_of_paths places.entry.outputs))
         (writer_of (O.written out.old) (O.written out.new) (O.broken out.new))) }
     ensures none { IfErr result (λ answered. TellsNoneOutside (comparison_of plan.now) answered
-        (writer_of (O.written out.old) (O.written out.new) (O.broken out.new)) ⊎ TellsNoSearch answered
+        (writer_of (O.written out.old) (O.written out.new) (O.broken out.new)) ⊎ TellsNoSearch (LacksGuest (comparison_of plan.now).image plan.now.explore.profile ⊎ LacksGuest (comparison_of plan.now).other plan.now.explore.profile) answered
         (writer_of (E.written faults.old) (E.written faults.new) (E.broken faults.new))) }
 {
     let Surroundings { rt, folder, .. } = *around;
@@ -107,10 +112,10 @@ fn outside_by<R: Clock + AllocGlobal, D: Folder, G: Observer, O: Sink, E: Sink>(
     requires writes { O.broken out.old ≡ false }
     requires reports { E.broken faults.old ≡ false }
     ensures found { OnOk result (FindsOutside (D.bytes_at around.now.folder.now)
-        (λ place bytes. IsStored D.known (D.knows around.now.folder.now) (D.was_put around.now.folder.now) place bytes) arguments.now
+        (storing D.known D.known_closed (D.knows around.now.folder.now) (D.was_put around.now.folder.now)) arguments.now
         (writer_of (O.written out.old) (O.written out.new) (O.broken out.new))) }
     ensures none { IfErr result (λ answered. MissesOutside (D.bytes_at around.now.folder.now) arguments.now answered
-        (writer_of (O.written out.old) (O.written out.new) (O.broken out.new)) ⊎ TellsNoSearch answered
+        (writer_of (O.written out.old) (O.written out.new) (O.broken out.new)) ⊎ TellsNoSearch (RefusesEither (D.bytes_at around.now.folder.now) arguments.now) answered
         (writer_of (E.written faults.old) (E.written faults.new) (E.broken faults.new))) }
 {
     let (alloc, folder, within) = (around.rt.alloc(), around.folder, &arguments.within);
@@ -146,7 +151,7 @@ pub fn outside_file<R: Clock + AllocGlobal, D: Folder, G: Observer, O: Sink, E: 
 ) -> ExitStatus
     requires writes { O.broken out.old ≡ false }
     requires reports { E.broken faults.old ≡ false }
-    ensures { OutsideFile (D.bytes_at around.now.folder.now) (λ place bytes. IsStored D.known (D.knows around.now.folder.now) (D.was_put around.now.folder.now) place bytes)
+    ensures { OutsideFile (D.bytes_at around.now.folder.now) (storing D.known D.known_closed (D.knows around.now.folder.now) (D.was_put around.now.folder.now))
         arguments.now result (writer_of (O.written out.old) (O.written out.new) (O.broken out.new)) (writer_of (E.written faults.old) (E.written faults.new) (E.broken faults.new)) }
 {
     match outside_by(around, arguments, out, faults) {

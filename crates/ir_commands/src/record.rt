@@ -1,18 +1,17 @@
 //! `ir record`: a guest in a file is recorded, its trace and what its threads print go into others.
 
-ghost use Rattle.std.specs.Prelude.{◌≡◌, ◌⊎◌, ◌++◌, ◌∷◌, ℕ, List, [], Some, IfErr, IfOk, OnErr, OnOk, MatchOption, true, false, option_map};
+ghost use Rattle.std.specs.Prelude.{◌≡◌, ◌⊎◌, ◌++◌, ◌∷◌, ℕ, List, [], Some, IfErr, IfOk, IfSome, IsSomeAnd, OnErr, OnOk, MatchOption, true, false, map, option_map};
 ghost use Rattle.std.specs.String.{string_bytes};
-ghost use Rattle.ir_files.specs.Given.{IsStored};
 ghost use Rattle.ir_files.specs.Writers.{writer_of};
 ghost use Rattle.ir_hunt.specs.Finding.{IsOrderOfSeed};
 ghost use Rattle.ir_commands.specs.Exploring.{IsInput};
-ghost use Rattle.ir_commands.specs.Files.{TellsFault};
+ghost use Rattle.ir_commands.specs.Files.{LacksGuest, TellsFault};
 ghost use Rattle.ir_commands.specs.Printing.{LeavesUnread};
-ghost use Rattle.ir_commands.specs.Writing.{IsListIn, IsOrderAsked, IsStatusOfNoRecording, Records, RecordsFile, StopsRecords, recorded_status};
+ghost use Rattle.ir_commands.specs.Writing.{AreOutputPaths, IsListIn, IsNoText, IsOrderAsked, IsStatusOfNoRecording, Records, RecordsFile, RefusesRecording, StopsRecords, recorded_status, storing};
 
 use crate::ends::{all_ended, tell_ends};
 use crate::files::{bytes_of, image_in, say};
-use crate::recording::{RecordingPaths, input_of, loses_input, output_places, record_files};
+use crate::recording::{Places, RecordingPaths, input_of, loses_input, output_places, record_files};
 use crate::surroundings::Surroundings;
 use ir_arguments::{Chaos, RecordArguments};
 use ir_files::{ExitStatus, Folder, MOST_FILE_BYTES};
@@ -38,7 +37,7 @@ fn without_end(list: &str) -> &str
 fn copied<E: Sink>(alloc: Global, faults: &mut E, list: &str) -> Result<Option<String>, ExitStatus>
     ensures kept { OnOk result (faults.new ≡ faults.old) }
     ensures list { IfOk result (λ copy. option_map string_bytes copy ≡ Some list.now) }
-    ensures status { IfErr result IsStatusOfNoRecording }
+    ensures status { IfErr result (IsStatusOfNoRecording ⊥) }
     ensures told { OnErr result (E.broken faults.old ≡ false → TellsFault (writer_of (E.written faults.old) (E.written faults.new) (E.broken faults.new))) }
 {
     match String::from_str(alloc, list) {
@@ -59,7 +58,7 @@ fn list_in<D: Folder, E: Sink>(
 ) -> Result<Option<String>, ExitStatus>
     ensures kept { OnOk result (faults.new ≡ faults.old) }
     ensures list { IfOk result (λ found. (list : List ℕ) × (option_map string_bytes found ≡ Some list) × IsListIn (D.bytes_at folder.now path.now) list) }
-    ensures status { IfErr result IsStatusOfNoRecording }
+    ensures status { IfErr result (IsStatusOfNoRecording (IfSome (D.bytes_at folder.now path.now) IsNoText)) }
     ensures told { OnErr result (E.broken faults.old ≡ false → TellsFault (writer_of (E.written faults.old) (E.written faults.new) (E.broken faults.new))) }
 {
     let Some(bytes) = bytes_of(alloc, folder, faults, path, MOST_FILE_BYTES) else {
@@ -84,7 +83,7 @@ fn list_of<D: Folder, E: Sink>(
     ensures kept { OnOk result (faults.new ≡ faults.old) }
     ensures list { IfOk result (λ found. MatchOption arguments.now.order_file (option_map string_bytes found ≡ option_map string_bytes arguments.now.order)
         (λ path. (list : List ℕ) × (option_map string_bytes found ≡ Some list) × IsListIn (D.bytes_at folder.now (string_bytes path)) list)) }
-    ensures status { IfErr result IsStatusOfNoRecording }
+    ensures status { IfErr result (IsStatusOfNoRecording (IsSomeAnd arguments.now.order_file (λ path. IfSome (D.bytes_at folder.now (string_bytes path)) IsNoText))) }
     ensures told { OnErr result (E.broken faults.old ≡ false → TellsFault (writer_of (E.written faults.old) (E.written faults.new) (E.broken faults.new))) }
 {
     match (&arguments.order_file, &arguments.order) {
@@ -106,7 +105,7 @@ fn list_of_seed<C: Clock, E: Sink>(
     ensures kept { OnOk result (faults.new ≡ faults.old) }
     ensures list { IfOk result (λ found. (list : List ℕ) × (option_map string_bytes found ≡ Some list)
         × IsOrderOfSeed image.now plan.entry chaos.way chaos.seed list) }
-    ensures status { IfErr result IsStatusOfNoRecording }
+    ensures status { IfErr result (IsStatusOfNoRecording (LacksGuest image.now plan.entry.profile)) }
     ensures told { OnErr result (E.broken faults.old ≡ false → TellsFault (writer_of (E.written faults.old) (E.written faults.new) (E.broken faults.new))) }
 {
     let Chaos { seed, way } = chaos;
@@ -130,7 +129,8 @@ fn list_of_seed<C: Clock, E: Sink>(
 
 // The files of a recording.
 fn paths(arguments: &RecordArguments) -> RecordingPaths<'_>
-    ensures { result.input.now ≡ arguments.now.options.input }
+    ensures input { result.input.now ≡ arguments.now.options.input }
+    ensures output { option_map (λ prefix. prefix.now) result.output ≡ arguments.now.options.output }
 {
     RecordingPaths {
         image: arguments.image.as_str(),
@@ -172,8 +172,9 @@ impl Beside {
     ) -> Result<Beside, ExitStatus>
         ensures kept { OnOk result (faults.new ≡ faults.old) }
         ensures input { IfOk result (λ beside. IsInput (D.bytes_at folder.now) arguments.now.options.input beside.input.items) }
+        ensures outputs { IfOk result (λ beside. AreOutputPaths arguments.now.options.output (option_map (λ each. map string_bytes each.items) beside.outputs)) }
         ensures order { IfOk result (λ beside. IsOrderAsked (D.bytes_at folder.now) arguments.now image.now beside.input.items (option_map string_bytes beside.list)) }
-        ensures status { IfErr result IsStatusOfNoRecording }
+        ensures status { IfErr result (IsStatusOfNoRecording (LacksGuest image.now arguments.now.options.profile ⊎ IsSomeAnd arguments.now.order_file (λ path. IfSome (D.bytes_at folder.now (string_bytes path)) IsNoText))) }
         ensures told { OnErr result (E.broken faults.old ≡ false → TellsFault (writer_of (E.written faults.old) (E.written faults.new) (E.broken faults.new))) }
     {
         let paths = paths(arguments);
@@ -231,11 +232,11 @@ where
     E: Sink,
     requires writes { O.broken out.old ≡ false }
     requires reports { E.broken faults.old ≡ false }
-    ensures done { IfOk result (λ recorded. Records (D.bytes_at around.now.folder.now) (λ place bytes. IsStored D.known (D.knows around.now.folder.now) (D.was_put around.now.folder.now) place bytes)
+    ensures done { IfOk result (λ recorded. Records (D.bytes_at around.now.folder.now) (storing D.known D.known_closed (D.knows around.now.folder.now) (D.was_put around.now.folder.now))
         arguments.now recorded (writer_of (O.written out.old) (O.written out.new) (O.broken out.new))) }
     ensures stopped { IfErr result (λ answered. StopsRecords (D.bytes_at around.now.folder.now) arguments.now answered (writer_of (O.written out.old) (O.written out.new) (O.broken out.new))
         (writer_of (E.written faults.old) (E.written faults.new) (E.broken faults.new)) (out.new ≡ out.old)
-        ⊎ LeavesUnread (IsStatusOfNoRecording answered) (out.new ≡ out.old) (writer_of (E.written faults.old) (E.written faults.new) (E.broken faults.new))) }
+        ⊎ LeavesUnread (IsStatusOfNoRecording (RefusesRecording (D.bytes_at around.now.folder.now) arguments.now) answered) (out.new ≡ out.old) (writer_of (E.written faults.old) (E.written faults.new) (E.broken faults.new))) }
 {
     let (rt, folder) = (around.rt, around.folder);
     let alloc = rt.alloc();
@@ -247,9 +248,9 @@ where
     let beside = Beside::of(alloc, rt, folder, faults, arguments, &image)?;
     let input = beside.input.as_slice();
     let order = text_in(&beside.list);
-    let paths = beside.outputs.as_ref().map(|paths| paths.as_slice());
+    let places = Places::new(arguments.trace.as_str(), &beside.outputs);
     let plan = arguments.plan(order, input);
-    let mut files = record_files(alloc, folder, arguments.trace.as_str(), paths);
+    let mut files = record_files(alloc, folder, places.trace, places.outputs);
     let recording = Recording {
         image: &image,
         plan: &plan,
@@ -273,7 +274,7 @@ where
     E: Sink,
     requires writes { O.broken out.old ≡ false }
     requires reports { E.broken faults.old ≡ false }
-    ensures { RecordsFile (D.bytes_at around.now.folder.now) (λ place bytes. IsStored D.known (D.knows around.now.folder.now) (D.was_put around.now.folder.now) place bytes)
+    ensures { RecordsFile (D.bytes_at around.now.folder.now) (storing D.known D.known_closed (D.knows around.now.folder.now) (D.was_put around.now.folder.now))
         arguments.now result (writer_of (O.written out.old) (O.written out.new) (O.broken out.new))
         (writer_of (E.written faults.old) (E.written faults.new) (E.broken faults.new)) (out.new ≡ out.old) }
 {

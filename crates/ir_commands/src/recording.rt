@@ -1,11 +1,12 @@
 //! What a recording reads and writes.
 
-ghost use Rattle.std.specs.Prelude.{◌≡◌, OnSome, OnOk, OnErr, IfErr, IfOk, IfSome, None, false, true, option_map};
+ghost use Rattle.std.specs.Prelude.{◌≡◌, OnSome, OnOk, OnErr, IfErr, IfOk, IfSome, None, false, true, [], map, option_map};
+ghost use Rattle.std.specs.String.{string_bytes};
 ghost use Rattle.ir_files.specs.Given.{fresh, given_bytes};
 ghost use Rattle.ir_files.specs.Writers.{writer_of};
 ghost use Rattle.ir_commands.specs.Exploring.{IsInput};
 ghost use Rattle.ir_commands.specs.Files.{TellsFault};
-ghost use Rattle.ir_commands.specs.Writing.{IsStatusOfNoRecording};
+ghost use Rattle.ir_commands.specs.Writing.{AreOutputPaths, IsStatusOfNoRecording};
 
 use crate::files::{bytes_of, is_lost, say};
 use ir_files::{ExitStatus, Folder, MOST_GUEST_INPUT, OutputFiles, WholeFile, output_paths};
@@ -64,6 +65,7 @@ pub fn record_files<'a, D: Folder>(
     ensures empty { given_bytes (D.knows result.trace.folder.now) (λ m. D.known m.file) result.trace.made ≡ fresh (D.knows folder.now) }
     ensures folders { result.outputs.folder.now ≡ folder.now }
     ensures paths { result.outputs.paths ≡ outputs.entry }
+    ensures none { result.outputs.each.items ≡ [] }
     ensures writes { result.trace.failed ≡ false }
     ensures puts { result.outputs.failed ≡ false }
 {
@@ -132,7 +134,9 @@ fn paths_of(
     alloc: Global,
     paths: &RecordingPaths<'_>,
     image: &ParsedImage<'_>,
-) -> Result<Option<Vec<String>>, AllocError> {
+) -> Result<Option<Vec<String>>, AllocError>
+    ensures { IfOk result (λ outputs. AreOutputPaths (option_map (λ prefix. prefix.now) paths.now.output) (option_map (λ each. map string_bytes each.items) outputs)) }
+{
     let Some(prefix) = paths.output else {
         return Ok(None);
     };
@@ -190,7 +194,8 @@ pub fn output_places<D: Folder, E: Sink>(
     image: &ParsedImage<'_>,
 ) -> Result<Option<Vec<String>>, ExitStatus>
     ensures kept { OnOk result (faults.new ≡ faults.old) }
-    ensures status { IfErr result IsStatusOfNoRecording }
+    ensures paths { IfOk result (λ outputs. AreOutputPaths (option_map (λ prefix. prefix.now) paths.now.output) (option_map (λ each. map string_bytes each.items) outputs)) }
+    ensures status { IfErr result (IsStatusOfNoRecording ⊥) }
     ensures told { OnErr result (E.broken faults.old ≡ false → TellsFault (writer_of (E.written faults.old) (E.written faults.new) (E.broken faults.new))) }
 {
     let Ok(outputs) = paths_of(alloc, paths, image) else {
@@ -215,8 +220,9 @@ pub fn beside_of<D: Folder, E: Sink>(
     image: &ParsedImage<'_>,
 ) -> Result<(Option<Vec<String>>, Vec<u8>), ExitStatus>
     ensures kept { OnOk result (faults.new ≡ faults.old) }
+    ensures paths { IfOk result (λ beside. AreOutputPaths (option_map (λ prefix. prefix.now) paths.now.output) (option_map (λ each. map string_bytes each.items) beside.0)) }
     ensures input { IfOk result (λ beside. IsInput (D.bytes_at folder.now) paths.now.input.now beside.1.items) }
-    ensures status { IfErr result IsStatusOfNoRecording }
+    ensures status { IfErr result (IsStatusOfNoRecording ⊥) }
     ensures told { OnErr result (E.broken faults.old ≡ false → TellsFault (writer_of (E.written faults.old) (E.written faults.new) (E.broken faults.new))) }
 {
     let outputs = output_places(alloc, folder, faults, paths, image)?;

@@ -1,14 +1,14 @@
 //! `ir shrink`: a recorded run is shrunk to one with fewer context switches.
 
-ghost use Rattle.std.specs.Prelude.{◌≡◌, ◌⊎◌, None, Ok, IfErr, IfOk, OnOk, false, true};
+ghost use Rattle.std.specs.Prelude.{◌≡◌, ◌⊎◌, None, Ok, IfErr, IfOk, OnOk, false, true, option_map, ⊤};
 ghost use Rattle.std.specs.Io.KnownBytes.{Appends};
 ghost use Rattle.std.specs.String.{string_bytes};
-ghost use Rattle.ir_files.specs.Given.{IsStored};
+ghost use Rattle.ir_files.specs.Outputs.{TookEach, output_writer_of};
 ghost use Rattle.ir_files.specs.Writers.{writer_of};
 ghost use Rattle.ir_trace.specs.Recorded.{recorded_at};
 ghost use Rattle.ir_commands.specs.Files.{IsFileIn, IsImageIn};
 ghost use Rattle.ir_commands.specs.Searching.{IsStatusOfNoShrinking, RecordsShrunkRun, RefusesGiven, ShrinkRefuses, ShrinksFile, ShrinksTo, shrunk_status as shrunk_answer};
-ghost use Rattle.ir_commands.specs.Writing.{IsStatusOfNoRecording};
+ghost use Rattle.ir_commands.specs.Writing.{KeptAt, storing, texts_of_paths, IsStatusOfNoRecording};
 
 use crate::conditions::{conditions_of, copied_texts};
 use crate::ends::tell_ends;
@@ -29,7 +29,8 @@ use std::time::Clock;
 
 // The files of the recording.
 fn paths(arguments: &ShrinkArguments) -> RecordingPaths<'_>
-    ensures { result.input.now ≡ arguments.now.input }
+    ensures input { result.input.now ≡ arguments.now.input }
+    ensures output { option_map (λ prefix. prefix.now) result.output ≡ arguments.now.output }
 {
     RecordingPaths {
         image: arguments.image.as_str(),
@@ -72,7 +73,7 @@ fn given_by<D: Folder, E: Sink>(
     ensures kept { OnOk result (faults.new ≡ faults.old) }
     ensures image { IfOk result (λ given. IsImageIn (D.bytes_at folder.now (string_bytes arguments.now.image)) given.image.items) }
     ensures trace { IfOk result (λ given. IsFileIn (D.bytes_at folder.now (string_bytes arguments.now.trace)) given.trace.items) }
-    ensures status { IfErr result IsStatusOfNoRecording }
+    ensures status { IfErr result (IsStatusOfNoRecording ⊤) }
 {
     let image = image_in(alloc, folder, faults, arguments.image.as_str())?;
     match bytes_of(
@@ -159,12 +160,14 @@ where
     requires prints { O.broken out.old ≡ false }
     requires reports { E.broken faults.old ≡ false }
     ensures done { IfOk result (λ shrunk. RecordsShrunkRun given.now.image.now given.now.trace.now plan.now shrunk.is_minimal
-        (λ bytes. Appends (W.written files.old.trace) (W.written files.new.trace) bytes)
+        (λ bytes printed. Appends (W.written files.old.trace) (W.written files.new.trace) bytes
+        × TookEach (output_writer_of (P.taken files.old.outputs) (P.taken files.new.outputs) (P.broken files.new.outputs)) printed)
         (writer_of (O.written out.old) (O.written out.new) (O.broken out.new))) }
     ensures stopped { IfErr result (λ answered. RefusesGiven given.now.image.now given.now.trace.now plan.now answered
-        (writer_of (E.written faults.old) (E.written faults.new) (E.broken faults.new)) ⊎ IsStatusOfNoRecording answered) }
+        (writer_of (E.written faults.old) (E.written faults.new) (E.broken faults.new)) ⊎ IsStatusOfNoRecording ⊤ answered) }
     ensures whole { OnOk result (W.whole files.new.trace ≡ true) }
     ensures home { W.home files.new.trace ≡ W.home files.old.trace }
+    ensures places { P.home files.new.outputs ≡ P.home files.old.outputs }
 {
     shrink_run(rt, given, plan, files, out, faults)
 }
@@ -186,10 +189,10 @@ where
     requires writes { O.broken out.old ≡ false }
     requires reports { E.broken faults.old ≡ false }
     ensures done { IfOk result (λ shrunk. RecordsShrunkRun given.now.image.now given.now.trace.now plan.now shrunk.is_minimal
-        (λ bytes. IsStored D.known (D.knows around.now.folder.now) (D.was_put around.now.folder.now) places.entry.trace.now bytes)
+        (KeptAt (storing D.known D.known_closed (D.knows around.now.folder.now) (D.was_put around.now.folder.now)) places.entry.trace.now (texts_of_paths places.entry.outputs))
         (writer_of (O.written out.old) (O.written out.new) (O.broken out.new))) }
     ensures stopped { IfErr result (λ answered. RefusesGiven given.now.image.now given.now.trace.now plan.now answered
-        (writer_of (E.written faults.old) (E.written faults.new) (E.broken faults.new)) ⊎ IsStatusOfNoRecording answered) }
+        (writer_of (E.written faults.old) (E.written faults.new) (E.broken faults.new)) ⊎ IsStatusOfNoRecording ⊤ answered) }
 {
     let Surroundings { rt, folder, .. } = *around;
     let mut files = record_files(rt.alloc(), folder, places.trace, places.outputs);
@@ -231,7 +234,7 @@ where
     E: Sink,
     requires writes { O.broken out.old ≡ false }
     requires reports { E.broken faults.old ≡ false }
-    ensures { ShrinksFile (D.bytes_at around.now.folder.now) (λ place bytes. IsStored D.known (D.knows around.now.folder.now) (D.was_put around.now.folder.now) place bytes)
+    ensures { ShrinksFile (D.bytes_at around.now.folder.now) (storing D.known D.known_closed (D.knows around.now.folder.now) (D.was_put around.now.folder.now))
         arguments.now result (writer_of (O.written out.old) (O.written out.new) (O.broken out.new)) (writer_of (E.written faults.old) (E.written faults.new) (E.broken faults.new)) }
 {
     match shrunk_by(around, arguments, explains, out, faults) {
@@ -250,7 +253,7 @@ fn shrunk_by<R: Clock + Eprint + AllocGlobal, D: Folder, G, O: Sink, E: Sink>(
 ) -> Result<Shrunk, ExitStatus>
     requires writes { O.broken out.old ≡ false }
     requires reports { E.broken faults.old ≡ false }
-    ensures done { IfOk result (λ shrunk. ShrinksTo (D.bytes_at around.now.folder.now) (λ place bytes. IsStored D.known (D.knows around.now.folder.now) (D.was_put around.now.folder.now) place bytes)
+    ensures done { IfOk result (λ shrunk. ShrinksTo (D.bytes_at around.now.folder.now) (storing D.known D.known_closed (D.knows around.now.folder.now) (D.was_put around.now.folder.now))
         arguments.now shrunk.is_minimal (writer_of (O.written out.old) (O.written out.new) (O.broken out.new))) }
     ensures stopped { IfErr result (λ answered. ShrinkRefuses (D.bytes_at around.now.folder.now) arguments.now answered
         (writer_of (E.written faults.old) (E.written faults.new) (E.broken faults.new)) ⊎ IsStatusOfNoShrinking answered) }

@@ -4,19 +4,19 @@ ghost use Rattle.std.specs.Prelude.{◌≡◌, ◌⊎◌, false};
 ghost use Rattle.ir_files.specs.Writers.{writer_of};
 ghost use Rattle.ir_files.specs.declared.exit_status.ExitStatus.TheVariants as status;
 ghost use Rattle.ir_trace.specs.Recorded.{recorded_at};
-ghost use Rattle.ir_past.specs.Answers.{IsAnswerOf};
+ghost use Rattle.ir_past.specs.Replies.{IsAnswerOf};
 ghost use Rattle.ir_past.specs.Lines.{IsStaleAnswer};
 ghost use Rattle.ir_opened.specs.Answers.{IsFitAnswerOf};
 ghost use Rattle.ir_stale_run.specs.Lines.{IsRestsAnswer};
 ghost use Rattle.ir_commands.specs.Files.{IsUnread};
-ghost use Rattle.ir_commands.specs.Printing.{Printed, PrintsStale, LeavesUnread};
+ghost use Rattle.ir_commands.specs.Printing.{IsPrinted, PrintsStale, LeavesUnread};
 
-use crate::explaining::{THE_TRACE, explain_files, explain_trace};
+use crate::asking::{answer_of_run, answer_of_trace};
 use crate::files::{bytes_of, image_in};
 use ir_arguments::StaleArguments;
 use ir_files::{ExitStatus, Folder, MOST_FILE_BYTES};
-use ir_past::stale_run;
-use ir_stale_run::rests_run;
+use ir_past::StaleQuestion;
+use ir_stale_run::RestsQuestion;
 use ir_stream::Sink;
 use std::alloc::Global;
 
@@ -29,13 +29,11 @@ fn of_trace<O: Sink, E: Sink>(
 ) -> ExitStatus
     requires writes { O.broken out.old ≡ false }
     requires reports { E.broken faults.old ≡ false }
-    ensures prints { Printed (IsAnswerOf IsStaleAnswer (recorded_at trace.now)) result
+    ensures prints { IsPrinted (IsAnswerOf IsStaleAnswer (recorded_at trace.now)) result
         (writer_of (O.written out.old) (O.written out.new) (O.broken out.new)) (writer_of (E.written faults.old) (E.written faults.new) (E.broken faults.new)) }
     ensures quiet { result ≡ status.Done → faults.new ≡ faults.old }
 {
-    let status = stale_run(alloc, trace, out, faults);
-    explain_trace(alloc, THE_TRACE, trace, status, faults);
-    status
+    answer_of_trace(alloc, trace, &StaleQuestion, out, faults)
 }
 
 // Prints those that rest on what was read in a run of the image.
@@ -48,13 +46,11 @@ fn of_run<O: Sink, E: Sink>(
 ) -> ExitStatus
     requires writes { O.broken out.old ≡ false }
     requires reports { E.broken faults.old ≡ false }
-    ensures prints { Printed (IsFitAnswerOf IsRestsAnswer image.now trace.now) result
+    ensures prints { IsPrinted (IsFitAnswerOf IsRestsAnswer image.now trace.now) result
         (writer_of (O.written out.old) (O.written out.new) (O.broken out.new)) (writer_of (E.written faults.old) (E.written faults.new) (E.broken faults.new)) }
     ensures quiet { result ≡ status.Done → faults.new ≡ faults.old }
 {
-    let status = rests_run(alloc, image, trace, out, faults);
-    explain_files(alloc, image, trace, status, faults);
-    status
+    answer_of_run(alloc, image, trace, &RestsQuestion, out, faults)
 }
 
 /// Prints the stale writes of the trace in a file, with an image those that rest on what was read. If there is no answer, a line of

@@ -1,12 +1,14 @@
 //! `ir explore --until`: the first outcome that fulfils conditions is recorded.
 
-ghost use Rattle.std.specs.Prelude.{◌≡◌, ◌⊎◌, ℕ, List, Err, IfErr, OnOk, false, true};
+ghost use Rattle.std.specs.Prelude.{◌≡◌, ◌⊎◌, ℕ, List, Err, IfErr, OnOk, false, true, option_map};
 ghost use Rattle.std.specs.Io.KnownBytes.{Appends};
 ghost use Rattle.std.specs.String.{string_bytes};
 ghost use Rattle.ir_explore.specs.Hang.{IsHangAnswer};
-ghost use Rattle.ir_files.specs.Given.{IsStored};
+ghost use Rattle.ir_files.specs.Outputs.{TookEach, output_writer_of};
 ghost use Rattle.ir_files.specs.Writers.{Took, writer_of};
-ghost use Rattle.ir_commands.specs.Searching.{RecordsHang, RecordsOutcome, SearchFinds, SearchesFile, SearchMisses, TellsNoSearch, TellsVain};
+ghost use Rattle.ir_commands.specs.Files.{LacksGuest};
+ghost use Rattle.ir_commands.specs.Searching.{HangHasNoOrder, RecordsHang, RecordsOutcome, RefusesUntil, SearchFinds, SearchesFile, SearchMisses, TellsNoSearch, TellsVain};
+ghost use Rattle.ir_commands.specs.Writing.{KeptAt, storing, texts_of_paths};
 
 use crate::conditions::conditions_of;
 use crate::ends::recorded_status;
@@ -28,6 +30,7 @@ fn paths(arguments: &UntilArguments) -> RecordingPaths<'_>
     ensures image { result.image.now ≡ string_bytes arguments.now.explore.image }
     ensures trace { result.trace.now ≡ string_bytes arguments.now.trace }
     ensures input { result.input.now ≡ arguments.now.explore.input }
+    ensures output { option_map (λ prefix. prefix.now) result.output ≡ arguments.now.output }
 {
     RecordingPaths {
         image: arguments.explore.image.as_str(),
@@ -59,13 +62,15 @@ where
     requires prints { O.broken out.old ≡ false }
     requires reports { E.broken faults.old ≡ false }
     ensures found { OnOk result (RecordsOutcome plan.now.image.now plan.now.explore plan.now.conditions.now
-        (λ bytes. Appends (W.written files.old.trace) (W.written files.new.trace) bytes)
+        (λ bytes printed. Appends (W.written files.old.trace) (W.written files.new.trace) bytes
+        × TookEach (output_writer_of (P.taken files.old.outputs) (P.taken files.new.outputs) (P.broken files.new.outputs)) printed)
         (writer_of (O.written out.old) (O.written out.new) (O.broken out.new))) }
     ensures none { IfErr result (λ answered. TellsVain false plan.now.image.now plan.now.explore plan.now.conditions.now answered
-        (writer_of (O.written out.old) (O.written out.new) (O.broken out.new)) ⊎ TellsNoSearch answered
+        (writer_of (O.written out.old) (O.written out.new) (O.broken out.new)) ⊎ TellsNoSearch (LacksGuest plan.now.image.now plan.now.explore.profile) answered
         (writer_of (E.written faults.old) (E.written faults.new) (E.broken faults.new))) }
     ensures whole { OnOk result (W.whole files.new.trace ≡ true) }
     ensures home { W.home files.new.trace ≡ W.home files.old.trace }
+    ensures places { P.home files.new.outputs ≡ P.home files.old.outputs }
 {
     explore_until(rt, plan, files, out, faults)
 }
@@ -90,13 +95,15 @@ where
     requires prints { O.broken out.old ≡ false }
     requires reports { E.broken faults.old ≡ false }
     ensures found { OnOk result (RecordsHang plan.now.image.now plan.now.explore
-        (λ bytes. Appends (W.written files.old.trace) (W.written files.new.trace) bytes)
+        (λ bytes printed. Appends (W.written files.old.trace) (W.written files.new.trace) bytes
+        × TookEach (output_writer_of (P.taken files.old.outputs) (P.taken files.new.outputs) (P.broken files.new.outputs)) printed)
         (writer_of (O.written out.old) (O.written out.new) (O.broken out.new))) }
     ensures none { IfErr result (λ answered. ((text : List ℕ) × IsHangAnswer plan.now.image.now plan.now.explore (Err answered) text
-        × Took (writer_of (O.written out.old) (O.written out.new) (O.broken out.new)) text) ⊎ TellsNoSearch answered
+        × Took (writer_of (O.written out.old) (O.written out.new) (O.broken out.new)) text) ⊎ TellsNoSearch (LacksGuest plan.now.image.now plan.now.explore.profile ⊎ HangHasNoOrder plan.now.image.now plan.now.explore) answered
         (writer_of (E.written faults.old) (E.written faults.new) (E.broken faults.new))) }
     ensures whole { OnOk result (W.whole files.new.trace ≡ true) }
     ensures home { W.home files.new.trace ≡ W.home files.old.trace }
+    ensures places { P.home files.new.outputs ≡ P.home files.old.outputs }
 {
     explore_hang(rt, plan, files, out, faults)
 }
@@ -118,10 +125,10 @@ where
     requires writes { O.broken out.old ≡ false }
     requires reports { E.broken faults.old ≡ false }
     ensures found { OnOk result (RecordsOutcome plan.now.image.now plan.now.explore plan.now.conditions.now
-        (λ bytes. IsStored D.known (D.knows around.now.folder.now) (D.was_put around.now.folder.now) places.entry.trace.now bytes)
+        (KeptAt (storing D.known D.known_closed (D.knows around.now.folder.now) (D.was_put around.now.folder.now)) places.entry.trace.now (texts_of_paths places.entry.outputs))
         (writer_of (O.written out.old) (O.written out.new) (O.broken out.new))) }
     ensures none { IfErr result (λ answered. TellsVain false plan.now.image.now plan.now.explore plan.now.conditions.now answered
-        (writer_of (O.written out.old) (O.written out.new) (O.broken out.new)) ⊎ TellsNoSearch answered
+        (writer_of (O.written out.old) (O.written out.new) (O.broken out.new)) ⊎ TellsNoSearch (LacksGuest plan.now.image.now plan.now.explore.profile) answered
         (writer_of (E.written faults.old) (E.written faults.new) (E.broken faults.new))) }
 {
     let Surroundings { rt, folder, .. } = *around;
@@ -146,10 +153,10 @@ where
     requires writes { O.broken out.old ≡ false }
     requires reports { E.broken faults.old ≡ false }
     ensures found { OnOk result (RecordsHang plan.now.image.now plan.now.explore
-        (λ bytes. IsStored D.known (D.knows around.now.folder.now) (D.was_put around.now.folder.now) places.entry.trace.now bytes)
+        (KeptAt (storing D.known D.known_closed (D.knows around.now.folder.now) (D.was_put around.now.folder.now)) places.entry.trace.now (texts_of_paths places.entry.outputs))
         (writer_of (O.written out.old) (O.written out.new) (O.broken out.new))) }
     ensures none { IfErr result (λ answered. TellsVain true plan.now.image.now plan.now.explore plan.now.conditions.now answered
-        (writer_of (O.written out.old) (O.written out.new) (O.broken out.new)) ⊎ TellsNoSearch answered
+        (writer_of (O.written out.old) (O.written out.new) (O.broken out.new)) ⊎ TellsNoSearch (LacksGuest plan.now.image.now plan.now.explore.profile ⊎ HangHasNoOrder plan.now.image.now plan.now.explore) answered
         (writer_of (E.written faults.old) (E.written faults.new) (E.broken faults.new))) }
 {
     let Surroundings { rt, folder, .. } = *around;
@@ -172,10 +179,10 @@ fn found_by<R: Clock + AllocGlobal, D: Folder, G: Observer, O: Sink, E: Sink>(
     requires writes { O.broken out.old ≡ false }
     requires reports { E.broken faults.old ≡ false }
     ensures found { OnOk result (SearchFinds (D.bytes_at around.now.folder.now)
-        (λ place bytes. IsStored D.known (D.knows around.now.folder.now) (D.was_put around.now.folder.now) place bytes) arguments.now
+        (storing D.known D.known_closed (D.knows around.now.folder.now) (D.was_put around.now.folder.now)) arguments.now
         (writer_of (O.written out.old) (O.written out.new) (O.broken out.new))) }
     ensures none { IfErr result (λ answered. SearchMisses (D.bytes_at around.now.folder.now) arguments.now answered
-        (writer_of (O.written out.old) (O.written out.new) (O.broken out.new)) ⊎ TellsNoSearch answered
+        (writer_of (O.written out.old) (O.written out.new) (O.broken out.new)) ⊎ TellsNoSearch (RefusesUntil (D.bytes_at around.now.folder.now) arguments.now) answered
         (writer_of (E.written faults.old) (E.written faults.new) (E.broken faults.new))) }
 {
     let (alloc, folder) = (around.rt.alloc(), around.folder);
@@ -212,7 +219,7 @@ pub fn until_file<R: Clock + AllocGlobal, D: Folder, G: Observer, O: Sink, E: Si
 ) -> ExitStatus
     requires writes { O.broken out.old ≡ false }
     requires reports { E.broken faults.old ≡ false }
-    ensures { SearchesFile (D.bytes_at around.now.folder.now) (λ place bytes. IsStored D.known (D.knows around.now.folder.now) (D.was_put around.now.folder.now) place bytes)
+    ensures { SearchesFile (D.bytes_at around.now.folder.now) (storing D.known D.known_closed (D.knows around.now.folder.now) (D.was_put around.now.folder.now))
         arguments.now result (writer_of (O.written out.old) (O.written out.new) (O.broken out.new)) (writer_of (E.written faults.old) (E.written faults.new) (E.broken faults.new)) }
 {
     let found = found_by(around, arguments, out, faults);

@@ -4,7 +4,7 @@ ghost use Rattle.std.specs.Prelude.{◌≡◌, ◌⊎◌, false};
 ghost use Rattle.ir_files.specs.Writers.{writer_of};
 ghost use Rattle.ir_files.specs.declared.exit_status.ExitStatus.TheVariants as status;
 ghost use Rattle.ir_trace.specs.Recorded.{recorded_at};
-ghost use Rattle.ir_picture.specs.Answers.{IsViewAnswer, IsViewUnanswered, view_status, view_fault_words};
+ghost use Rattle.ir_picture.specs.Answers.{IsViewAnswer, IsViewUnanswered};
 ghost use Rattle.ir_run_picture.specs.Answers.{IsRunViewAnswer, IsRunViewUnanswered};
 ghost use Rattle.ir_commands.specs.Files.{IsUnread};
 ghost use Rattle.ir_commands.specs.Printing.{PrintedIfThere, PrintsView, form_asked, view_asked, LeavesUnread};
@@ -13,8 +13,10 @@ use crate::explaining::{THE_TRACE, explain_files, explain_trace};
 use crate::files::{bytes_of, image_in, say};
 use ir_arguments::ViewArguments;
 use ir_files::{ExitStatus, Folder, MOST_FILE_BYTES};
-use ir_picture::{Around, Asked, Form, view_run};
-use ir_run_picture::view_fit_run;
+use ir_opened::ask_run;
+use ir_past::ask_trace;
+use ir_picture::{Around, Asked, Form};
+use ir_run_picture::RunView;
 use ir_stream::Sink;
 use std::alloc::Global;
 
@@ -66,12 +68,12 @@ fn of_trace<O: Sink, E: Sink>(
 ) -> ExitStatus
     requires writes { O.broken out.old ≡ false }
     requires reports { E.broken faults.old ≡ false }
-    ensures prints { PrintedIfThere view_status view_fault_words (IsViewAnswer asked.now (recorded_at trace.now))
+    ensures prints { PrintedIfThere (IsViewAnswer asked.now (recorded_at trace.now))
         (IsViewUnanswered asked.now (recorded_at trace.now)) result
         (writer_of (O.written out.old) (O.written out.new) (O.broken out.new)) (writer_of (E.written faults.old) (E.written faults.new) (E.broken faults.new)) }
     ensures quiet { result ≡ status.Done → faults.new ≡ faults.old }
 {
-    let status = view_run(alloc, trace, asked, out, faults);
+    let status = ask_trace(alloc, trace, asked, out, faults);
     if status == ExitStatus::NotFit {
         say(faults, NO_PICTURE, "", "");
     } else {
@@ -91,12 +93,12 @@ fn of_run<O: Sink, E: Sink>(
 ) -> ExitStatus
     requires writes { O.broken out.old ≡ false }
     requires reports { E.broken faults.old ≡ false }
-    ensures prints { PrintedIfThere view_status view_fault_words (IsRunViewAnswer asked.now image.now trace.now)
+    ensures prints { PrintedIfThere (IsRunViewAnswer asked.now image.now trace.now)
         (IsRunViewUnanswered asked.now image.now trace.now) result
         (writer_of (O.written out.old) (O.written out.new) (O.broken out.new)) (writer_of (E.written faults.old) (E.written faults.new) (E.broken faults.new)) }
     ensures quiet { result ≡ status.Done → faults.new ≡ faults.old }
 {
-    let status = view_fit_run(alloc, image, trace, asked, out, faults);
+    let status = ask_run(alloc, image, trace, &RunView { asked }, out, faults);
     if status == ExitStatus::NotFit {
         say(faults, NO_PICTURE_OF_RUN, "", "");
     } else {

@@ -3,19 +3,15 @@
 ghost use Rattle.std.specs.Prelude.{◌≡◌, ◌⊎◌, false};
 ghost use Rattle.ir_files.specs.Writers.{writer_of};
 ghost use Rattle.ir_files.specs.declared.exit_status.ExitStatus.TheVariants as status;
-ghost use Rattle.ir_trace.specs.Recorded.{recorded_at};
-ghost use Rattle.ir_past.specs.Answers.{IsAnswerOf};
-ghost use Rattle.ir_who.specs.Lines.{IsWhoAnswer, IsWhoUnanswered, who_status, who_fault_words};
 ghost use Rattle.ir_commands.specs.Files.{IsUnread};
-ghost use Rattle.ir_commands.specs.Printing.{PrintedIfThere, PrintsVersions, PrintsWho, who_asked, LeavesUnread};
+ghost use Rattle.ir_commands.specs.Printing.{PrintsVersions, PrintsWho, who_asked, LeavesUnread};
 
-use crate::explaining::{THE_TRACE, explain_files, explain_trace};
+use crate::asking::{answer_of_run, answer_of_trace};
 use crate::files::{bytes_of, image_in};
 use ir_arguments::WhoArguments;
 use ir_files::{ExitStatus, Folder, MOST_FILE_BYTES};
 use ir_stream::Sink;
-use ir_who::{Question, who_fit_run, who_run};
-use ir_who_word::word_fit_run;
+use ir_who::Question;
 use std::alloc::Global;
 
 // What the arguments ask about versions.
@@ -28,52 +24,7 @@ fn question(arguments: &WhoArguments) -> Question
     }
 }
 
-// Prints the versions of an object of a trace.
-fn of_trace<O: Sink, E: Sink>(
-    alloc: Global,
-    trace: &[u8],
-    arguments: &WhoArguments,
-    out: &mut O,
-    faults: &mut E,
-) -> ExitStatus
-    requires writes { O.broken out.old ≡ false }
-    requires reports { E.broken faults.old ≡ false }
-    ensures prints { PrintedIfThere who_status who_fault_words (IsAnswerOf (IsWhoAnswer (who_asked arguments.now)) (recorded_at trace.now))
-        (IsWhoUnanswered (who_asked arguments.now) (recorded_at trace.now)) result
-        (writer_of (O.written out.old) (O.written out.new) (O.broken out.new)) (writer_of (E.written faults.old) (E.written faults.new) (E.broken faults.new)) }
-    ensures quiet { result ≡ status.Done → faults.new ≡ faults.old }
-{
-    let status = who_run(alloc, trace, &question(arguments), out, faults);
-    explain_trace(alloc, THE_TRACE, trace, status, faults);
-    status
-}
-
-// Prints those of a run of the image with their steps, or those in which a word changed.
-fn versions_of<O: Sink, E: Sink>(
-    alloc: Global,
-    image: &[u8],
-    trace: &[u8],
-    arguments: &WhoArguments,
-    out: &mut O,
-    faults: &mut E,
-) -> ExitStatus
-    requires writes { O.broken out.old ≡ false }
-    requires reports { E.broken faults.old ≡ false }
-    ensures prints { PrintsVersions image.now trace.now arguments.now result
-        (writer_of (O.written out.old) (O.written out.new) (O.broken out.new)) (writer_of (E.written faults.old) (E.written faults.new) (E.broken faults.new)) }
-    ensures quiet { result ≡ status.Done → faults.new ≡ faults.old }
-{
-    let Some(word) = arguments.word else {
-        return who_fit_run(alloc, image, trace, &question(arguments), out, faults);
-    };
-    let asked = ir_who_word::Question {
-        object: arguments.object,
-        word,
-    };
-    word_fit_run(alloc, image, trace, &asked, out, faults)
-}
-
-// The same, and reports why no run of the image has the trace.
+// Prints the versions of an object of a run of the image with their steps, or those in which a word changed.
 fn of_run<O: Sink, E: Sink>(
     alloc: Global,
     image: &[u8],
@@ -88,9 +39,14 @@ fn of_run<O: Sink, E: Sink>(
         (writer_of (O.written out.old) (O.written out.new) (O.broken out.new)) (writer_of (E.written faults.old) (E.written faults.new) (E.broken faults.new)) }
     ensures quiet { result ≡ status.Done → faults.new ≡ faults.old }
 {
-    let status = versions_of(alloc, image, trace, arguments, out, faults);
-    explain_files(alloc, image, trace, status, faults);
-    status
+    let Some(word) = arguments.word else {
+        return answer_of_run(alloc, image, trace, &question(arguments), out, faults);
+    };
+    let asked = ir_who_word::Question {
+        object: arguments.object,
+        word,
+    };
+    answer_of_run(alloc, image, trace, &asked, out, faults)
 }
 
 /// Prints the versions of an object of the trace in a file, with an image their steps too, or those in which a word of it changed. If there is
@@ -116,7 +72,7 @@ pub fn who_file<D: Folder, O: Sink, E: Sink>(
     };
     let trace = trace.as_slice();
     let Some(image) = &arguments.image else {
-        return of_trace(alloc, trace, arguments, out, faults);
+        return answer_of_trace(alloc, trace, &question(arguments), out, faults);
     };
     match image_in(alloc, folder, faults, image.as_str()) {
         Ok(image) => of_run(alloc, image.as_slice(), trace, arguments, out, faults),

@@ -3,20 +3,15 @@
 ghost use Rattle.std.specs.Prelude.{◌≡◌, ◌⊎◌, false};
 ghost use Rattle.ir_files.specs.Writers.{writer_of};
 ghost use Rattle.ir_files.specs.declared.exit_status.ExitStatus.TheVariants as status;
-ghost use Rattle.ir_trace.specs.Recorded.{recorded_at};
-ghost use Rattle.ir_opened.specs.Answers.{IsFitAnswerOf};
-ghost use Rattle.ir_picture.specs.Answers.{view_status, view_fault_words};
-ghost use Rattle.ir_why.specs.Answers.{IsWhyAnswer, IsWhyUnanswered};
-ghost use Rattle.ir_why.specs.FitAnswers.{IsFitReason, IsWhyFitUnanswered, why_status, why_fault_words};
 ghost use Rattle.ir_commands.specs.Files.{IsUnread};
-ghost use Rattle.ir_commands.specs.Printing.{PrintedIfThere, PrintsWhy, why_asked, why_asked_at, LeavesUnread};
+ghost use Rattle.ir_commands.specs.Printing.{PrintsWhy, why_asked, LeavesUnread};
 
-use crate::explaining::{THE_TRACE, explain_files, explain_trace};
+use crate::asking::{answer_of_run, answer_of_trace};
 use crate::files::{bytes_of, image_in};
 use ir_arguments::WhyArguments;
 use ir_files::{ExitStatus, Folder, MOST_FILE_BYTES};
 use ir_stream::Sink;
-use ir_why::{FitQuestion, Question, why_fit_run, why_run};
+use ir_why::{FitQuestion, Question};
 use std::alloc::Global;
 
 // What the arguments ask about an event.
@@ -28,47 +23,6 @@ fn question(arguments: &WhyArguments) -> Question
         event: arguments.event,
         most: arguments.lines,
     }
-}
-
-// Prints why an event of a trace came when it did.
-fn of_trace<O: Sink, E: Sink>(
-    alloc: Global,
-    trace: &[u8],
-    asked: &Question,
-    out: &mut O,
-    faults: &mut E,
-) -> ExitStatus
-    requires writes { O.broken out.old ≡ false }
-    requires reports { E.broken faults.old ≡ false }
-    ensures prints { PrintedIfThere view_status view_fault_words (IsWhyAnswer asked.now (recorded_at trace.now))
-        (IsWhyUnanswered asked.now (recorded_at trace.now)) result
-        (writer_of (O.written out.old) (O.written out.new) (O.broken out.new)) (writer_of (E.written faults.old) (E.written faults.new) (E.broken faults.new)) }
-    ensures quiet { result ≡ status.Done → faults.new ≡ faults.old }
-{
-    let status = why_run(alloc, trace, asked, out, faults);
-    explain_trace(alloc, THE_TRACE, trace, status, faults);
-    status
-}
-
-// The same in a run of the image, with its steps.
-fn of_run<O: Sink, E: Sink>(
-    alloc: Global,
-    image: &[u8],
-    trace: &[u8],
-    asked: &FitQuestion,
-    out: &mut O,
-    faults: &mut E,
-) -> ExitStatus
-    requires writes { O.broken out.old ≡ false }
-    requires reports { E.broken faults.old ≡ false }
-    ensures prints { PrintedIfThere why_status why_fault_words (IsFitAnswerOf (IsFitReason asked.now) image.now trace.now)
-        (IsWhyFitUnanswered asked.now image.now trace.now) result
-        (writer_of (O.written out.old) (O.written out.new) (O.broken out.new)) (writer_of (E.written faults.old) (E.written faults.new) (E.broken faults.new)) }
-    ensures quiet { result ≡ status.Done → faults.new ≡ faults.old }
-{
-    let status = why_fit_run(alloc, image, trace, asked, out, faults);
-    explain_files(alloc, image, trace, status, faults);
-    status
 }
 
 /// Prints why an event of the trace in a file came when it did, with an image by which steps; the cut that is asked about is taken out of the
@@ -95,7 +49,7 @@ pub fn why_file<D: Folder, O: Sink, E: Sink>(
     let trace = trace.as_slice();
     let what = question(arguments);
     let Some(image) = &arguments.image else {
-        return of_trace(alloc, trace, &what, out, faults);
+        return answer_of_trace(alloc, trace, &what, out, faults);
     };
     let image = match image_in(alloc, folder, faults, image.as_str()) {
         Ok(image) => image,
@@ -105,5 +59,5 @@ pub fn why_file<D: Folder, O: Sink, E: Sink>(
         what,
         at: arguments.at.take(),
     };
-    of_run(alloc, image.as_slice(), trace, &asked, out, faults)
+    answer_of_run(alloc, image.as_slice(), trace, &asked, out, faults)
 }

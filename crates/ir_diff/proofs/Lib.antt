@@ -3,3 +3,4 @@ mod Parts
 mod Needed
 mod ThreadTexts
 mod Written
+mod Statuses

@@ -1,7 +1,6 @@
 -- What the table of write entries says of a part.
 use Rattle.std.proofs.Common.{◌≡◌, ◌≢◌, ℕ, suc, ◌<◌, inl, Bool, true, false, Some, None, sym, ap, ◌∙◌, subst, arith}
 use Rattle.std.proofs.lemmas.Bool.{false≢true, true≢false}
-use Rattle.ir_log.specs.declared.event.Event.TheVariants as variant
 use Rattle.ir_trace.specs.Recorded.{Recorded}
 use Rattle.ir_past.specs.Past.{IsWriteAt}
 use Rattle.ir_past.specs.Tables.{maker_in}

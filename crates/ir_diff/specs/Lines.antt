@@ -13,6 +13,7 @@ use Rattle.ir_files.specs.declared.exit_status.ExitStatus.TheVariants as status
 use Rattle.ir_past.specs.Past.{event_at, IsMadeBy}
 use Rattle.ir_past.specs.Naming.{maker_text}
 use Rattle.ir_past.specs.Answers.{AreCoherent, IsRefusal}
+use Rattle.ir_past.specs.Replies.{IsTraceReply}
 use Rattle.ir_past.specs.declared.place.Place.{Place}
 use Rattle.ir_diff.specs.Common.{Tells, AreCommon, IsThreadReady}
 
@@ -111,5 +112,4 @@ IsSecondAnswer a read answered text =
 
 -- the answer about two texts of bytes: if one is no coherent trace, it is refused, the first one first
 abbrev pub IsDiffAnswer : Result Recorded TraceErr → Result Recorded TraceErr → ExitStatus → List ℕ → Type 0
-IsDiffAnswer one two answered text =
-    ((a : Recorded) × (one ≡ Ok a) × AreCoherent a × IsSecondAnswer a two answered text) ⊎ IsRefusal one answered text
+IsDiffAnswer one two = IsTraceReply (λ a. IsSecondAnswer a two) one

@@ -9,4 +9,4 @@ mod run;
 mod texts;
 
 pub use common::common_part;
-pub use run::diff_run;
+pub use run::Difference;

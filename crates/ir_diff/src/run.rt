@@ -1,19 +1,18 @@
-//! `ir diff`: the bytes of two traces in, what they have in common out.
+//! `ir diff`: what two traces have in common.
 
-ghost use Rattle.std.specs.Prelude.{◌≡◌, ◌≢◌, Ok, IfOk, IfErr, OnOk, length, false};
+ghost use Rattle.std.specs.Prelude.{◌≡◌, IfOk, IfErr, OnOk, length, false};
 ghost use Rattle.std.specs.Io.KnownBytes.{Appends};
 ghost use Rattle.ir_trace.specs.Recorded.{recorded_at};
-ghost use Rattle.ir_files.specs.Writers.{writer_of, Reports, fault_text};
+ghost use Rattle.ir_files.specs.Writers.{writer_of};
 ghost use Rattle.ir_files.specs.declared.exit_status.ExitStatus.TheVariants as status;
-ghost use Rattle.ir_past.specs.Answers.{AreCoherent, Answered, NotAnswered, Stops, fault_words};
-ghost use Rattle.ir_past.specs.declared.past_err.PastErr.{PastErr};
-ghost use Rattle.ir_diff.specs.Lines.{differing_header_line, IsDiff, IsPairAnswer, IsSecondAnswer, IsDiffAnswer};
+ghost use Rattle.ir_past.specs.Answers.{AreCoherent, Answered, NotAnswered, Stops};
+ghost use Rattle.ir_diff.specs.Lines.{differing_header_line, IsDiff, IsPairAnswer, IsSecondAnswer};
 
 use crate::common::common_part;
 use crate::lines::header_line;
 use crate::texts::{Side, diff_text};
-use ir_files::{ExitStatus, tell};
-use ir_past::{Opened, PastErr, makers_of, open_trace, refuse};
+use ir_files::ExitStatus;
+use ir_past::{AskErr, Opened, PastErr, TraceQuestion, makers_of, open_trace, refuse};
 use ir_stream::{Sink, write_all};
 use ir_trace::Trace;
 use std::alloc::{AllocError, Global};
@@ -97,49 +96,26 @@ fn show_second<O: Sink>(
     }
 }
 
-// Writes the answer about the bytes of two traces.
-fn show<O: Sink>(
-    alloc: Global,
-    first: &[u8],
-    second: &[u8],
-    out: &mut O,
-) -> Result<ExitStatus, PastErr>
-    requires { O.broken out.old ≡ false }
-    ensures ok { IfOk result (λ answered. Answered (IsDiffAnswer (recorded_at first.now) (recorded_at second.now)) answered (writer_of (O.written out.old) (O.written out.new) (O.broken out.new))) }
-    ensures fails { IfErr result (λ e. NotAnswered (IsDiffAnswer (recorded_at first.now) (recorded_at second.now)) e (writer_of (O.written out.old) (O.written out.new) (O.broken out.new))) }
-{
-    match open_trace(alloc, first)? {
-        Opened::Coherent(a) => show_second(alloc, &a, second, out),
-        Opened::Refused(why) => refuse(alloc, &why, out),
-    }
+/// What a trace and the bytes of a second one have in common: it is answered by how many events of each thread, and for each thread that differs what
+/// each trace has there; or by the line that says why the second one is no coherent trace, or that the traces have another number of threads
+/// or objects.
+#[derive(Clone, Copy)]
+pub struct Difference<'a> {
+    /// The bytes of the second trace.
+    pub second: &'a [u8],
 }
 
-/// Writes what the bytes of two traces have in common: how many events of each thread, and for each thread that differs what each trace
-/// has there. The exit status is `Done` if these lines were written. It is `Refused` if bytes are no trace, and `NotFit` if a trace is
-/// incoherent or the traces have another number of threads or objects; then the line that says so was written. It is `Failed` if memory
-/// ran out or the writer failed, with a prefix written at most and the fault reported in one line.
-pub fn diff_run<O: Sink, E: Sink>(
-    alloc: Global,
-    first: &[u8],
-    second: &[u8],
-    out: &mut O,
-    faults: &mut E,
-) -> ExitStatus
-    requires writes { O.broken out.old ≡ false }
-    requires reports { E.broken faults.old ≡ false }
-    // The answer was written, and no fault reported.
-    ensures done { result ≢ status.Failed
-        → Answered (IsDiffAnswer (recorded_at first.now) (recorded_at second.now)) result (writer_of (O.written out.old) (O.written out.new) (O.broken out.new)) × (faults.new ≡ faults.old) }
-    // Else what stopped it, what that leaves, and that it is reported.
-    ensures stopped { result ≡ status.Failed → (e : PastErr)
-        × NotAnswered (IsDiffAnswer (recorded_at first.now) (recorded_at second.now)) e (writer_of (O.written out.old) (O.written out.new) (O.broken out.new))
-        × Reports (writer_of (E.written faults.old) (E.written faults.new) (E.broken faults.new)) (fault_text (fault_words e)) }
-{
-    match show(alloc, first, second, out) {
-        Ok(answered) => answered,
-        Err(why) => {
-            tell(faults, why.words());
-            ExitStatus::Failed
-        }
+impl<'a> TraceQuestion for Difference<'a> {
+    ghost is_answer = { λ asked a. IsSecondAnswer a (recorded_at asked.second.now) };
+
+    ghost is_absent = { λ _ _ _. ⊥ };
+
+    fn print<O: Sink>(
+        &self,
+        alloc: Global,
+        trace: &Trace,
+        out: &mut O,
+    ) -> Result<ExitStatus, AskErr> {
+        Ok(show_second(alloc, trace, self.second, out)?)
     }
 }

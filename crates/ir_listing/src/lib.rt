@@ -5,4 +5,4 @@ mod code;
 mod events;
 
 pub use code::list_report;
-pub use events::events_run;
+pub use events::EventsQuestion;

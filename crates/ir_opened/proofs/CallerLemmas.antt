@@ -1,8 +1,6 @@
 -- What callers may cite of bytes that are opened as a guest and a trace of one of its runs.
 -- the trace of a run is coherent
 pub use Rattle.ir_opened.proofs.Coherent.{run_trace_is_coherent}
--- answers that say why bytes don't fit, and that no answer leaves the status of a failure or of bad arguments
-pub use Rattle.ir_opened.proofs.Shown.{fit_refusal_is_answered, unfit_status_no_failure, fit_answered_not_failed}
 -- where the events of a thread are among its steps, and the leaves of what it entered
 pub use Rattle.ir_opened.proofs.Leaves.{recorded_is_inside, inside_below_events, entry_position_fits_64, leave_is_past_event}
 pub use Rattle.ir_opened.proofs.Leaves.{leave_is_within_thread, leave_position_fits_64, leave_of_read_emits, leave_of_write_emits}

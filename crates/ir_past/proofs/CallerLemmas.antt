@@ -7,7 +7,8 @@ pub use Rattle.ir_past.proofs.Noted.{entered_was_made, below_write_was_made, wri
 -- one write entry is at a version, the one that is noted
 pub use Rattle.ir_past.proofs.Noted.{version_writer_unique, noted_writer_is_unique}
 -- answers that are written, aren't begun or are stopped, and those that say why bytes are no coherent trace
-pub use Rattle.ir_past.proofs.Shown.{answered_if_written, no_memory_no_answer, not_answered_if_stopped, refusal_is_answered, refusal_is_no_failure}
+pub use Rattle.ir_past.proofs.Shown.{answered_if_written, no_memory_no_answer, not_answered_if_stopped, reply_if_answered, refusal_is_answered}
+pub use Rattle.ir_past.proofs.Shown.{refusal_status_is_answer, answer_status_no_failure}
 -- steps of a run: what they log, and what they do to an object that they enter, leave or pass by
 pub use Rattle.ir_past.proofs.Returning.{Enters, logged_count, log_of_own_step, log_of_other_step, target_after_step}
 pub use Rattle.ir_past.proofs.Returning.{other_object_after_step, IsEntering, entry_label_is_entering, exiting_is_inside}

@@ -60,18 +60,6 @@ pub record IsRefusal (read : Result Recorded TraceErr) (answered : ExitStatus) (
   pub status : answered ≡ refusal_status why
   pub line : text ≡ trace_refusal_text why
 
--- the answer to a coherent trace, which is one such as these
-pub record IsTraceAnswer (IsAnswer : Recorded → List ℕ → Type 0) (read : Result Recorded TraceErr) (answered : ExitStatus) (text : List ℕ) : Type 0 where
-  pub trace : Recorded
-  pub is_trace : read ≡ Ok trace
-  pub coherent : AreCoherent trace
-  pub status : answered ≡ status.Done
-  pub answer : IsAnswer trace text
-
--- the exit status and the text that bytes are answered by
-abbrev pub IsAnswerOf : (Recorded → List ℕ → Type 0) → Result Recorded TraceErr → ExitStatus → List ℕ → Type 0
-IsAnswerOf IsAnswer read answered text = IsTraceAnswer IsAnswer read answered text ⊎ IsRefusal read answered text
-
 -- an answer such as these was written whole
 pub record Answered (IsAnswer : ExitStatus → List ℕ → Type 0) (answered : ExitStatus) (w : Writer) : Type 0 where
   pub text : List ℕ

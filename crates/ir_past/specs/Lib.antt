@@ -2,6 +2,7 @@ pub mod Past
 pub mod Tables
 pub mod Progress
 pub mod Answers
+pub mod Replies
 pub mod Naming
 pub mod Lines
 pub mod Returning

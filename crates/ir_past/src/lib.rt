@@ -1,7 +1,10 @@
 //! What a recorded trace says of its past: which writes rest on a read that was written over.
 #![tactic(auto)]
 
+mod absent;
 mod answer;
+mod ask_err;
+mod asking;
 mod counts;
 mod last_reads;
 mod laws;
@@ -20,7 +23,10 @@ mod run;
 mod stale;
 mod stale_write;
 
+pub use absent::Absent;
 pub use answer::{Answer, line_answer, put_answer, put_bytes};
+pub use ask_err::AskErr;
+pub use asking::{TraceQuestion, ask_trace};
 pub use counts::write_count;
 pub use laws::{entries_left, returns_counted};
 pub use logs::{event_of, events_of, thread_count};
@@ -33,6 +39,6 @@ pub use past_err::PastErr;
 pub use place::Place;
 pub use readers::readers_of;
 pub use reads::{Reads, reads_of};
-pub use run::stale_run;
+pub use run::StaleQuestion;
 pub use stale::stale_writes;
 pub use stale_write::StaleWrite;

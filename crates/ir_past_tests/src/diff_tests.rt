@@ -2,7 +2,8 @@
 
 use crate::page::{ENDLESS, Page, empty_page};
 use crate::traces::{GOOD, LOST};
-use ir_diff::diff_run;
+use ir_diff::Difference;
+use ir_past::ask_trace;
 
 const PARTED: &[u8] = b"common 1 0
 thread 0 differs event 1 ready in 2
@@ -21,7 +22,13 @@ thread 1 same
 fn diff(rt: &HostRuntime, first: &[u8], second: &[u8]) -> (u8, Page, Page) {
     let mut out = empty_page(rt, 1000, ENDLESS);
     let mut faults = empty_page(rt, 1000, ENDLESS);
-    let status = diff_run(rt.alloc(), first, second, &mut out, &mut faults);
+    let status = ask_trace(
+        rt.alloc(),
+        first,
+        &Difference { second },
+        &mut out,
+        &mut faults,
+    );
     (status.number(), out, faults)
 }
 

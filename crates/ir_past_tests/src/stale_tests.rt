@@ -2,7 +2,7 @@
 
 use crate::page::{ENDLESS, Page, empty_page};
 use crate::traces::LOST;
-use ir_past::stale_run;
+use ir_past::{StaleQuestion, ask_trace};
 use std::test::Fail;
 
 const LINES: &[u8] = b"stale 1 of 2
@@ -25,7 +25,7 @@ const OWN: [u8; 86] = [
 fn stale(rt: &HostRuntime, trace: &[u8], most: usize, calls: u64) -> (u8, Page, Page) {
     let mut out = empty_page(rt, most, calls);
     let mut faults = empty_page(rt, most, ENDLESS);
-    let status = stale_run(rt.alloc(), trace, &mut out, &mut faults);
+    let status = ask_trace(rt.alloc(), trace, &StaleQuestion, &mut out, &mut faults);
     (status.number(), out, faults)
 }
 

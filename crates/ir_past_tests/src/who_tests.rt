@@ -2,7 +2,8 @@
 
 use crate::page::{ENDLESS, Page, empty_page};
 use crate::traces::LOST;
-use ir_who::{Question, who_run};
+use ir_past::ask_trace;
+use ir_who::Question;
 
 const OBJECT: &[u8] = b"object 0 versions 3
 version 0 by first words readers 2
@@ -24,7 +25,7 @@ last
 fn who(rt: &HostRuntime, trace: &[u8], asked: Question, calls: u64) -> (u8, Page, Page) {
     let mut out = empty_page(rt, 1000, calls);
     let mut faults = empty_page(rt, 1000, ENDLESS);
-    let status = who_run(rt.alloc(), trace, &asked, &mut out, &mut faults);
+    let status = ask_trace(rt.alloc(), trace, &asked, &mut out, &mut faults);
     (status.number(), out, faults)
 }
 

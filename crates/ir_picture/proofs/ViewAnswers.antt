@@ -1,36 +1,33 @@
 -- What is answered about a coherent trace.
-use Rattle.std.proofs.Common.{◌≡◌, ◌≤◌, ℕ, inl, inr, false, List, [], ◌∷◌, ◌++◌, codes, length, ap, ◌∙◌, Option, Ok, refl, sym, subst}
+use Rattle.std.proofs.Common.{◌≡◌, ◌≤◌, ℕ, inl, inr, true, false, List, [], ◌∷◌, ◌++◌, codes, length, ap, ◌∙◌, Option, Ok, refl, sym, subst}
 use Rattle.ir_trace.specs.Recorded.{Recorded}
 use Rattle.ir_files.specs.Writers.{Writer}
 use Rattle.ir_files.specs.declared.exit_status.ExitStatus.{ExitStatus}
 use Rattle.ir_files.specs.declared.exit_status.ExitStatus.TheVariants as status
-use Rattle.ir_past.specs.Answers.{AreCoherent, Answered, NotAnswered, Stops}
+use Rattle.ir_past.specs.Answers.{Answered, NotAnswered}
+use Rattle.ir_past.specs.Replies.{is_of_answer}
 use Rattle.ir_past.specs.declared.past_err.PastErr.{PastErr}
-use Rattle.ir_past.proofs.CallerLemmas.{not_answered_if_stopped}
-use Rattle.ir_picture.specs.Answers.{IsForm, page_head, page_tail, IsThereIn, IsPictureAnswer, IsViewAnswer, most_boxes}
+use Rattle.ir_picture.specs.Answers.{IsForm, page_head, page_tail, most_boxes}
 use Rattle.ir_picture.specs.Numbers.{rows_from, named_list, box_row, stale_row, data_start, thread_list, data_text}
 use Rattle.ir_picture.specs.Progress.{data_head, stale_head, data_rows}
 use Rattle.ir_picture.specs.declared.asked.Around.{Around}
+use Rattle.ir_picture.specs.declared.asked.Form.{Form}
 use Rattle.ir_picture.specs.declared.asked.Form.TheVariants as form
 use Rattle.ir_picture.proofs.Texts.{four_parts_framed, data_parts_with_end, data_parts_before_last}
 use Rattle.ir_picture.specs.Chrome.{AreSights, chrome_text, IsChromeAnswer}
-use Rattle.ir_picture.specs.declared.asked.Asked.{Asked}
 use Rattle.ir_picture.specs.declared.picture.Picture.{Picture}
 use Rattle.ir_past.specs.declared.stale_write.StaleWrite.{StaleWrite}
 use Rattle.ir_picture.specs.declared.placed_box.Point.{Point}
 use Rattle.ir_picture.specs.declared.placed_box.PlacedBox.{PlacedBox}
 use Rattle.ir_picture.specs.declared.sights.Sight.{Sight}
 
--- the answer about a coherent trace is one about its bytes
-pub trace_answer_is_view : (asked : Asked) (r : Recorded) (s : ExitStatus) (text : List ℕ) → AreCoherent r → IsThereIn r asked.around
-    → IsPictureAnswer asked r s text → IsViewAnswer asked (Ok r) s text
-trace_answer_is_view asked r s text coherent there is = inl (r, refl, coherent, there, is)
-
--- it was stopped
-pub stopped_view_no_answer : (asked : Asked) (r : Recorded) (s : ExitStatus) (text : List ℕ) (e : PastErr) (w : Writer) → AreCoherent r
-    → IsThereIn r asked.around → IsPictureAnswer asked r s text → Stops e w text → NotAnswered (IsViewAnswer asked (Ok r)) e w
-stopped_view_no_answer asked r s text e w coherent there is stops =
-    not_answered_if_stopped (IsViewAnswer asked (Ok r)) s text e w (trace_answer_is_view asked r s text coherent there is) stops
+-- a picture in a form has the status of an answer
+pub form_status_is_answer : (f : Form) (r : Recorded) (near : Option Around) (p : Picture) (s : ExitStatus) (text : List ℕ) → IsForm f r near p s text
+    → is_of_answer s ≡ true
+form_status_is_answer form.Page r near p s text (inl (few, same, is)) = ap is_of_answer same
+form_status_is_answer form.Page r near p s text (inr (many, same, is)) = ap is_of_answer same
+form_status_is_answer form.Data r near p s text (same, is) = ap is_of_answer same
+form_status_is_answer form.Chrome r near p s text (same, is) = ap is_of_answer same
 
 -- ---- answers that are answers of another kind
 

@@ -1,15 +1,16 @@
 -- What `ir view` writes.
-use Rattle.std.specs.Prelude.{◌≡◌, ℕ, ◌<◌, ◌≤◌, ◌⊎◌, ⊤, List, [], ◌∷◌, ◌++◌, codes, decimal, length, Option, Some, None, Result, Ok, false}
-use Rattle.std.specs.Io.KnownBytes.{Appends}
+use Rattle.std.specs.Prelude.{◌≡◌, ℕ, ◌<◌, ◌≤◌, ◌⊎◌, ⊤, List, [], ◌∷◌, ◌++◌, codes, decimal, length, Option, Some, None, Result}
 use Rattle.ir_trace.specs.Recorded.{Recorded, recorded_thread}
 use Rattle.ir_trace.specs.declared.trace_err.TraceErr.{TraceErr}
 use Rattle.ir_files.specs.Writers.{Writer}
 use Rattle.ir_files.specs.declared.exit_status.ExitStatus.{ExitStatus}
 use Rattle.ir_files.specs.declared.exit_status.ExitStatus.TheVariants as status
 use Rattle.ir_past.specs.Past.{AreStaleWrites}
-use Rattle.ir_past.specs.Answers.{AreCoherent, IsRefusal, NotAnswered, fault_words as unwritten_words}
+use Rattle.ir_past.specs.Replies.{IsTraceReply, IsTraceReplyless}
+use Rattle.ir_past.specs.declared.absent.Absent.{Absent}
+use Rattle.ir_past.specs.declared.absent.Absent.TheVariants as absent
+use Rattle.ir_past.specs.declared.ask_err.AskErr.{AskErr}
 use Rattle.ir_past.specs.declared.stale_write.StaleWrite.{StaleWrite}
-use Rattle.ir_past.specs.declared.past_err.PastErr.TheVariants.{NoMem}
 use Rattle.ir_picture.specs.Needs.{HasNoCircle, IsCircleAt}
 use Rattle.ir_picture.specs.Places.{AreBoxesPlaced}
 use Rattle.ir_picture.specs.Shown.{AreShown, shown_stale}
@@ -22,10 +23,6 @@ use Rattle.ir_picture.specs.declared.asked.Asked.{Asked}
 use Rattle.ir_picture.specs.declared.placed_box.PlacedBox.{PlacedBox}
 use Rattle.ir_picture.specs.declared.page.TheConstants.{HEAD_1, HEAD_2, TAIL_1, TAIL_2, TAIL_3, TAIL_4}
 use Rattle.ir_picture.specs.declared.picture.Picture.{Picture}
-use Rattle.ir_picture.specs.declared.view_err.Absent.{Absent}
-use Rattle.ir_picture.specs.declared.view_err.Absent.TheVariants as absent
-use Rattle.ir_picture.specs.declared.view_err.ViewErr.{ViewErr}
-use Rattle.ir_picture.specs.declared.view_err.ViewErr.TheVariants as view
 
 -- the picture of a trace, or the part of it that is asked for: its boxes with their places, its stale writes
 pub record IsPicture (r : Recorded) (near : Option Around) (p : Picture) : Type 0 where
@@ -83,43 +80,24 @@ IsPictureAnswer asked r answered text =
     ((t e : ℕ) × IsCircleAt r t e × (answered ≡ status.NotFit) × (text ≡ circle_line t e))
     ⊎ (HasNoCircle r × ((p : Picture) × IsPicture r asked.around p × IsForm asked.form r asked.around p answered text))
 
+-- the same where the event that a part is asked for around is there
+abbrev pub IsViewTold : Asked → Recorded → ExitStatus → List ℕ → Type 0
+IsViewTold asked r answered text = IsThereIn r asked.around × IsPictureAnswer asked r answered text
+
 -- the answer about bytes
 abbrev pub IsViewAnswer : Asked → Result Recorded TraceErr → ExitStatus → List ℕ → Type 0
-IsViewAnswer asked read answered text =
-    ((r : Recorded) × (read ≡ Ok r) × AreCoherent r × IsThereIn r asked.around × IsPictureAnswer asked r answered text) ⊎ IsRefusal read answered text
+IsViewAnswer asked = IsTraceReply (IsViewTold asked)
 
 -- the trace doesn't have the event that a part is asked for around
 abbrev pub IsAbsent : Option Around → Recorded → Absent → Type 0
 IsAbsent None r what = ⊥
 IsAbsent (Some near) r absent.Thread = length r.threads ≤ near.thread
 IsAbsent (Some near) r absent.Event = (near.thread < length r.threads) × (length (recorded_thread r near.thread).events ≤ near.event)
+IsAbsent (Some near) r what = ⊥
 
--- why there is no answer about a coherent trace
-abbrev pub IsViewUnsaid : Asked → Recorded → ViewErr → Type 0
-IsViewUnsaid asked r (view.Absent what) = IsAbsent asked.around r what
-IsViewUnsaid asked r (view.Unwritten e) = e ≡ NoMem
-
--- a part is asked for around an event that the trace doesn't have, and nothing was written
-pub record IsAroundNothing (asked : Asked) (read : Result Recorded TraceErr) (what : Absent) (w : Writer) : Type 0 where
-  pub trace : Recorded
-  pub is_trace : read ≡ Ok trace
-  pub coherent : AreCoherent trace
-  pub lacks : IsAbsent asked.around trace what
-  pub none : Appends w.before w.after []
-  pub works : w.failed ≡ false
+abbrev pub LacksAround : Asked → Recorded → Absent → Type 0
+LacksAround asked = IsAbsent asked.around
 
 -- why there is no answer about bytes, and what that leaves
-abbrev pub IsViewUnanswered : Asked → Result Recorded TraceErr → ViewErr → Writer → Type 0
-IsViewUnanswered asked read (view.Absent what) w = IsAroundNothing asked read what w
-IsViewUnanswered asked read (view.Unwritten e) w = NotAnswered (IsViewAnswer asked read) e w
-
--- the exit status where there is no answer
-abbrev pub view_status : ViewErr → ExitStatus
-view_status (view.Absent what) = status.BadArguments
-view_status (view.Unwritten e) = status.Failed
-
--- why there is none, in words
-abbrev pub view_fault_words : ViewErr → List ℕ
-view_fault_words (view.Absent absent.Thread) = codes "the trace has no thread of this number"
-view_fault_words (view.Absent absent.Event) = codes "the thread has no event of this number"
-view_fault_words (view.Unwritten e) = unwritten_words e
+abbrev pub IsViewUnanswered : Asked → Result Recorded TraceErr → AskErr → Writer → Type 0
+IsViewUnanswered asked = IsTraceReplyless (IsViewTold asked) (LacksAround asked)

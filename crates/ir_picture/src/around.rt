@@ -6,14 +6,13 @@ ghost use Rattle.ir_picture.specs.Placing.{events_of_all};
 ghost use Rattle.ir_picture.specs.Shown.{StartsAt, AreShown, is_near, is_shown, shown_stale};
 ghost use Rattle.ir_picture.specs.Answers.{IsThereIn, IsAbsent};
 ghost use Rattle.ir_picture.specs.declared.asked.Around.{Around};
-ghost use Rattle.ir_picture.specs.declared.view_err.Absent.{Absent};
-ghost use Rattle.ir_picture.specs.declared.view_err.ViewErr.TheVariants as view;
+ghost use Rattle.ir_past.specs.declared.absent.Absent.{Absent};
+ghost use Rattle.ir_past.specs.declared.ask_err.AskErr.TheVariants as ask;
 
 use crate::asked::Around;
 use crate::finding::{box_of, has_box};
 use crate::placed_box::PlacedBox;
-use crate::view_err::{Absent, ViewErr};
-use ir_past::{Place, StaleWrite};
+use ir_past::{Absent, AskErr, Place, StaleWrite};
 use ir_trace::Trace;
 use std::alloc::{AllocError, Global};
 
@@ -21,18 +20,18 @@ use std::alloc::{AllocError, Global};
 ///
 /// # Errors
 /// There is no such thread, or it has no such event.
-pub fn is_there(trace: &Trace, near: &Option<Around>) -> Result<(), ViewErr>
+pub fn is_there(trace: &Trace, near: &Option<Around>) -> Result<(), AskErr>
     ensures ok { OnOk result (IsThereIn trace.now near.now) }
-    ensures fails { IfErr result (λ e. (what : Absent) × (e ≡ view.Absent what) × IsAbsent near.now trace.now what) }
+    ensures fails { IfErr result (λ e. (what : Absent) × (e ≡ ask.Absent what) × IsAbsent near.now trace.now what) }
 {
     let Some(near) = near else {
         return Ok(());
     };
     let Some(thread) = trace.threads().get(near.thread as usize) else {
-        return Err(ViewErr::Absent(Absent::Thread));
+        return Err(AskErr::Absent(Absent::Thread));
     };
     if near.event as usize >= thread.log().events().len() {
-        return Err(ViewErr::Absent(Absent::Event));
+        return Err(AskErr::Absent(Absent::Event));
     }
     Ok(())
 }

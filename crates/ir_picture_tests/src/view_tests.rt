@@ -2,7 +2,8 @@
 
 use crate::page::{ENDLESS, Page, empty_page};
 use crate::traces::{CIRCLE, FOLDS, FOLDS_DATA, LOST, LOST_DATA};
-use ir_picture::{Around, Asked, Form, view_run};
+use ir_past::ask_trace;
+use ir_picture::{Around, Asked, Form};
 use std::alloc::{AllocError, Global};
 
 const PART: &str =
@@ -38,7 +39,7 @@ const CHROME: &str = "{\"traceEvents\":[
 fn view(rt: &HostRuntime, trace: &[u8], asked: Asked, calls: u64) -> (u8, Page, Page) {
     let mut out = empty_page(rt, 100_000, calls);
     let mut faults = empty_page(rt, 1000, ENDLESS);
-    let status = view_run(rt.alloc(), trace, &asked, &mut out, &mut faults);
+    let status = ask_trace(rt.alloc(), trace, &asked, &mut out, &mut faults);
     (status.number(), out, faults)
 }
 

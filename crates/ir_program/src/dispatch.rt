@@ -5,7 +5,7 @@ ghost use Rattle.std.specs.String.{string_bytes};
 ghost use Rattle.ir_files.specs.Writers.{writer_of};
 ghost use Rattle.ir_files.specs.declared.exit_status.ExitStatus.TheVariants as exit;
 ghost use Rattle.ir_commands.specs.Files.{TellsFault};
-ghost use Rattle.ir_files.specs.Given.{IsStored};
+ghost use Rattle.ir_commands.specs.Writing.{storing};
 ghost use Rattle.ir_program.specs.Doing.{Does, HeldBundle, HoldsSession, HoldsConnection, MakesImage, Prints, PrintsOutcomes, Shows};
 ghost use Rattle.ir_program.specs.Serving.{ServesWords};
 ghost use Rattle.ir_program.specs.Taking.{TakenReader};
@@ -101,7 +101,7 @@ fn make<R: AllocGlobal, D: Folder, G, E: Sink>(
     faults: &mut E,
 ) -> ExitStatus
     requires { E.broken faults.old ≡ false }
-    ensures { MakesImage (D.bytes_at around.now.folder.now) (λ place bytes. IsStored D.known (D.knows around.now.folder.now) (D.was_put around.now.folder.now) place bytes)
+    ensures { MakesImage (D.bytes_at around.now.folder.now) (storing D.known D.known_closed (D.knows around.now.folder.now) (D.was_put around.now.folder.now))
         what.now result }
 {
     let (alloc, folder) = (around.rt.alloc(), around.folder);
@@ -287,7 +287,7 @@ where
     requires reads { I.broken input ≡ false }
     requires writes { O.broken out.old ≡ false }
     requires reports { E.broken faults.old ≡ false }
-    ensures { Does (D.bytes_at around.now.folder.now) (λ place bytes. IsStored D.known (D.knows around.now.folder.now) (D.was_put around.now.folder.now) place bytes)
+    ensures { Does (D.bytes_at around.now.folder.now) (storing D.known D.known_closed (D.knows around.now.folder.now) (D.was_put around.now.folder.now))
         asked.old result (I.left input) (writer_of (O.written out.old) (O.written out.new) (O.broken out.new))
         (writer_of (E.written faults.old) (E.written faults.new) (E.broken faults.new)) (out.new ≡ out.old) }
 {
@@ -328,7 +328,7 @@ where
     requires reads { I.broken input ≡ false }
     requires writes { O.broken out.old ≡ false }
     requires reports { E.broken faults.old ≡ false }
-    ensures { ServesWords (D.bytes_at around.entry.folder.now) (λ place bytes. IsStored D.known (D.knows around.entry.folder.now) (D.was_put around.entry.folder.now) place bytes)
+    ensures { ServesWords (D.bytes_at around.entry.folder.now) (storing D.known D.known_closed (D.knows around.entry.folder.now) (D.was_put around.entry.folder.now))
         (map string_bytes invocation.now.arguments.now) result (I.left input) (writer_of (O.written out.old) (O.written out.new) (O.broken out.new))
         (writer_of (E.written faults.old) (E.written faults.new) (E.broken faults.new)) (out.new ≡ out.old) }
 {

@@ -2,7 +2,8 @@
 //! fails at each of its calls.
 
 use crate::device_tests::{ENDLESS, Page, empty_page};
-use ir_stale_run::rests_run;
+use ir_opened::ask_run;
+use ir_stale_run::RestsQuestion;
 use std::test::Fail;
 
 // A lost update: each of two threads reads a word in one entry, and puts one more in another.
@@ -42,7 +43,14 @@ fn listed(
 ) -> (u8, Page, Page) {
     let mut out = empty_page(rt, most, calls);
     let mut faults = empty_page(rt, most, ENDLESS);
-    let status = rests_run(rt.alloc(), image, trace, &mut out, &mut faults);
+    let status = ask_run(
+        rt.alloc(),
+        image,
+        trace,
+        &RestsQuestion,
+        &mut out,
+        &mut faults,
+    );
     (status.number(), out, faults)
 }
 

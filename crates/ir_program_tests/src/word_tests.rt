@@ -2,7 +2,8 @@
 
 use crate::device_tests::{ENDLESS, Page, empty_page};
 use crate::rests_tests::{IMAGE, TRACE};
-use ir_who_word::{Question, word_fit_run};
+use ir_opened::ask_run;
+use ir_who_word::Question;
 use std::test::Fail;
 
 // Version 2 has the word of version 1.
@@ -16,7 +17,7 @@ version 1 by thread 1 event 1 step 18 word 0 00000001
 fn listed(rt: &HostRuntime, asked: Question, most: usize, calls: u64) -> (u8, Page, Page) {
     let mut out = empty_page(rt, most, calls);
     let mut faults = empty_page(rt, most, ENDLESS);
-    let status = word_fit_run(rt.alloc(), &IMAGE, &TRACE, &asked, &mut out, &mut faults);
+    let status = ask_run(rt.alloc(), &IMAGE, &TRACE, &asked, &mut out, &mut faults);
     (status.number(), out, faults)
 }
 

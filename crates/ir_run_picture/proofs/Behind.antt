@@ -21,7 +21,7 @@ use Rattle.ir_picture.specs.declared.event_box.EventBox.{EventBox}
 use Rattle.ir_picture.specs.declared.placed_box.Point.{Point}
 use Rattle.ir_picture.specs.declared.placed_box.PlacedBox.{PlacedBox}
 use Rattle.ir_run_picture.specs.Steps.{IsLastStep}
-use Rattle.ir_run_picture.specs.Spans.{last_event, IsSpan}
+use Rattle.ir_run_picture.specs.Spans.{last_event, IsSpanOfBox}
 use Rattle.ir_run_picture.specs.Brief.{IsRunBox}
 use Rattle.ir_holds.specs.Held.{IsMark, MarkedBefore}
 use Rattle.ir_run_picture.specs.Held.{AreHeld}
@@ -52,7 +52,7 @@ last_step_is_past_event f t i k (Some (Write o v readers)) h = let past = leave_
 last_step_is_past_event f t i k (Some (Try o)) h = let same = same_Some k (event_entry f t i) h in omega (arith, same)
 
 -- what an event of a box entered is left by the box's last step
-pub leave_within_box_end : (f : FittedTrace) → HasRun f → (b : EventBox) (s : Span) → IsRunBox f b → IsSpan f b s → (j l : ℕ) → IsInBox b b.thread j
+pub leave_within_box_end : (f : FittedTrace) → HasRun f → (b : EventBox) (s : Span) → IsRunBox f b → IsSpanOfBox f b s → (j l : ℕ) → IsInBox b b.thread j
     → IsLeaveOf f b.thread j l → l ≤ s.last
 leave_within_box_end f h b s box go j l has left =
     let below = has.below in
@@ -104,7 +104,7 @@ placed_box_of_events boxes n b at =
 
 -- the steps of a box are there
 pub box_has_span_of_run : (f : FittedTrace) (boxes : List PlacedBox) (spans : List Span) (ends : List Point) → AreHeld f boxes spans ends → (n : ℕ)
-    (b : PlacedBox) → slice_get boxes n ≡ Some b → (s : Span) × (slice_get spans n ≡ Some s) × IsSpan f b.events s
+    (b : PlacedBox) → slice_get boxes n ≡ Some b → (s : Span) × (slice_get spans n ≡ Some s) × IsSpanOfBox f b.events s
 box_has_span_of_run f boxes spans ends h n b at =
     let none : Span = record { thread = 0; first = 0; last = 0 } in
     let size = h.go.size in

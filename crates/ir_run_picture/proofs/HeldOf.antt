@@ -12,11 +12,11 @@ use Rattle.ir_holds.specs.Checks.{HoldAll}
 use Rattle.ir_holds.specs.declared.held.HeldBoxes.{HeldBoxes}
 use Rattle.ir_holds.specs.declared.span.Span.{Span}
 use Rattle.ir_run_picture.specs.Brief.{AreRunBoxes}
-use Rattle.ir_run_picture.specs.Spans.{IsSpan}
+use Rattle.ir_run_picture.specs.Spans.{IsSpanOfBox}
 use Rattle.ir_run_picture.specs.Held.{HaveHeld}
 
 -- boxes that hold are those of a run, if their events and steps are
-pub held_boxes_are_of_run : (f : FittedTrace) (events : List EventBox) (spans : List Span) (h : HeldBoxes) → AreRunBoxes f events → ArePaired (IsSpan f) events spans
+pub held_boxes_are_of_run : (f : FittedTrace) (events : List EventBox) (spans : List Span) (h : HeldBoxes) → AreRunBoxes f events → ArePaired (IsSpanOfBox f) events spans
     → HoldAll f.recorded events spans h → HaveHeld f h.boxes.items h.ends.items
 held_boxes_are_of_run f events spans h are go hold = (
   spans,
@@ -33,6 +33,6 @@ held_boxes_are_of_run f events spans h are go hold = (
 )
 
 pub held_boxes_of_run : (f : FittedTrace) (r : Recorded) (events : List EventBox) (spans : List Span) (h : HeldBoxes) → r ≡ f.recorded
-    → AreRunBoxes f events → ArePaired (IsSpan f) events spans → HoldAll r events spans h → HaveHeld f h.boxes.items h.ends.items
+    → AreRunBoxes f events → ArePaired (IsSpanOfBox f) events spans → HoldAll r events spans h → HaveHeld f h.boxes.items h.ends.items
 held_boxes_of_run f r events spans h same are go hold =
     held_boxes_are_of_run f events spans h are go (subst (λ (q : Recorded). HoldAll q events spans h) same hold)

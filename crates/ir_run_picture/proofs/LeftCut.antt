@@ -26,7 +26,7 @@ use Rattle.ir_picture.specs.declared.placed_box.PlacedBox.{PlacedBox}
 use Rattle.ir_holds.specs.declared.span.Span.{Span}
 use Rattle.ir_run_picture.specs.Held.{AreHeld}
 use Rattle.ir_run_picture.specs.Laws.{IsMoment, LeftIsConsistent}
-use Rattle.ir_run_picture.specs.Spans.{IsSpan}
+use Rattle.ir_run_picture.specs.Spans.{IsSpanOfBox}
 use Rattle.ir_run_picture.proofs.Behind.{below_length_is_inside, leave_within_box_end, placed_box_of_events, box_has_span_of_run, held_box_is_of_run}
 use Rattle.ir_run_picture.proofs.Entered.{IsEntryFor, entering_step_has_event, leaving_step_has_entry}
 
@@ -128,7 +128,7 @@ record HasPlace (f : FittedTrace) (boxes : List PlacedBox) (spans : List Span) (
   there : slice_get boxes number ≡ Some box
   goes : slice_get spans number ≡ Some own
   has : IsInBox box.events t i
-  span : IsSpan f box.events own
+  span : IsSpanOfBox f box.events own
   thread : own.thread ≡ t
 
 event_has_box_and_place : (f : FittedTrace) (boxes : List PlacedBox) (spans : List Span) (ends : List Point) → AreHeld f boxes spans ends → (t i : ℕ)

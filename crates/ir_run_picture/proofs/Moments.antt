@@ -28,7 +28,7 @@ use Rattle.ir_cut.specs.Positions.{last_of, threads_of, machine_of, start_of}
 use Rattle.ir_run_picture.specs.Brief.{IsRunBox}
 use Rattle.ir_run_picture.specs.Held.{AreHeld}
 use Rattle.ir_run_picture.specs.Laws.{IsMoment}
-use Rattle.ir_run_picture.specs.Spans.{last_event, IsSpan}
+use Rattle.ir_run_picture.specs.Spans.{last_event, IsSpanOfBox}
 use Rattle.ir_run_picture.specs.Steps.{IsLastStep}
 use Rattle.ir_run_picture.proofs.Behind.{below_length_is_inside, held_box_is_of_run}
 
@@ -92,7 +92,7 @@ last_step_in_thread f h t i k inside (Some (Try o)) is last =
 pub record IsBoxOf (f : FittedTrace) (boxes : List PlacedBox) (spans : List Span) (t k x : ℕ) (m : IsMoment boxes spans t k x) : Type 0 where
   pub thread : m.box.events.thread ≡ t
   pub run : IsRunBox f m.box.events
-  pub span : IsSpan f m.box.events m.own
+  pub span : IsSpanOfBox f m.box.events m.own
   pub first : IsInside f t m.box.events.event
   pub last : IsInside f t (last_event m.box.events)
   pub has_first : IsInBox m.box.events t m.box.events.event

@@ -25,7 +25,7 @@ use Rattle.ir_holds.specs.Open.{AreRising}
 use Rattle.ir_holds.specs.Schedules.{IsSpotSchedule, HasSchedule}
 use Rattle.ir_holds.specs.declared.span.Span.{Span}
 use Rattle.ir_run_picture.specs.Steps.{IsLastStep}
-use Rattle.ir_run_picture.specs.Spans.{last_event, IsSpan}
+use Rattle.ir_run_picture.specs.Spans.{last_event, IsSpanOfBox}
 use Rattle.ir_run_picture.specs.Brief.{IsBrief, IsRunBox, AreRunBoxes}
 use Rattle.ir_run_picture.proofs.Places.{place_in, place_in_monotone}
 use Rattle.ir_run_picture.proofs.Ordered.{needed_is_left_before}
@@ -93,7 +93,7 @@ first_event_is_inside : (f : FittedTrace) → HasRun f → (b : EventBox) → Is
 first_event_is_inside f h b box =
     event_is_inside f h b.thread b.event (let within = box.within in let some = box.some in omega (arith, within, some))
 
-span_first_before_last : (f : FittedTrace) → HasRun f → (b : EventBox) (s : Span) → IsRunBox f b → IsSpan f b s → s.first ≤ s.last
+span_first_before_last : (f : FittedTrace) → HasRun f → (b : EventBox) (s : Span) → IsRunBox f b → IsSpanOfBox f b s → s.first ≤ s.last
 span_first_before_last f h b s box go =
     let later = earlier_entry_step_le f h b.thread (last_event b) b.event (last_event_is_inside f h b box) (let some = box.some in omega (arith, some)) in
     let past = last_step_past_entry f b.thread (last_event b) s.last (event_at f.recorded b.thread (last_event b)) go.last in
@@ -101,7 +101,7 @@ span_first_before_last f h b s box go =
     omega (arith, later, past, first)
 
 -- a box of several events ends before the thread's next event
-several_end_before_next : (f : FittedTrace) → HasRun f → (b : EventBox) (s : Span) → IsRunBox f b → IsSpan f b s → 1 < b.count → (i : ℕ)
+several_end_before_next : (f : FittedTrace) → HasRun f → (b : EventBox) (s : Span) → IsRunBox f b → IsSpanOfBox f b s → 1 < b.count → (i : ℕ)
     → IsInside f b.thread i → b.event + b.count ≤ i → s.last < event_entry f b.thread i
 several_end_before_next f h b s box go many i inside past =
     let before = b.event + (b.count - 2) in
@@ -183,7 +183,7 @@ box_need_is_early f b box u j (suc n) i low has needs = elim (cases_lt b.event i
 pub record AreGoing (f : FittedTrace) (events : List EventBox) (spans : List Span) : Type 0 where
   pub run : HasRun f
   pub boxes : AreRunBoxes f events
-  pub go : ArePaired (IsSpan f) events spans
+  pub go : ArePaired (IsSpanOfBox f) events spans
 
 -- the box of these steps
 span_has_box : (f : FittedTrace) (events : List EventBox) (spans : List Span) → AreGoing f events spans → (n : ℕ) (s : Span) → slice_get spans n ≡ Some s
@@ -341,7 +341,7 @@ needed_box_ends_before f events spans g m n a b s z is_a goes_s is_b goes_z need
     let same = ap (λ t. place_in run t left.0) go_a.thread in
     omega (arith, before, no_later, start, by, same)
   where
-    end_counts_by_leave : IsRunBox f a → IsSpan f a s → (l : ℕ) → IsLeaveOf f a.thread need.needed l → front_of events spans s.thread s.last ≤ l
+    end_counts_by_leave : IsRunBox f a → IsSpanOfBox f a s → (l : ℕ) → IsLeaveOf f a.thread need.needed l → front_of events spans s.thread s.last ≤ l
     end_counts_by_leave box_a go_a l left = elim (cases_lt 1 a.count) [
       | inl many ↦
           let front = front_of_box_end f events spans g m a s is_a goes_s many in
@@ -363,7 +363,7 @@ needed_box_ends_before f events spans g m n a b s z is_a goes_s is_b goes_z need
           omega (arith, front, last)
     ]
 
-pub run_has_schedule : (f : FittedTrace) (events : List EventBox) (spans : List Span) → IsFitted f → AreRunBoxes f events → ArePaired (IsSpan f) events spans
+pub run_has_schedule : (f : FittedTrace) (events : List EventBox) (spans : List Span) → IsFitted f → AreRunBoxes f events → ArePaired (IsSpanOfBox f) events spans
     → HasSchedule f.recorded events spans
 run_has_schedule f events spans fitted boxes go = (number_of fitted.run.run events spans, is)
   where
@@ -402,7 +402,7 @@ run_has_schedule f events spans fitted boxes go = (number_of fitted.run.run even
     }
 
 -- the boxes of a run come by rising thread and step
-pub run_spans_rise : (f : FittedTrace) (events : List EventBox) (spans : List Span) → IsFitted f → AreRunBoxes f events → ArePaired (IsSpan f) events spans → AreRising spans
+pub run_spans_rise : (f : FittedTrace) (events : List EventBox) (spans : List Span) → IsFitted f → AreRunBoxes f events → ArePaired (IsSpanOfBox f) events spans → AreRising spans
 run_spans_rise f events spans fitted boxes go k m s z less goes_s goes_z =
     let g : AreGoing f events spans = record { run = fitted.run; boxes = boxes; go = go } in
     let a = span_has_box f events spans g k s goes_s in

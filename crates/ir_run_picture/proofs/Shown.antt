@@ -4,8 +4,8 @@ use Rattle.std.proofs.lemmas.Bool.{cases_lt}
 use Rattle.ir_trace.specs.Recorded.{Recorded, recorded_thread}
 use Rattle.ir_fit.specs.Fit.{FittedTrace}
 use Rattle.ir_files.specs.declared.exit_status.ExitStatus.{ExitStatus}
-use Rattle.ir_opened.specs.Opened.{IsFit}
 use Rattle.ir_past.specs.Past.{IsRising, AreStaleWrites}
+use Rattle.ir_past.specs.Replies.{is_of_answer}
 use Rattle.ir_past.specs.declared.stale_write.StaleWrite.{StaleWrite}
 use Rattle.ir_stale_run.specs.Rests.{AreRests}
 use Rattle.ir_stale_run.specs.declared.rest.Rest.{Rest}
@@ -25,8 +25,9 @@ use Rattle.ir_run_picture.specs.Brief.{IsRunBox, AreRunBoxes}
 use Rattle.ir_run_picture.specs.Held.{AreHeld, HaveHeld}
 use Rattle.ir_run_picture.specs.Resting.{resting_writes, stale_of_rests}
 use Rattle.ir_run_picture.proofs.Kept.{kept_writes_are_rising}
-use Rattle.ir_picture.specs.Answers.{page_head, page_tail, IsThereIn, most_boxes}
+use Rattle.ir_picture.specs.Answers.{page_head, page_tail, most_boxes}
 use Rattle.ir_picture.specs.Numbers.{rows_from, named_list, data_start, thread_list}
+use Rattle.ir_picture.specs.declared.asked.Form.{Form}
 use Rattle.ir_picture.specs.declared.asked.Form.TheVariants as form
 use Rattle.ir_files.specs.declared.exit_status.ExitStatus.TheVariants as status
 use Rattle.ir_picture.specs.declared.asked.Asked.{Asked}
@@ -35,18 +36,21 @@ use Rattle.ir_run_picture.specs.Numbers.{drawn_row, resting_row, run_data_rows, 
 use Rattle.ir_run_picture.specs.Chrome.{drawn_slices}
 use Rattle.ir_run_picture.specs.Steps.{AreDrawn}
 use Rattle.ir_run_picture.specs.declared.drawn.Drawn.{Drawn}
-use Rattle.ir_run_picture.specs.Answers.{IsRunPicture, IsRunChromeAnswer, IsFormOfRun, IsRunAnswer, IsRunViewAnswer}
+use Rattle.ir_run_picture.specs.Answers.{IsRunPicture, IsRunChromeAnswer, IsFormOfRun, IsRunAnswer}
 use Rattle.ir_run_picture.specs.declared.resting.Resting.{Resting}
-
--- the answer about a run is one about its bytes
-pub run_answer_is_view : (asked : Asked) (f : FittedTrace) (s : ExitStatus) (text image trace : List ℕ) → IsFit image trace f → IsThereIn f.recorded asked.around
-    → IsRunAnswer asked f s text → IsRunViewAnswer asked image trace s text
-run_answer_is_view asked f s text image trace fits there answer = inl (record { fitted = f; fits = fits; there = there; answer = answer })
 
 -- a form of its picture is one
 pub picture_form_is_answer : (asked : Asked) (f : FittedTrace) (s : ExitStatus) (text : List ℕ) (p : Picture) (kept : List Resting)
     → IsRunPicture f asked.around p kept → IsFormOfRun asked.form f asked.around p kept s text → IsRunAnswer asked f s text
 picture_form_is_answer asked f s text p kept drawn is = record { picture = p; kept = kept; drawn = drawn; form = is }
+
+-- a picture in a form has the status of an answer
+pub run_form_status_is_answer : (o : Form) (f : FittedTrace) (near : Option Around) (p : Picture) (kept : List Resting) (s : ExitStatus) (text : List ℕ)
+    → IsFormOfRun o f near p kept s text → is_of_answer s ≡ true
+run_form_status_is_answer form.Page f near p kept s text (inl (few, same, is)) = ap is_of_answer same
+run_form_status_is_answer form.Page f near p kept s text (inr (many, same, is)) = ap is_of_answer same
+run_form_status_is_answer form.Data f near p kept s text (same, is) = ap is_of_answer same
+run_form_status_is_answer form.Chrome f near p kept s text (drawn, are, same, is) = ap is_of_answer same
 
 -- a box of a run is one of its trace
 pub run_box_is_box : (f : FittedTrace) (b : EventBox) → IsRunBox f b → IsBox f.recorded b

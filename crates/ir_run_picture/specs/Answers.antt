@@ -1,30 +1,25 @@
 -- What `ir view` writes where it is asked with an image.
-use Rattle.std.specs.Prelude.{◌≡◌, ◌⊎◌, ℕ, ◌<◌, ◌≤◌, List, [], ◌∷◌, ◌++◌, length, Option, false}
-use Rattle.std.specs.Io.KnownBytes.{Appends}
+use Rattle.std.specs.Prelude.{◌≡◌, ◌⊎◌, ℕ, ◌<◌, ◌≤◌, List, [], ◌∷◌, ◌++◌, length, Option}
 use Rattle.ir_fit.specs.Fit.{FittedTrace}
 use Rattle.ir_files.specs.Writers.{Writer}
 use Rattle.ir_files.specs.declared.exit_status.ExitStatus.{ExitStatus}
 use Rattle.ir_files.specs.declared.exit_status.ExitStatus.TheVariants as status
 use Rattle.ir_past.specs.Past.{AreStaleWrites}
-use Rattle.ir_past.specs.Answers.{NotAnswered}
-use Rattle.ir_past.specs.declared.past_err.PastErr.TheVariants.{NoMem}
+use Rattle.ir_past.specs.declared.absent.Absent.{Absent}
+use Rattle.ir_past.specs.declared.ask_err.AskErr.{AskErr}
 use Rattle.ir_past.specs.declared.stale_write.StaleWrite.{StaleWrite}
-use Rattle.ir_opened.specs.Opened.{IsFit}
-use Rattle.ir_opened.specs.Answers.{IsUnfitRefusal}
+use Rattle.ir_opened.specs.Answers.{IsRunReply, IsRunReplyless}
 use Rattle.ir_stale_run.specs.Rests.{AreRests}
 use Rattle.ir_stale_run.specs.declared.rest.Rest.{Rest}
 use Rattle.ir_picture.specs.Shown.{AreShown}
 use Rattle.ir_picture.specs.Chrome.{IsChromeAnswer}
-use Rattle.ir_picture.specs.Answers.{IsThereIn, IsAbsent, page_of_picture, many_line, most_boxes}
+use Rattle.ir_picture.specs.Answers.{IsThereIn, LacksAround, page_of_picture, many_line, most_boxes}
 use Rattle.ir_picture.specs.declared.asked.Around.{Around}
 use Rattle.ir_picture.specs.declared.asked.Form.{Form}
 use Rattle.ir_picture.specs.declared.asked.Form.TheVariants as form
 use Rattle.ir_picture.specs.declared.asked.Asked.{Asked}
 use Rattle.ir_picture.specs.declared.picture.Picture.{Picture}
 use Rattle.ir_picture.specs.declared.placed_box.PlacedBox.{PlacedBox}
-use Rattle.ir_picture.specs.declared.view_err.Absent.{Absent}
-use Rattle.ir_picture.specs.declared.view_err.ViewErr.{ViewErr}
-use Rattle.ir_picture.specs.declared.view_err.ViewErr.TheVariants as fault
 use Rattle.ir_holds.specs.declared.span.Span.{Span}
 use Rattle.ir_run_picture.specs.Held.{AreHeld}
 use Rattle.ir_run_picture.specs.Steps.{AreDrawn}
@@ -81,31 +76,18 @@ pub record IsRunAnswer (asked : Asked) (f : FittedTrace) (answered : ExitStatus)
   pub drawn : IsRunPicture f asked.around picture kept
   pub form : IsFormOfRun asked.form f asked.around picture kept answered text
 
--- the answer to a guest and a trace of one of its runs
-pub record IsPictureOfFit (asked : Asked) (image trace : List ℕ) (answered : ExitStatus) (text : List ℕ) : Type 0 where
-  pub fitted : FittedTrace
-  pub fits : IsFit image trace fitted
-  pub there : IsThereIn fitted.recorded asked.around
-  pub answer : IsRunAnswer asked fitted answered text
+-- the same where the event that a part is asked for around is there
+abbrev pub IsRunTold : Asked → FittedTrace → ExitStatus → List ℕ → Type 0
+IsRunTold asked f answered text = IsThereIn f.recorded asked.around × IsRunAnswer asked f answered text
+
+-- the run doesn't have the event that a part is asked for around
+abbrev pub LacksAroundIn : Asked → FittedTrace → Absent → Type 0
+LacksAroundIn asked f = LacksAround asked f.recorded
 
 -- the answer about the bytes of an image and of a trace
 abbrev pub IsRunViewAnswer : Asked → List ℕ → List ℕ → ExitStatus → List ℕ → Type 0
-IsRunViewAnswer asked image trace answered text = IsPictureOfFit asked image trace answered text ⊎ IsUnfitRefusal image trace answered text
-
--- why there is no answer about a run
-abbrev pub IsRunViewUnsaid : Asked → FittedTrace → ViewErr → Type 0
-IsRunViewUnsaid asked f (fault.Absent what) = IsAbsent asked.around f.recorded what
-IsRunViewUnsaid asked f (fault.Unwritten e) = e ≡ NoMem
-
--- a part is asked for around an event that the run doesn't have, and nothing was written
-pub record IsAroundNoEvent (asked : Asked) (image trace : List ℕ) (what : Absent) (w : Writer) : Type 0 where
-  pub fitted : FittedTrace
-  pub fits : IsFit image trace fitted
-  pub lacks : IsAbsent asked.around fitted.recorded what
-  pub none : Appends w.before w.after []
-  pub works : w.failed ≡ false
+IsRunViewAnswer asked = IsRunReply (IsRunTold asked)
 
 -- why there is no answer about bytes, and what that leaves
-abbrev pub IsRunViewUnanswered : Asked → List ℕ → List ℕ → ViewErr → Writer → Type 0
-IsRunViewUnanswered asked image trace (fault.Absent what) w = IsAroundNoEvent asked image trace what w
-IsRunViewUnanswered asked image trace (fault.Unwritten e) w = NotAnswered (IsRunViewAnswer asked image trace) e w
+abbrev pub IsRunViewUnanswered : Asked → List ℕ → List ℕ → AskErr → Writer → Type 0
+IsRunViewUnanswered asked = IsRunReplyless (IsRunTold asked) (LacksAroundIn asked)

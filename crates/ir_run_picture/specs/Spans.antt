@@ -12,7 +12,7 @@ abbrev pub last_event : EventBox → ℕ
 last_event b = b.event + (b.count - 1)
 
 -- a box goes from the step that logs its first event to the last step of its last event
-pub record IsSpan (f : FittedTrace) (b : EventBox) (s : Span) : Type 0 where
+pub record IsSpanOfBox (f : FittedTrace) (b : EventBox) (s : Span) : Type 0 where
   pub thread : s.thread ≡ b.thread
   pub first : s.first ≡ event_entry f b.thread b.event
   pub last : IsLastStep f b.thread (last_event b) (event_at f.recorded b.thread (last_event b)) (Some s.last)

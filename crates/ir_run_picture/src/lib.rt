@@ -23,6 +23,6 @@ pub use drawn::Drawn;
 pub use folding::run_boxes_of;
 pub use laws::{behind_is_in_cut, behind_is_left, rows_do_not_overlap};
 pub use resting::Resting;
-pub use run::view_fit_run;
+pub use run::RunView;
 pub use run_picture::RunPicture;
 pub use spans::spans_of;

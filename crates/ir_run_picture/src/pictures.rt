@@ -5,9 +5,10 @@ ghost use Rattle.ir_past.specs.Answers.{AreCoherent};
 ghost use Rattle.ir_opened.specs.Paired.{ArePaired};
 ghost use Rattle.ir_picture.specs.Progress.{IsOfPicture};
 ghost use Rattle.ir_picture.specs.Answers.{IsThereIn};
-ghost use Rattle.ir_run_picture.specs.Answers.{IsRunPicture, IsRunViewUnsaid};
+ghost use Rattle.ir_past.specs.Replies.{IsTextless};
+ghost use Rattle.ir_run_picture.specs.Answers.{IsRunPicture, LacksAroundIn};
 ghost use Rattle.ir_run_picture.specs.Brief.{AreRunBoxes};
-ghost use Rattle.ir_run_picture.specs.Spans.{IsSpan};
+ghost use Rattle.ir_run_picture.specs.Spans.{IsSpanOfBox};
 ghost use Rattle.ir_run_picture.specs.Held.{HaveHeld};
 
 use crate::folding::run_boxes_of;
@@ -16,8 +17,8 @@ use crate::run_picture::RunPicture;
 use crate::spans::spans_of;
 use ir_fit::Fitted;
 use ir_holds::{HeldBoxes, Span, held_boxes};
-use ir_past::stale_writes;
-use ir_picture::{Around, Asked, EventBox, Picture, ViewErr, is_there, shown_boxes};
+use ir_past::{AskErr, stale_writes};
+use ir_picture::{Around, Asked, EventBox, Picture, is_there, shown_boxes};
 use ir_stale_run::rests;
 use std::alloc::{AllocError, Global};
 
@@ -29,7 +30,7 @@ fn held_in(
     spans: &[Span],
 ) -> Result<HeldBoxes, AllocError>
     requires events { AreRunBoxes fitted.now events.now }
-    requires go { ArePaired (IsSpan fitted.now) events.now spans.now }
+    requires go { ArePaired (IsSpanOfBox fitted.now) events.now spans.now }
     ensures { IfOk result (λ h. HaveHeld fitted.now h.boxes.items h.ends.items) }
 {
     fitted.known();
@@ -44,7 +45,7 @@ fn run_spans_of(
     events: &[EventBox],
 ) -> Result<Vec<Span>, AllocError>
     requires { AreRunBoxes fitted.now events.now }
-    ensures { IfOk result (λ v. ArePaired (IsSpan fitted.now) events.now v.items) }
+    ensures { IfOk result (λ v. ArePaired (IsSpanOfBox fitted.now) events.now v.items) }
 {
     spans_of(alloc, fitted, events)
 }
@@ -90,11 +91,11 @@ fn picture_of_held(
 ///
 /// # Errors
 /// The run has no such event that the part could be around, or out of memory.
-pub fn run_picture_of(alloc: Global, fitted: &Fitted, asked: &Asked) -> Result<RunPicture, ViewErr>
+pub fn run_picture_of(alloc: Global, fitted: &Fitted, asked: &Asked) -> Result<RunPicture, AskErr>
     ensures drawn { IfOk result (λ x. IsRunPicture fitted.now (asked.now).around x.picture x.kept.items) }
     ensures of_trace { IfOk result (λ x. IsOfPicture fitted.now.recorded x.picture) }
     ensures there { OnOk result (IsThereIn fitted.now.recorded (asked.now).around) }
-    ensures fails { IfErr result (IsRunViewUnsaid asked.now fitted.now) }
+    ensures fails { IfErr result (IsTextless (LacksAroundIn asked.now fitted.now)) }
 {
     fitted.known();
     is_there(fitted.trace(), &asked.around)?;

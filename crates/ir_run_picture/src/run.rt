@@ -1,15 +1,12 @@
-//! `ir view` with an image: the bytes of an image and of a trace in, a picture of the run out.
+//! `ir view` with an image: a picture of a run, in the form and of the part that is asked for.
 
-ghost use Rattle.std.specs.Prelude.{◌≡◌, ◌≢◌, ◌⊎◌, ℕ, List, IfOk, IfErr, false};
-ghost use Rattle.ir_files.specs.Writers.{writer_of, Reports, fault_text};
-ghost use Rattle.ir_files.specs.declared.exit_status.ExitStatus.TheVariants as status;
+ghost use Rattle.std.specs.Prelude.{◌≡◌, IfOk, IfErr, true, false};
+ghost use Rattle.ir_files.specs.Writers.{writer_of};
 ghost use Rattle.ir_past.specs.Answers.{AreCoherent, Answered, NotAnswered};
-ghost use Rattle.ir_opened.specs.Opened.{IsFit};
+ghost use Rattle.ir_past.specs.Replies.{IsUnsaid, is_of_answer};
 ghost use Rattle.ir_picture.specs.Progress.{IsOfPicture};
-ghost use Rattle.ir_picture.specs.Answers.{view_status, view_fault_words};
 ghost use Rattle.ir_picture.specs.declared.asked.Form.TheVariants as form;
-ghost use Rattle.ir_picture.specs.declared.view_err.ViewErr.{ViewErr};
-ghost use Rattle.ir_run_picture.specs.Answers.{IsFormOfRun, IsRunViewAnswer, IsRunViewUnanswered};
+ghost use Rattle.ir_run_picture.specs.Answers.{IsFormOfRun, IsRunTold, LacksAroundIn};
 ghost use Rattle.ir_run_picture.specs.Resting.{stale_of_rests};
 
 use crate::chrome::write_chrome;
@@ -18,11 +15,11 @@ use crate::drawing::all_drawn;
 use crate::pictures::run_picture_of;
 use crate::run_picture::RunPicture;
 use crate::view::View;
-use ir_files::{ExitStatus, tell};
+use ir_files::ExitStatus;
 use ir_fit::Fitted;
-use ir_opened::{Opened, open_fit, refuse};
-use ir_past::{PastErr, put_answer};
-use ir_picture::{Around, Asked, Form, MOST_BOXES, ViewErr, data_frame, many_answer, page_frame};
+use ir_opened::RunQuestion;
+use ir_past::{AskErr, PastErr, put_answer};
+use ir_picture::{Around, Asked, Form, MOST_BOXES, data_frame, many_answer, page_frame};
 use ir_stream::Sink;
 use std::alloc::{AllocError, Global};
 
@@ -123,64 +120,36 @@ fn show_run<O: Sink>(
     fitted: &Fitted,
     asked: &Asked,
     out: &mut O,
-) -> Result<ExitStatus, ViewErr>
+) -> Result<ExitStatus, AskErr>
     requires { O.broken out.old ≡ false }
-    ensures ok { IfOk result (λ s. (i t : List ℕ) → IsFit i t fitted.now → Answered (IsRunViewAnswer asked.now i t) s (writer_of (O.written out.old) (O.written out.new) (O.broken out.new))) }
-    ensures fails { IfErr result (λ e. (i t : List ℕ) → IsFit i t fitted.now → IsRunViewUnanswered asked.now i t e (writer_of (O.written out.old) (O.written out.new) (O.broken out.new))) }
+    ensures ok { IfOk result (λ s. Answered (IsRunTold asked.now fitted.now) s (writer_of (O.written out.old) (O.written out.new) (O.broken out.new))) }
+    ensures fails { IfErr result (λ e. IsUnsaid (IsRunTold asked.now fitted.now) (LacksAroundIn asked.now fitted.now) e (writer_of (O.written out.old) (O.written out.new) (O.broken out.new))) }
+    ensures status { IfOk result (λ s. is_of_answer s ≡ true) }
 {
     fitted.known();
     let shown = run_picture_of(alloc, fitted, asked)?;
     Ok(show_picture(alloc, fitted, asked, &shown, out)?)
 }
 
-// Writes the answer about the bytes of an image and of a trace.
-fn show<O: Sink>(
-    alloc: Global,
-    image: &[u8],
-    trace: &[u8],
-    asked: &Asked,
-    out: &mut O,
-) -> Result<ExitStatus, ViewErr>
-    requires { O.broken out.old ≡ false }
-    ensures ok { IfOk result (λ s. Answered (IsRunViewAnswer asked.now image.now trace.now) s (writer_of (O.written out.old) (O.written out.new) (O.broken out.new))) }
-    ensures fails { IfErr result (λ e. IsRunViewUnanswered asked.now image.now trace.now e (writer_of (O.written out.old) (O.written out.new) (O.broken out.new))) }
-{
-    match open_fit(alloc, image, trace)? {
-        Opened::Fits(fitted) => show_run(alloc, &fitted, asked, out),
-        Opened::Refused(why) => Ok(refuse(&why, out)?),
-    }
+/// What is asked of a picture, of a run: its boxes have the steps of the run, and its stale writes are those that rest on what was read. Nothing is
+/// written before all is judged.
+#[derive(Clone, Copy, Debug)]
+pub struct RunView<'a> {
+    /// The form, and the part.
+    pub asked: &'a Asked,
 }
 
-/// Writes a picture of the run of an image's guest with a trace, in the form and of the part that is asked for. Its boxes have the steps of the
-/// run, and its stale writes are those that rest on what was read. The exit status is `Done` if it was written, `Refused` if the bytes are
-/// no image or no trace, and `NotFit` if no run of the guest has the trace or a page would have too many boxes; then the line or the lines
-/// that say so were written. It is `BadArguments` if the trace doesn't have the event that a part is asked for around; nothing was written
-/// then. It is `Failed` if memory ran out or the writer failed, with a prefix written at most. In both cases the fault is reported in one line.
-/// Nothing is written before all is judged.
-pub fn view_fit_run<O: Sink, E: Sink>(
-    alloc: Global,
-    image: &[u8],
-    trace: &[u8],
-    asked: &Asked,
-    out: &mut O,
-    faults: &mut E,
-) -> ExitStatus
-    requires writes { O.broken out.old ≡ false }
-    requires reports { E.broken faults.old ≡ false }
-    // The answer was written, and no fault reported.
-    ensures done { result ≢ status.Failed → result ≢ status.BadArguments
-        → Answered (IsRunViewAnswer asked.now image.now trace.now) result (writer_of (O.written out.old) (O.written out.new) (O.broken out.new)) × (faults.new ≡ faults.old) }
-    // Else why there is none, what that leaves, and that it is reported.
-    ensures failed { (result ≡ status.Failed) ⊎ (result ≡ status.BadArguments) → (e : ViewErr)
-        × (result ≡ view_status e)
-        × IsRunViewUnanswered asked.now image.now trace.now e (writer_of (O.written out.old) (O.written out.new) (O.broken out.new))
-        × Reports (writer_of (E.written faults.old) (E.written faults.new) (E.broken faults.new)) (fault_text (view_fault_words e)) }
-{
-    match show(alloc, image, trace, asked, out) {
-        Ok(answered) => answered,
-        Err(why) => {
-            tell(faults, why.words());
-            why.status()
-        }
+impl<'a> RunQuestion for RunView<'a> {
+    ghost is_answer = { λ view. IsRunTold view.asked.now };
+
+    ghost is_absent = { λ view. LacksAroundIn view.asked.now };
+
+    fn print<O: Sink>(
+        &self,
+        alloc: Global,
+        fitted: &Fitted,
+        out: &mut O,
+    ) -> Result<ExitStatus, AskErr> {
+        show_run(alloc, fitted, self.asked, out)
     }
 }

@@ -5,7 +5,7 @@ ghost use Rattle.std.specs.List.{slice_get};
 ghost use Rattle.ir_opened.specs.Paired.{ArePaired};
 ghost use Rattle.ir_picture.specs.Boxes.{IsBox};
 ghost use Rattle.ir_picture.specs.declared.event_box.EventBox.{EventBox};
-ghost use Rattle.ir_run_picture.specs.Spans.{IsSpan};
+ghost use Rattle.ir_run_picture.specs.Spans.{IsSpanOfBox};
 
 use crate::drawing::last_step;
 use ir_fit::Fitted;
@@ -18,7 +18,7 @@ use std::alloc::{AllocError, Global};
 // From which step to which a box goes.
 fn span_of(fitted: &Fitted, own: &EventBox) -> Span
     requires { IsBox fitted.now.recorded own.now }
-    ensures { IsSpan fitted.now own.now result }
+    ensures { IsSpanOfBox fitted.now own.now result }
 {
     fitted.known();
     let EventBox {
@@ -51,7 +51,7 @@ fn span_of(fitted: &Fitted, own: &EventBox) -> Span
 /// Out of memory.
 pub fn spans_of(alloc: Global, fitted: &Fitted, boxes: &[EventBox]) -> Result<Vec<Span>, AllocError>
     requires { (k : ℕ) (b : EventBox) → slice_get boxes.now k ≡ Some b → IsBox fitted.now.recorded b }
-    ensures { IfOk result (λ v. ArePaired (IsSpan fitted.now) boxes.now v.items) }
+    ensures { IfOk result (λ v. ArePaired (IsSpanOfBox fitted.now) boxes.now v.items) }
 {
     let mut spans = Vec::with_capacity(alloc, boxes.len())?;
     for own in boxes {

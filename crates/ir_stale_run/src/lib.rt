@@ -30,6 +30,6 @@ mod words;
 pub use hold::Hold;
 pub use reason::Reason;
 pub use rest::Rest;
-pub use run::rests_run;
+pub use run::RestsQuestion;
 pub use stale::has_rests;
 pub use walk::rests;

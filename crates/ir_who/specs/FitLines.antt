@@ -1,16 +1,15 @@
 -- What `ir who` writes where it is asked with an image.
-use Rattle.std.specs.Prelude.{◌≡◌, ◌<◌, ℕ, suc, List, [], ◌∷◌, ◌++◌, codes, decimal, length, Option, Some, None, false}
-use Rattle.std.specs.Io.KnownBytes.{Appends}
+use Rattle.std.specs.Prelude.{◌≡◌, ◌<◌, ℕ, suc, List, [], ◌∷◌, ◌++◌, codes, decimal, length, Option, Some, None}
 use Rattle.std.specs.List.{slice_get}
 use Rattle.ir_fit.specs.Fit.{FittedTrace}
 use Rattle.ir_files.specs.Writers.{Writer}
-use Rattle.ir_past.specs.Answers.{NotAnswered}
+use Rattle.ir_past.specs.declared.absent.Absent.{Absent}
+use Rattle.ir_past.specs.declared.ask_err.AskErr.{AskErr}
 use Rattle.ir_past.specs.declared.place.Place.{Place}
 use Rattle.ir_past.specs.Past.{AreReaders, IsOverwriter}
 use Rattle.ir_past.specs.Naming.{place_text, maker_text}
 use Rattle.ir_events.specs.Events.{event_entry}
-use Rattle.ir_opened.specs.Answers.{IsFitAnswerOf}
-use Rattle.ir_opened.specs.Opened.{IsFit}
+use Rattle.ir_opened.specs.Answers.{IsFitAnswerlessOf}
 use Rattle.ir_opened.specs.Paired.{ArePaired}
 use Rattle.ir_opened.specs.Positions.{IsLeft, step_part, step_if}
 use Rattle.ir_who.specs.Lines.{object_line, LacksAsked}
@@ -18,9 +17,6 @@ use Rattle.ir_who.specs.Versions.{AreVersions}
 use Rattle.ir_who.specs.declared.version.Version.{Version}
 use Rattle.ir_who.specs.declared.dated.Dated.{Dated}
 use Rattle.ir_who.specs.declared.question.Question.{Question}
-use Rattle.ir_who.specs.declared.who_err.Absent.{Absent}
-use Rattle.ir_who.specs.declared.who_err.WhoErr.{WhoErr}
-use Rattle.ir_who.specs.declared.who_err.WhoErr.TheVariants as who
 
 -- from which step on what an event made is there: from its thread's leave; the first words have none
 abbrev pub IsMadeAt : FittedTrace → Option Place → Option ℕ → Type 0
@@ -99,15 +95,10 @@ pub record IsFitWhoAnswer (asked : Question) (f : FittedTrace) (text : List ℕ)
   pub object : asked.object < f.recorded.objects
   pub answer : fit_answers f asked.object asked.version text
 
--- the question is about something that the run doesn't have, and nothing was written
-pub record IsOfNoRun (asked : Question) (image trace : List ℕ) (what : Absent) (w : Writer) : Type 0 where
-  pub fitted : FittedTrace
-  pub fits : IsFit image trace fitted
-  pub lacks : LacksAsked asked fitted.recorded what
-  pub none : Appends w.before w.after []
-  pub works : w.failed ≡ false
+-- the run doesn't have what is asked about
+abbrev pub LacksAskedIn : Question → FittedTrace → Absent → Type 0
+LacksAskedIn asked f = LacksAsked asked f.recorded
 
 -- why a question about bytes wasn't answered, and what that leaves
-abbrev pub IsFitUnanswered : Question → List ℕ → List ℕ → WhoErr → Writer → Type 0
-IsFitUnanswered asked image trace (who.Absent what) w = IsOfNoRun asked image trace what w
-IsFitUnanswered asked image trace (who.Unwritten e) w = NotAnswered (IsFitAnswerOf (IsFitWhoAnswer asked) image trace) e w
+abbrev pub IsFitUnanswered : Question → List ℕ → List ℕ → AskErr → Writer → Type 0
+IsFitUnanswered asked = IsFitAnswerlessOf (IsFitWhoAnswer asked) (LacksAskedIn asked)

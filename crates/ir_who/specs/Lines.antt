@@ -1,24 +1,19 @@
 -- What `ir who` writes.
-use Rattle.std.specs.Prelude.{◌≡◌, ◌<◌, ◌≤◌, ℕ, suc, List, [], ◌∷◌, ◌++◌, codes, decimal, length, Option, Some, None, Result, Ok, false}
-use Rattle.std.specs.Io.KnownBytes.{Appends}
+use Rattle.std.specs.Prelude.{◌≡◌, ◌<◌, ◌≤◌, ℕ, suc, List, [], ◌∷◌, ◌++◌, codes, decimal, length, Option, Some, None, Result}
 use Rattle.std.specs.List.{slice_get}
 use Rattle.ir_trace.specs.Recorded.{Recorded}
 use Rattle.ir_trace.specs.declared.trace_err.TraceErr.{TraceErr}
 use Rattle.ir_files.specs.Writers.{Writer}
-use Rattle.ir_files.specs.declared.exit_status.ExitStatus.{ExitStatus}
-use Rattle.ir_files.specs.declared.exit_status.ExitStatus.TheVariants as status
-use Rattle.ir_past.specs.Answers.{AreCoherent, IsAnswerOf, NotAnswered, fault_words as unwritten_words}
-use Rattle.ir_past.specs.declared.past_err.PastErr.TheVariants.{NoMem}
+use Rattle.ir_past.specs.Replies.{IsAnswerlessOf}
+use Rattle.ir_past.specs.declared.absent.Absent.{Absent}
+use Rattle.ir_past.specs.declared.absent.Absent.TheVariants as absent
+use Rattle.ir_past.specs.declared.ask_err.AskErr.{AskErr}
 use Rattle.ir_past.specs.declared.place.Place.{Place}
 use Rattle.ir_past.specs.Past.{AreReaders, IsOverwriter}
 use Rattle.ir_past.specs.Naming.{place_text, maker_text}
 use Rattle.ir_who.specs.Versions.{AreVersions}
 use Rattle.ir_who.specs.declared.version.Version.{Version}
 use Rattle.ir_who.specs.declared.question.Question.{Question}
-use Rattle.ir_who.specs.declared.who_err.Absent.{Absent}
-use Rattle.ir_who.specs.declared.who_err.Absent.TheVariants as absent
-use Rattle.ir_who.specs.declared.who_err.WhoErr.{WhoErr}
-use Rattle.ir_who.specs.declared.who_err.WhoErr.TheVariants as who
 
 -- the line of version v
 abbrev pub version_line : ℕ → Version → List ℕ
@@ -87,43 +82,17 @@ pub record IsWhoAnswer (asked : Question) (r : Recorded) (text : List ℕ) : Typ
 abbrev pub LacksVersion : Recorded → ℕ → ℕ → Type 0
 LacksVersion r o v = (rows : List Version) × AreVersions r o rows × (length rows ≤ v)
 
--- why nothing is said of version v of object o: it isn't there, or memory ran out
-abbrev pub IsUnsaidVersion : Recorded → ℕ → ℕ → WhoErr → Type 0
-IsUnsaidVersion r o v (who.Absent absent.Object) = ⊥
-IsUnsaidVersion r o v (who.Absent absent.Version) = LacksVersion r o v
-IsUnsaidVersion r o v (who.Unwritten e) = e ≡ NoMem
+-- what isn't there of version v of object o: the version alone
+abbrev pub IsNoVersion : Recorded → ℕ → ℕ → Absent → Type 0
+IsNoVersion r o v absent.Version = LacksVersion r o v
+IsNoVersion r o v what = ⊥
 
 -- the trace doesn't have what is asked about: no such object, or no such version of it
 abbrev pub LacksAsked : Question → Recorded → Absent → Type 0
 LacksAsked asked r absent.Object = r.objects ≤ asked.object
 LacksAsked asked r absent.Version = (asked.object < r.objects) × ((v : ℕ) × (asked.version ≡ Some v) × LacksVersion r asked.object v)
-
--- why there is no answer about a coherent trace
-abbrev pub IsUnsaid : Question → Recorded → WhoErr → Type 0
-IsUnsaid asked r (who.Absent what) = LacksAsked asked r what
-IsUnsaid asked r (who.Unwritten e) = e ≡ NoMem
-
--- the question is about something that the trace doesn't have, and nothing was written
-pub record IsOfNothing (asked : Question) (read : Result Recorded TraceErr) (what : Absent) (w : Writer) : Type 0 where
-  pub trace : Recorded
-  pub is_trace : read ≡ Ok trace
-  pub coherent : AreCoherent trace
-  pub lacks : LacksAsked asked trace what
-  pub none : Appends w.before w.after []
-  pub works : w.failed ≡ false
+LacksAsked asked r what = ⊥
 
 -- why a question about bytes wasn't answered, and what that leaves
-abbrev pub IsWhoUnanswered : Question → Result Recorded TraceErr → WhoErr → Writer → Type 0
-IsWhoUnanswered asked read (who.Absent what) w = IsOfNothing asked read what w
-IsWhoUnanswered asked read (who.Unwritten e) w = NotAnswered (IsAnswerOf (IsWhoAnswer asked) read) e w
-
--- the exit status of a question that wasn't answered
-abbrev pub who_status : WhoErr → ExitStatus
-who_status (who.Absent what) = status.BadArguments
-who_status (who.Unwritten e) = status.Failed
-
--- why it wasn't, in words
-abbrev pub who_fault_words : WhoErr → List ℕ
-who_fault_words (who.Absent absent.Object) = codes "the trace has no object of this number"
-who_fault_words (who.Absent absent.Version) = codes "the object has no version of this number"
-who_fault_words (who.Unwritten e) = unwritten_words e
+abbrev pub IsWhoUnanswered : Question → Result Recorded TraceErr → AskErr → Writer → Type 0
+IsWhoUnanswered asked = IsAnswerlessOf (IsWhoAnswer asked) (LacksAsked asked)

@@ -1,30 +1,24 @@
-//! `ir who` with an image: the bytes of an image and of a trace in, the versions of an object of the run out.
+//! `ir who` with an image: what is asked about versions of an object of a run, and its answer, with each event's step and each maker's leave.
 
-ghost use Rattle.std.specs.Prelude.{◌≡◌, ◌≢◌, ◌⊎◌, ◌≤◌, ℕ, List, slice_get, Some, IfOk, IfErr, false};
+ghost use Rattle.std.specs.Prelude.{◌≡◌, ℕ, slice_get, Some, IfOk, IfErr};
 ghost use Rattle.std.specs.String.{string_bytes};
-ghost use Rattle.ir_files.specs.Writers.{writer_of, Reports, fault_text};
-ghost use Rattle.ir_files.specs.declared.exit_status.ExitStatus.TheVariants as status;
-ghost use Rattle.ir_past.specs.Answers.{Answered};
+ghost use Rattle.ir_past.specs.Replies.{IsDoneWith, IsTextless};
 ghost use Rattle.ir_past.specs.declared.place.Place as place;
-ghost use Rattle.ir_opened.specs.Answers.{IsFitAnswerOf};
-ghost use Rattle.ir_opened.specs.Opened.{IsFit};
 ghost use Rattle.ir_opened.specs.Paired.{ArePaired};
 ghost use Rattle.ir_opened.specs.Positions.{IsInside};
-ghost use Rattle.ir_who.specs.FitLines.{IsMadeAt, IsDated, IsFitObjectAnswer, IsFitVersionAnswer, IsFitWhoAnswer, IsFitUnanswered};
-ghost use Rattle.ir_who.specs.Lines.{IsUnsaidVersion, IsUnsaid, who_status, who_fault_words};
+ghost use Rattle.ir_who.specs.FitLines.{IsMadeAt, IsDated, IsFitObjectAnswer, IsFitVersionAnswer, IsFitWhoAnswer, LacksAskedIn};
+ghost use Rattle.ir_who.specs.Lines.{IsNoVersion};
 ghost use Rattle.ir_who.specs.declared.version.Version as version;
-ghost use Rattle.ir_who.specs.declared.who_err.WhoErr.{WhoErr};
 
 use crate::dated::Dated;
 use crate::fit_lines::{dated_text, version_text};
 use crate::question::Question;
 use crate::version::Version;
 use crate::versions::versions_of;
-use crate::who_err::{Absent, WhoErr};
-use ir_files::{ExitStatus, tell};
+use ir_files::ExitStatus;
 use ir_fit::Fitted;
-use ir_opened::{Opened, leave_of, open_fit, refuse};
-use ir_past::{PastErr, Place, makers_of, put_bytes, readers_of};
+use ir_opened::{RunQuestion, leave_of};
+use ir_past::{Absent, AskErr, Place, makers_of, put_bytes, readers_of};
 use ir_stream::Sink;
 use std::alloc::{AllocError, Global};
 
@@ -78,15 +72,15 @@ fn version_answer(
     fitted: &Fitted,
     object: u8,
     version: u32,
-) -> Result<String, WhoErr>
+) -> Result<String, AskErr>
     ensures ok { IfOk result (λ s. IsFitVersionAnswer fitted.now object version (string_bytes s)) }
-    ensures fails { IfErr result (IsUnsaidVersion fitted.now.recorded object version) }
+    ensures fails { IfErr result (IsTextless (IsNoVersion fitted.now.recorded object version)) }
 {
     fitted.known();
     let trace = fitted.trace();
     let rows = versions_of(alloc, trace, object)?;
     let Some(row) = rows.get(version as usize) else {
-        return Err(WhoErr::Absent(Absent::Version));
+        return Err(AskErr::Absent(Absent::Version));
     };
     let dated = dated(fitted, row);
     let readers = readers_of(alloc, trace, object, version)?;
@@ -95,13 +89,13 @@ fn version_answer(
 }
 
 // The lines that answer a question about a run.
-fn answer(alloc: Global, fitted: &Fitted, asked: &Question) -> Result<String, WhoErr>
+fn answer(alloc: Global, fitted: &Fitted, asked: &Question) -> Result<String, AskErr>
     ensures ok { IfOk result (λ s. IsFitWhoAnswer asked.now fitted.now (string_bytes s)) }
-    ensures fails { IfErr result (IsUnsaid asked.now fitted.now.recorded) }
+    ensures fails { IfErr result (IsTextless (LacksAskedIn asked.now fitted.now)) }
 {
     fitted.known();
     if asked.object >= fitted.trace().objects() as u32 {
-        return Err(WhoErr::Absent(Absent::Object));
+        return Err(AskErr::Absent(Absent::Object));
     }
     let object = asked.object as u8;
     match asked.version {
@@ -110,72 +104,19 @@ fn answer(alloc: Global, fitted: &Fitted, asked: &Question) -> Result<String, Wh
     }
 }
 
-// Writes the lines that answer a question about a run.
-fn show_fitted<O: Sink>(
-    alloc: Global,
-    fitted: &Fitted,
-    asked: &Question,
-    out: &mut O,
-) -> Result<ExitStatus, WhoErr>
-    requires { O.broken out.old ≡ false }
-    ensures ok { IfOk result
-        (λ answered. (i t : List ℕ) → IsFit i t fitted.now
-        → Answered (IsFitAnswerOf (IsFitWhoAnswer asked.now) i t) answered
-        (writer_of (O.written out.old) (O.written out.new) (O.broken out.new))) }
-    ensures fails { IfErr result (λ e. (i t : List ℕ) → IsFit i t fitted.now → IsFitUnanswered asked.now i t e (writer_of (O.written out.old) (O.written out.new) (O.broken out.new))) }
-{
-    let text = answer(alloc, fitted, asked)?;
-    put_bytes(text.as_bytes(), out)?;
-    Ok(ExitStatus::Done)
-}
+impl RunQuestion for Question {
+    ghost is_answer = { λ asked f. IsDoneWith (IsFitWhoAnswer asked f) };
 
-// Writes what a question about the bytes of an image and of a trace is answered.
-fn show<O: Sink>(
-    alloc: Global,
-    image: &[u8],
-    trace: &[u8],
-    asked: &Question,
-    out: &mut O,
-) -> Result<ExitStatus, WhoErr>
-    requires { O.broken out.old ≡ false }
-    ensures ok { IfOk result (λ answered. Answered (IsFitAnswerOf (IsFitWhoAnswer asked.now) image.now trace.now) answered (writer_of (O.written out.old) (O.written out.new) (O.broken out.new))) }
-    ensures fails { IfErr result (λ e. IsFitUnanswered asked.now image.now trace.now e (writer_of (O.written out.old) (O.written out.new) (O.broken out.new))) }
-{
-    match open_fit(alloc, image, trace)? {
-        Opened::Fits(fitted) => show_fitted(alloc, &fitted, asked, out),
-        Opened::Refused(why) => Ok(refuse(&why, out)?),
-    }
-}
+    ghost is_absent = { LacksAskedIn };
 
-/// Answers a question about the run of an image's guest with a trace: writes a line for each version of an object, or what made, read and wrote
-/// over one version, each event with its step, and each maker with the step by which it left the object. The exit status is `Done` if these
-/// lines were written, `Refused` if the bytes are no image or no trace, and `NotFit` if no run of the guest has the trace; then the line or the
-/// lines that say so were written. It is `BadArguments` if the trace has no such object, or the object no such version; nothing was written
-/// then. It is `Failed` if memory ran out or the writer failed, with a prefix written at most. In both cases the fault is reported in one line.
-pub fn who_fit_run<O: Sink, E: Sink>(
-    alloc: Global,
-    image: &[u8],
-    trace: &[u8],
-    asked: &Question,
-    out: &mut O,
-    faults: &mut E,
-) -> ExitStatus
-    requires writes { O.broken out.old ≡ false }
-    requires reports { E.broken faults.old ≡ false }
-    // The answer was written, and no fault reported.
-    ensures done { result ≢ status.Failed → result ≢ status.BadArguments
-        → Answered (IsFitAnswerOf (IsFitWhoAnswer asked.now) image.now trace.now) result (writer_of (O.written out.old) (O.written out.new) (O.broken out.new)) × (faults.new ≡ faults.old) }
-    // Else why there is none, what that leaves, and that it is reported.
-    ensures failed { (result ≡ status.Failed) ⊎ (result ≡ status.BadArguments) → (e : WhoErr)
-        × (result ≡ who_status e)
-        × IsFitUnanswered asked.now image.now trace.now e (writer_of (O.written out.old) (O.written out.new) (O.broken out.new))
-        × Reports (writer_of (E.written faults.old) (E.written faults.new) (E.broken faults.new)) (fault_text (who_fault_words e)) }
-{
-    match show(alloc, image, trace, asked, out) {
-        Ok(answered) => answered,
-        Err(why) => {
-            tell(faults, why.words());
-            why.status()
-        }
+    fn print<O: Sink>(
+        &self,
+        alloc: Global,
+        fitted: &Fitted,
+        out: &mut O,
+    ) -> Result<ExitStatus, AskErr> {
+        let text = answer(alloc, fitted, self)?;
+        put_bytes(text.as_bytes(), out)?;
+        Ok(ExitStatus::Done)
     }
 }

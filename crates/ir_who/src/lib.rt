@@ -10,13 +10,9 @@ mod run;
 mod texts;
 mod version;
 mod versions;
-mod who_err;
 
 pub use dated::Dated;
-pub use fit_run::who_fit_run;
 pub use lines::object_line;
 pub use question::Question;
-pub use run::who_run;
 pub use version::Version;
 pub use versions::versions_of;
-pub use who_err::{Absent, WhoErr};

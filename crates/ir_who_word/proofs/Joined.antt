@@ -2,7 +2,7 @@
 use Rattle.std.proofs.Common.{◌≡◌, ◌+◌, ℕ, suc, Bool, true, false, List, [], ◌++◌, sym, ap, ◌∙◌, arith, append_assoc, append-nil}
 use Rattle.std.specs.Prelude.{if◌then◌else◌}
 use Rattle.std.specs.List.{slice_index_or}
-use Rattle.ir_who_word.specs.Lines.{changed_word_line, is_other, word_line_if, changed_lines}
+use Rattle.ir_who_word.specs.Lines.{changed_word_line, word_changes, word_line_if, changed_lines}
 use Rattle.ir_who_word.specs.Words.{unread}
 use Rattle.ir_who_word.specs.declared.worded.Worded.{Worded}
 
@@ -21,13 +21,13 @@ changed_lines_step i ds n text new first line before made is =
 
 -- the next version has another word
 pub changed_lines_other : (i : ℕ) (ds : List Worded) (n : ℕ) (d : Worded) (text new first line : List ℕ) → text ≡ first ++ changed_lines i ds n → new ≡ text ++ line
-    → line ≡ changed_word_line i n d → slice_index_or ds n unread ≡ d → is_other ds n ≡ true → new ≡ first ++ changed_lines i ds (n + 1)
+    → line ≡ changed_word_line i n d → slice_index_or ds n unread ≡ d → word_changes ds n ≡ true → new ≡ first ++ changed_lines i ds (n + 1)
 changed_lines_other i ds n d text new first line before made is here other = changed_lines_step i ds n text new first line before made
     (is ∙ ap (changed_word_line i n) (sym here)
     ∙ ap (λ (b : Bool). if b then changed_word_line i n (slice_index_or ds n unread) else []) (sym other))
 
 -- or the same
-pub changed_lines_same : (i : ℕ) (ds : List Worded) (n : ℕ) (text first : List ℕ) → text ≡ first ++ changed_lines i ds n → is_other ds n ≡ false
+pub changed_lines_same : (i : ℕ) (ds : List Worded) (n : ℕ) (text first : List ℕ) → text ≡ first ++ changed_lines i ds n → word_changes ds n ≡ false
     → text ≡ first ++ changed_lines i ds (n + 1)
 changed_lines_same i ds n text first before other = changed_lines_step i ds n text text first [] before (sym (append-nil text))
     (ap (λ (b : Bool). if b then changed_word_line i n (slice_index_or ds n unread) else []) (sym other))

@@ -1,18 +1,15 @@
 -- What `ir who --word` writes.
-use Rattle.std.specs.Prelude.{◌≡◌, ◌<◌, ◌≤◌, ◌==◌, ℕ, zero, suc, Bool, true, not, List, [], ◌∷◌, ◌++◌, codes, decimal, length, if◌then◌else◌, false}
-use Rattle.std.specs.Io.KnownBytes.{Appends}
+use Rattle.std.specs.Prelude.{◌≡◌, ◌<◌, ◌≤◌, ◌==◌, ℕ, zero, suc, Bool, true, not, List, [], ◌∷◌, ◌++◌, codes, decimal, length, if◌then◌else◌}
 use Rattle.std.specs.List.{slice_index_or}
 use Rattle.ir_image.specs.Guest.{object_words}
 use Rattle.ir_fit.specs.Fit.{FittedTrace}
 use Rattle.ir_files.specs.Writers.{Writer}
-use Rattle.ir_files.specs.declared.exit_status.ExitStatus.{ExitStatus}
-use Rattle.ir_files.specs.declared.exit_status.ExitStatus.TheVariants as status
-use Rattle.ir_past.specs.Answers.{NotAnswered, fault_words as unwritten_words}
 use Rattle.ir_past.specs.Naming.{maker_text}
-use Rattle.ir_past.specs.declared.past_err.PastErr.TheVariants.{NoMem}
+use Rattle.ir_past.specs.declared.absent.Absent.{Absent}
+use Rattle.ir_past.specs.declared.absent.Absent.TheVariants as absent
+use Rattle.ir_past.specs.declared.ask_err.AskErr.{AskErr}
 use Rattle.ir_text.specs.Texts.{hex_word}
-use Rattle.ir_opened.specs.Answers.{IsFitAnswerOf}
-use Rattle.ir_opened.specs.Opened.{IsFit}
+use Rattle.ir_opened.specs.Answers.{IsFitAnswerlessOf}
 use Rattle.ir_opened.specs.Paired.{ArePaired}
 use Rattle.ir_opened.specs.Positions.{step_if}
 use Rattle.ir_who.specs.Lines.{object_line}
@@ -22,10 +19,6 @@ use Rattle.ir_who_word.specs.Words.{IsWorded, unread}
 use Rattle.ir_who_word.specs.declared.object_word.ObjectWord.{ObjectWord}
 use Rattle.ir_who_word.specs.declared.question.Question.{Question}
 use Rattle.ir_who_word.specs.declared.worded.Worded.{Worded}
-use Rattle.ir_who_word.specs.declared.word_err.Absent.{Absent}
-use Rattle.ir_who_word.specs.declared.word_err.Absent.TheVariants as absent
-use Rattle.ir_who_word.specs.declared.word_err.WordErr.{WordErr}
-use Rattle.ir_who_word.specs.declared.word_err.WordErr.TheVariants as err
 
 -- the line of version v with word i
 abbrev pub changed_word_line : ℕ → ℕ → Worded → List ℕ
@@ -33,13 +26,13 @@ changed_word_line i v d = codes "version " ++ (decimal v ++ (codes " by " ++ (ma
     ++ (codes " word " ++ (decimal i ++ (codes " " ++ (hex_word d.word ++ 10 ∷ []))))))))
 
 -- whether version v has another word than the version before; the first counts as such
-abbrev pub is_other : List Worded → ℕ → Bool
-is_other ds zero = true
-is_other ds (suc v) = not ((slice_index_or ds v unread).word == (slice_index_or ds (suc v) unread).word)
+abbrev pub word_changes : List Worded → ℕ → Bool
+word_changes ds zero = true
+word_changes ds (suc v) = not ((slice_index_or ds v unread).word == (slice_index_or ds (suc v) unread).word)
 
 -- the line of version v, if it has another word than the version before
 abbrev pub word_line_if : ℕ → List Worded → ℕ → List ℕ
-word_line_if i ds v = if is_other ds v then changed_word_line i v (slice_index_or ds v unread) else []
+word_line_if i ds v = if word_changes ds v then changed_word_line i v (slice_index_or ds v unread) else []
 
 -- the lines of the first n versions
 unfoldable pub changed_lines : ℕ → List Worded → ℕ → List ℕ
@@ -68,32 +61,8 @@ pub record IsWordAnswer (asked : Question) (f : FittedTrace) (text : List ℕ) :
 abbrev pub LacksWord : Question → FittedTrace → Absent → Type 0
 LacksWord asked f absent.Object = f.recorded.objects ≤ asked.object
 LacksWord asked f absent.Word = (asked.object < f.recorded.objects) × (object_words f.guest ≤ asked.word)
-
--- why there is no answer about a run
-abbrev pub IsWordUnsaid : Question → FittedTrace → WordErr → Type 0
-IsWordUnsaid asked f (err.Absent what) = LacksWord asked f what
-IsWordUnsaid asked f (err.Unwritten e) = e ≡ NoMem
-
--- the question is about something that the run doesn't have, and nothing was written
-pub record IsOfNoWord (asked : Question) (image trace : List ℕ) (what : Absent) (w : Writer) : Type 0 where
-  pub fitted : FittedTrace
-  pub fits : IsFit image trace fitted
-  pub lacks : LacksWord asked fitted what
-  pub none : Appends w.before w.after []
-  pub works : w.failed ≡ false
+LacksWord asked f what = ⊥
 
 -- why a question about bytes wasn't answered, and what that leaves
-abbrev pub IsWordUnanswered : Question → List ℕ → List ℕ → WordErr → Writer → Type 0
-IsWordUnanswered asked image trace (err.Absent what) w = IsOfNoWord asked image trace what w
-IsWordUnanswered asked image trace (err.Unwritten e) w = NotAnswered (IsFitAnswerOf (IsWordAnswer asked) image trace) e w
-
--- the exit status of a question that wasn't answered
-abbrev pub word_status : WordErr → ExitStatus
-word_status (err.Absent what) = status.BadArguments
-word_status (err.Unwritten e) = status.Failed
-
--- why it wasn't, in words
-abbrev pub word_fault_words : WordErr → List ℕ
-word_fault_words (err.Absent absent.Object) = codes "the trace has no object of this number"
-word_fault_words (err.Absent absent.Word) = codes "the object has no word of this number"
-word_fault_words (err.Unwritten e) = unwritten_words e
+abbrev pub IsWordUnanswered : Question → List ℕ → List ℕ → AskErr → Writer → Type 0
+IsWordUnanswered asked = IsFitAnswerlessOf (IsWordAnswer asked) (LacksWord asked)

@@ -3,14 +3,15 @@
 ghost use Rattle.std.specs.Prelude.{◌≡◌, ◌<◌, IfOk, IfErr};
 ghost use Rattle.std.specs.String.{string_bytes};
 ghost use Rattle.ir_image.specs.Guest.{object_words};
-ghost use Rattle.ir_who_word.specs.Lines.{IsWordAnswer, IsLinesOf, IsWordUnsaid};
+ghost use Rattle.ir_past.specs.Replies.{IsTextless};
+ghost use Rattle.ir_who_word.specs.Lines.{IsLinesOf, IsWordAnswer, LacksWord};
 
 use crate::lines::word_text;
 use crate::object_word::ObjectWord;
 use crate::question::Question;
 use crate::walk::words;
-use crate::word_err::{Absent, WordErr};
 use ir_fit::Fitted;
+use ir_past::{Absent, AskErr};
 use ir_who::versions_of;
 use std::alloc::{AllocError, Global};
 
@@ -29,16 +30,16 @@ fn word_lines(alloc: Global, fitted: &Fitted, word: ObjectWord) -> Result<String
 ///
 /// # Errors
 /// There is no such object or word, or memory ran out.
-pub fn answer(alloc: Global, fitted: &Fitted, asked: &Question) -> Result<String, WordErr>
+pub fn answer(alloc: Global, fitted: &Fitted, asked: &Question) -> Result<String, AskErr>
     ensures ok { IfOk result (λ s. IsWordAnswer asked.now fitted.now (string_bytes s)) }
-    ensures fails { IfErr result (IsWordUnsaid asked.now fitted.now) }
+    ensures fails { IfErr result (IsTextless (LacksWord asked.now fitted.now)) }
 {
     fitted.known();
     if asked.object >= fitted.trace().objects() as u32 {
-        return Err(WordErr::Absent(Absent::Object));
+        return Err(AskErr::Absent(Absent::Object));
     }
     if asked.word >= fitted.image().object_words() as u32 {
-        return Err(WordErr::Absent(Absent::Word));
+        return Err(AskErr::Absent(Absent::Word));
     }
     let word = ObjectWord {
         object: asked.object as u8,

@@ -16,12 +16,9 @@ mod track;
 mod tracks;
 mod visit;
 mod walk;
-mod word_err;
 mod worded;
 
 pub use object_word::ObjectWord;
 pub use question::Question;
-pub use run::word_fit_run;
 pub use walk::words;
-pub use word_err::{Absent, WordErr};
 pub use worded::Worded;

@@ -2,7 +2,7 @@
 
 ghost use Rattle.std.specs.Prelude.{◌≡◌, ◌<◌, length, IfOk};
 ghost use Rattle.std.specs.String.{string_bytes};
-ghost use Rattle.ir_who_word.specs.Lines.{changed_word_line, is_other, word_text};
+ghost use Rattle.ir_who_word.specs.Lines.{changed_word_line, word_changes, word_text};
 
 use crate::worded::Worded;
 use ir_opened::step_text;
@@ -23,7 +23,7 @@ fn word_line(alloc: Global, index: u8, number: usize, worded: &Worded) -> Result
 // Whether a version has another word than the one before it; the first version counts as such.
 fn is_other(rows: &[Worded], number: usize) -> bool
     requires { number < length rows.now }
-    ensures { result ≡ is_other rows.now number }
+    ensures { result ≡ word_changes rows.now number }
 {
     number == 0 || rows[number - 1].word != rows[number].word
 }

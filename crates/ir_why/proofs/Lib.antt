@@ -6,4 +6,3 @@ mod Said
 mod Within
 mod Waited
 mod Earlier
-mod FitSaid

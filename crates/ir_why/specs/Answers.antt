@@ -1,23 +1,20 @@
 -- What `ir why` answers.
-use Rattle.std.specs.Prelude.{◌≡◌, ◌<◌, ◌≤◌, ◌⊎◌, ℕ, List, [], length, Result, Ok, false}
-use Rattle.std.specs.Io.KnownBytes.{Appends}
+use Rattle.std.specs.Prelude.{◌≡◌, ◌<◌, ◌≤◌, ◌⊎◌, ℕ, List, length, Result}
 use Rattle.ir_trace.specs.Recorded.{Recorded, recorded_thread}
 use Rattle.ir_trace.specs.declared.trace_err.TraceErr.{TraceErr}
 use Rattle.ir_files.specs.Writers.{Writer}
 use Rattle.ir_files.specs.declared.exit_status.ExitStatus.{ExitStatus}
 use Rattle.ir_files.specs.declared.exit_status.ExitStatus.TheVariants as status
-use Rattle.ir_past.specs.Answers.{AreCoherent, IsRefusal, NotAnswered}
-use Rattle.ir_past.specs.declared.past_err.PastErr.TheVariants.{NoMem}
+use Rattle.ir_past.specs.Replies.{IsTraceReply, IsTraceReplyless}
+use Rattle.ir_past.specs.declared.absent.Absent.{Absent}
+use Rattle.ir_past.specs.declared.absent.Absent.TheVariants as absent
+use Rattle.ir_past.specs.declared.ask_err.AskErr.{AskErr}
 use Rattle.ir_past.specs.declared.place.Place.{Place}
 use Rattle.ir_picture.specs.Answers.{circle_line}
 use Rattle.ir_picture.specs.Needs.{HasNoCircle, IsCircleAt}
 use Rattle.ir_picture.specs.Places.{AreBoxesPlaced}
 use Rattle.ir_picture.specs.declared.placed_box.PlacedBox.{PlacedBox}
 use Rattle.ir_picture.specs.declared.placed_box.Point.{Point}
-use Rattle.ir_picture.specs.declared.view_err.Absent.{Absent}
-use Rattle.ir_picture.specs.declared.view_err.Absent.TheVariants as absent
-use Rattle.ir_picture.specs.declared.view_err.ViewErr.{ViewErr}
-use Rattle.ir_picture.specs.declared.view_err.ViewErr.TheVariants as view
 use Rattle.ir_why.specs.Needed.{AreNeeds}
 use Rattle.ir_why.specs.Before.{IsPast}
 use Rattle.ir_why.specs.Chain.{AreLinks}
@@ -58,31 +55,20 @@ IsEventAnswer r p most answered text =
 abbrev pub IsWhyOfTrace : Question → Recorded → ExitStatus → List ℕ → Type 0
 IsWhyOfTrace asked r answered text = IsEventAnswer r (event_asked asked) asked.most answered text
 
+-- the same where the trace has the event
+abbrev pub IsWhyTold : Question → Recorded → ExitStatus → List ℕ → Type 0
+IsWhyTold asked r answered text = HasAsked r asked × IsWhyOfTrace asked r answered text
+
 -- the answer about bytes
 abbrev pub IsWhyAnswer : Question → Result Recorded TraceErr → ExitStatus → List ℕ → Type 0
-IsWhyAnswer asked read answered text =
-    ((r : Recorded) × (read ≡ Ok r) × AreCoherent r × HasAsked r asked × IsWhyOfTrace asked r answered text) ⊎ IsRefusal read answered text
+IsWhyAnswer asked = IsTraceReply (IsWhyTold asked)
 
 -- the trace doesn't have the event
 abbrev pub LacksEvent : Question → Recorded → Absent → Type 0
 LacksEvent asked r absent.Thread = length r.threads ≤ asked.thread
 LacksEvent asked r absent.Event = (asked.thread < length r.threads) × (length (recorded_thread r asked.thread).events ≤ asked.event)
-
--- why there is no answer about a coherent trace
-abbrev pub IsWhyUnsaid : Question → Recorded → ViewErr → Type 0
-IsWhyUnsaid asked r (view.Absent what) = LacksEvent asked r what
-IsWhyUnsaid asked r (view.Unwritten e) = e ≡ NoMem
-
--- the trace doesn't have the event, and nothing was written
-pub record IsOfNoEvent (asked : Question) (read : Result Recorded TraceErr) (what : Absent) (w : Writer) : Type 0 where
-  pub trace : Recorded
-  pub is_trace : read ≡ Ok trace
-  pub coherent : AreCoherent trace
-  pub lacks : LacksEvent asked trace what
-  pub none : Appends w.before w.after []
-  pub works : w.failed ≡ false
+LacksEvent asked r what = ⊥
 
 -- why there is no answer about bytes, and what that leaves
-abbrev pub IsWhyUnanswered : Question → Result Recorded TraceErr → ViewErr → Writer → Type 0
-IsWhyUnanswered asked read (view.Absent what) w = IsOfNoEvent asked read what w
-IsWhyUnanswered asked read (view.Unwritten e) w = NotAnswered (IsWhyAnswer asked read) e w
+abbrev pub IsWhyUnanswered : Question → Result Recorded TraceErr → AskErr → Writer → Type 0
+IsWhyUnanswered asked = IsTraceReplyless (IsWhyTold asked) (LacksEvent asked)

@@ -1,26 +1,22 @@
 -- What `ir why` answers where it is asked with an image.
-use Rattle.std.specs.Prelude.{◌≡◌, ◌+◌, ⊤, ℕ, List, [], length, Option, Some, None, false, codes}
+use Rattle.std.specs.Prelude.{◌≡◌, ◌+◌, ◌⊎◌, ⊤, ℕ, List, length, Option, Some, None}
 use Rattle.std.specs.Option.{option_map}
 use Rattle.std.specs.List.{slice_get}
-use Rattle.std.specs.Io.KnownBytes.{Appends}
 use Rattle.ir_log.specs.declared.event.Event.{Event}
 use Rattle.ir_fit.specs.Fit.{FittedTrace}
 use Rattle.ir_cut.specs.Positions.{first_cut, IsConsistentCut}
 use Rattle.ir_cut.specs.Searching.{IsLeastCut}
 use Rattle.ir_files.specs.Writers.{Writer}
-use Rattle.ir_files.specs.declared.exit_status.ExitStatus.{ExitStatus}
-use Rattle.ir_files.specs.declared.exit_status.ExitStatus.TheVariants as status
-use Rattle.ir_past.specs.Answers.{NotAnswered, fault_words as unwritten_words}
 use Rattle.ir_past.specs.Past.{event_at}
-use Rattle.ir_past.specs.declared.past_err.PastErr.TheVariants.{NoMem}
+use Rattle.ir_past.specs.declared.absent.Absent.{Absent}
+use Rattle.ir_past.specs.declared.absent.Absent.TheVariants as absent
+use Rattle.ir_past.specs.declared.ask_err.AskErr.{AskErr}
 use Rattle.ir_past.specs.declared.place.Place.{Place}
 use Rattle.ir_picture.specs.Places.{AreBoxesPlaced}
 use Rattle.ir_picture.specs.declared.placed_box.PlacedBox.{PlacedBox}
 use Rattle.ir_picture.specs.declared.placed_box.Point.{Point}
-use Rattle.ir_picture.specs.declared.view_err.Absent.TheVariants as absent
 use Rattle.ir_events.specs.Events.{event_entry}
-use Rattle.ir_opened.specs.Answers.{IsFitAnswerOf}
-use Rattle.ir_opened.specs.Opened.{IsFit}
+use Rattle.ir_opened.specs.Answers.{IsFitAnswerlessOf}
 use Rattle.ir_opened.specs.Positions.{IsInside, IsLeft}
 use Rattle.ir_why.specs.Answers.{event_asked, HasAsked, LacksEvent}
 use Rattle.ir_why.specs.FitLines.{here_line, fit_text}
@@ -30,8 +26,6 @@ use Rattle.ir_opened.specs.Paired.{ArePaired}
 use Rattle.ir_why.specs.declared.fit_question.FitQuestion.{FitQuestion}
 use Rattle.ir_why.specs.declared.need.Need.{Need}
 use Rattle.ir_why.specs.declared.wait.Wait.{Wait}
-use Rattle.ir_why.specs.declared.why_err.WhyErr.{WhyErr}
-use Rattle.ir_why.specs.declared.why_err.WhyErr.TheVariants as why
 
 -- each of these events is one of a thread of the guest
 abbrev pub AreEventsInside : FittedTrace → List Place → Type 0
@@ -82,13 +76,13 @@ abbrev pub positions_asked : FitQuestion → Option (List ℕ)
 positions_asked asked = option_map (λ v. v.items) asked.at
 
 -- these are positions of all threads, and a consistent cut
-abbrev pub IsCutOf : FittedTrace → List ℕ → Type 0
-IsCutOf f ps = (length ps ≡ length f.guest.entries) × IsConsistentCut f ps
+abbrev pub IsCutOfThreads : FittedTrace → List ℕ → Type 0
+IsCutOfThreads f ps = (length ps ≡ length f.guest.entries) × IsConsistentCut f ps
 
 -- so are those that are asked about, if they are
 abbrev pub AreCuts : FittedTrace → Option (List ℕ) → Type 0
 AreCuts f None = ⊤
-AreCuts f (Some ps) = IsCutOf f ps
+AreCuts f (Some ps) = IsCutOfThreads f ps
 
 -- the answer about a guest and a trace of one of its runs
 pub record IsFitReason (asked : FitQuestion) (f : FittedTrace) (text : List ℕ) : Type 0 where
@@ -96,35 +90,11 @@ pub record IsFitReason (asked : FitQuestion) (f : FittedTrace) (text : List ℕ)
   pub at : AreCuts f (positions_asked asked)
   pub reason : IsReasonIn f (event_asked asked.what) asked.what.most (positions_asked asked) text
 
--- why there is no answer about a guest and a trace of one of its runs
-abbrev pub IsFitUnsaid : FitQuestion → FittedTrace → WhyErr → Type 0
-IsFitUnsaid asked f (why.Absent what) = LacksEvent asked.what f.recorded what
-IsFitUnsaid asked f why.NoCut = HasAsked f.recorded asked.what × (AreCuts f (positions_asked asked) → ⊥)
-IsFitUnsaid asked f (why.Unwritten e) = e ≡ NoMem
-
--- the run doesn't have what is asked about, and nothing was written
-pub record IsOfNone (asked : FitQuestion) (image trace : List ℕ) (e : WhyErr) (w : Writer) : Type 0 where
-  pub fitted : FittedTrace
-  pub fits : IsFit image trace fitted
-  pub lacks : IsFitUnsaid asked fitted e
-  pub none : Appends w.before w.after []
-  pub works : w.failed ≡ false
+-- the run doesn't have what is asked about: no such event, or the positions are no consistent cut
+abbrev pub LacksFitAsked : FitQuestion → FittedTrace → Absent → Type 0
+LacksFitAsked asked f what =
+    LacksEvent asked.what f.recorded what ⊎ ((what ≡ absent.Cut) × HasAsked f.recorded asked.what × (AreCuts f (positions_asked asked) → ⊥))
 
 -- why there is no answer about bytes, and what that leaves
-abbrev pub IsWhyFitUnanswered : FitQuestion → List ℕ → List ℕ → WhyErr → Writer → Type 0
-IsWhyFitUnanswered asked image trace (why.Absent what) w = IsOfNone asked image trace (why.Absent what) w
-IsWhyFitUnanswered asked image trace why.NoCut w = IsOfNone asked image trace why.NoCut w
-IsWhyFitUnanswered asked image trace (why.Unwritten e) w = NotAnswered (IsFitAnswerOf (IsFitReason asked) image trace) e w
-
--- the exit status where there is no answer
-abbrev pub why_status : WhyErr → ExitStatus
-why_status (why.Absent what) = status.BadArguments
-why_status why.NoCut = status.BadArguments
-why_status (why.Unwritten e) = status.Failed
-
--- why there is none, in words
-abbrev pub why_fault_words : WhyErr → List ℕ
-why_fault_words (why.Absent absent.Thread) = codes "the trace has no thread of this number"
-why_fault_words (why.Absent absent.Event) = codes "the thread has no event of this number"
-why_fault_words why.NoCut = codes "the positions are no consistent cut of the run"
-why_fault_words (why.Unwritten e) = unwritten_words e
+abbrev pub IsWhyFitUnanswered : FitQuestion → List ℕ → List ℕ → AskErr → Writer → Type 0
+IsWhyFitUnanswered asked = IsFitAnswerlessOf (IsFitReason asked) (LacksFitAsked asked)

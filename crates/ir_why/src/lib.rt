@@ -20,14 +20,11 @@ mod tables;
 mod texts;
 mod wait;
 mod waits;
-mod why_err;
 
 pub use before::past_of;
 pub use chain::chain_of;
 pub use fit_question::FitQuestion;
-pub use fit_run::why_fit_run;
 pub use laws::{needs_left_before, waits_before};
 pub use link::Link;
 pub use question::Question;
-pub use run::why_run;
 pub use tables::{Tables, tables_of};

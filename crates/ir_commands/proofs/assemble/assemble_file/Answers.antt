@@ -1,19 +1,18 @@
 use Rattle.std.proofs.Common.{◌≡◌, ◌∙◌, Ok, inl, refl, subst, sym, ap, arith, map, ℕ, List}
 use Rattle.std.specs.String.{string_bytes}
-use Rattle.ir_files.specs.Given.{IsStored}
 use Rattle.ir_files.specs.Statuses.{status_number}
 use Rattle.ir_asm.specs.Passes.{labels_of}
 use Rattle.ir_make.specs.Assembling.{image_bytes, masked}
 use Rattle.ir_symbols.specs.Maps.{map_text}
 use Rattle.ir_commands.specs.Files.{IsFileIn}
-use Rattle.ir_commands.specs.Writing.{StoresLabels}
+use Rattle.ir_commands.specs.Writing.{StoresLabels, storing}
 use Rattle.ir_commands.proofs.Stored.{labels_are_one, labels_never_refused, stored_in_place}
 use Rattle.ir_commands.proofs.assemble.assemble_file.Goals as goal
 
 pub returns-in-Some-map : goal.returns-in-Some-map
 returns-in-Some-map g c =
     let at = g.D.Folder.bytes_at c.args.folder.now in
-    let stored = λ (place bytes : List ℕ). IsStored g.D.Folder.known (g.D.Folder.knows c.args.folder.now) (g.D.Folder.was_put c.args.folder.now) place bytes in
+    let stored = storing g.D.Folder.known g.D.Folder.known_closed (g.D.Folder.knows c.args.folder.now) (g.D.Folder.was_put c.args.folder.now) in
     let source = c.in-Some.bytes.items in
     let image = c.asm_run.new.image in
     let done = c.in-Ok.ensures.done in
@@ -34,7 +33,7 @@ returns-in-Some-map g c =
           labels.0,
           subst (λ z. labels_of (map masked z) ≡ Ok c.in-Ok.labels) c.as_slice.ensures.value c.in-Ok.ensures.labels,
           labels.1,
-          subst (λ p. stored p (map_text labels.0)) c.as_str-in-Some-map.ensures.value labels.2,
+          subst (λ p. stored.whole p (map_text labels.0)) c.as_str-in-Some-map.ensures.value labels.2,
         );
       };
       unmade = labels_never_refused put.status;
@@ -43,7 +42,7 @@ returns-in-Some-map g c =
 pub returns : goal.returns
 returns g c =
     let at = g.D.Folder.bytes_at c.args.folder.now in
-    let stored = λ (place bytes : List ℕ). IsStored g.D.Folder.known (g.D.Folder.knows c.args.folder.now) (g.D.Folder.was_put c.args.folder.now) place bytes in
+    let stored = storing g.D.Folder.known g.D.Folder.known_closed (g.D.Folder.knows c.args.folder.now) (g.D.Folder.was_put c.args.folder.now) in
     let source = c.in-Some.bytes.items in
     let image = c.asm_run.new.image in
     let done = c.in-Ok.ensures.done in

@@ -1,11 +1,12 @@
 use Rattle.std.proofs.Common.{◌∙◌, List, ℕ, ap, refl, subst, sym}
-use Rattle.ir_files.specs.Given.{IsStored}
 use Rattle.ir_files.specs.Writers.{writer_of}
 use Rattle.ir_hunt.specs.declared.plan.HuntPlan.{HuntPlan}
 use Rattle.ir_commands.specs.Conditions.{AreWritten}
 use Rattle.ir_commands.specs.Exploring.{IsInput}
 use Rattle.ir_commands.specs.Files.{IsImageIn}
 use Rattle.ir_commands.specs.Searching.{AsksHunt, HuntsFile, hunt_plan_asked}
+use Rattle.ir_commands.specs.Writing.{KeptAt, storing, texts_of_paths}
+use Rattle.ir_commands.proofs.Kept.{kept_as_asked, output_paths_as_asked}
 use Rattle.ir_commands.proofs.Searched.{hunt_comes_to}
 use Rattle.ir_commands.proofs.hunt.hunted_by.Goals as goal
 
@@ -13,7 +14,7 @@ pub returns-clause-done : goal.returns-clause-done
 returns-clause-done g c =
     let folder = c.args.around.now.folder.now in
     let at = g.D.Folder.bytes_at folder in
-    let stored = λ (place bytes : List ℕ). IsStored g.D.Folder.known (g.D.Folder.knows folder) (g.D.Folder.was_put folder) place bytes in
+    let stored = storing g.D.Folder.known g.D.Folder.known_closed (g.D.Folder.knows folder) (g.D.Folder.was_put folder) in
     let arguments = c.args.arguments.now in
     let image = c.new-image.result in
     let plan : HuntPlan = record {
@@ -38,15 +39,19 @@ returns-clause-done g c =
         conditions = subst (λ z. AreWritten arguments.until.items z) (sym c.as_slice-4.ensures.value)
             (subst (λ t. AreWritten t c.in_ok-conditions.conditions.items) c.as_slice-2.ensures.value c.in_ok-conditions.ensures.read);
         stale = refl;
+        jobs = refl;
         seconds = refl;
       };
     } in
+    let outs = output_paths_as_asked (λ v. v.items) c.paths-paths.result.output c.new-places.result.outputs c.in_ok-outputs.outputs c.paths-paths.ensures.output
+        c.new-places.ensures.outputs c.in_ok-outputs.ensures.paths in
     let kept = c.in_ok-outputs.ensures.kept ∙ c.in_ok-conditions.ensures.kept ∙ c.in_ok-image.ensures.kept ∙ c.if-loses_input.ensures.kept refl in
     subst (λ f. HuntsFile at stored arguments c.ended.result
     (writer_of (g.O.Sink.written c.args.out.now) (g.O.Sink.written c.ended.new.out) (g.O.Sink.broken c.ended.new.out))
     (writer_of (g.E.Sink.written f) (g.E.Sink.written c.ended.new.faults) (g.E.Sink.broken c.ended.new.faults))) kept
     (hunt_comes_to g.O.Sink.written g.O.Sink.broken g.E.Sink.written g.E.Sink.broken at stored arguments image plan
     c.args.out.now c.hunted_into-found.new.out c.ended.new.out c.beside_of.new.faults c.hunted_into-found.new.faults c.ended.new.faults c.ended.result
-    c.new-places.result.trace.now c.hunted_into-found.result asked (c.new-places.ensures.trace ∙ c.paths-paths.ensures.trace)
+    (KeptAt stored c.new-places.result.trace.now (texts_of_paths c.new-places.result.outputs)) c.hunted_into-found.result asked
+    (kept_as_asked stored (c.new-places.ensures.trace ∙ c.paths-paths.ensures.trace) outs)
     c.hunted_into-found.ensures.found c.hunted_into-found.ensures.none c.ended.ensures.stopped c.ended.ensures.quiet c.ended.ensures.kept c.ended.ensures.done
     c.ended.ensures.shrunk)

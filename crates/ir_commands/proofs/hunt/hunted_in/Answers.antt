@@ -1,7 +1,8 @@
+use Rattle.std.proofs.Common.{ap}
 use Rattle.std.proofs.lemmas.Result.{IfErr-weaker, IfOk-weaker}
 use Rattle.ir_files.specs.Writers.{writer_of}
 use Rattle.ir_record_command.specs.Stopping.{devices, telling, tellings}
-use Rattle.ir_commands.proofs.Searched.{hunt_tells_none}
+use Rattle.ir_commands.proofs.Searched.{hunt_tells_none, left_out_is_told}
 use Rattle.ir_commands.proofs.hunt.hunted_in.Goals as goal
 
 pub returns-clause-found : goal.returns-clause-found
@@ -11,8 +12,9 @@ returns-clause-found g c = IfOk-weaker c.hunt_run.result _ _ (λ recorded done. 
   list = done.2;
   printed = done.3;
   finding = done.4;
-  trace = done.5;
+  kept = (done.5, done.6);
   lines = done.7;
+  told = left_out_is_told done.0 (ap g.E.Sink.written) done.8;
 }) c.hunt_run.ensures.done
 
 pub returns-clause-none : goal.returns-clause-none
@@ -23,4 +25,4 @@ returns-clause-none g c =
     IfErr-weaker c.hunt_run.result _ _ (λ answered h. hunt_tells_none
     (tellings (telling g.W.Sink.written g.W.Sink.broken g.W.WholeSink.called g.W.WholeSink.cause)
     (telling g.P.OutputSink.taken g.P.OutputSink.broken g.P.OutputSink.called g.P.OutputSink.cause) g.O.Sink.written g.O.Sink.broken)
-    answered c.args.image.now c.args.plan.now old new reports h) c.hunt_run.ensures.stopped
+    answered c.args.image.now c.args.plan.now old new reports (ap g.E.Sink.written) h) c.hunt_run.ensures.stopped

@@ -1,13 +1,13 @@
 use Rattle.std.proofs.Common.{◌∙◌, List, ℕ, ap, refl, subst, sym}
 use Rattle.std.proofs.lemmas.Result.{IfErr-weaker, on_ok_weaker}
 use Rattle.std.specs.String.{string_bytes}
-use Rattle.ir_files.specs.Given.{IsStored}
 use Rattle.ir_files.specs.Writers.{writer_of}
 use Rattle.ir_within.specs.Faults.{Comparison}
 use Rattle.ir_within.specs.Plans.{aspects_of}
 use Rattle.ir_commands.specs.Exploring.{AsksComparison, IsPlanOf}
 use Rattle.ir_commands.specs.Files.{IsImageIn}
-use Rattle.ir_commands.specs.Outside.{RecordsOutside}
+use Rattle.ir_commands.specs.Writing.{storing}
+use Rattle.ir_commands.proofs.Kept.{kept_as_asked, outside_kept, output_paths_as_asked}
 use Rattle.ir_commands.proofs.Outsides.{outside_misses}
 use Rattle.ir_commands.proofs.outside.outside_by.Goals as goal
 
@@ -15,7 +15,7 @@ pub returns-clause-found : goal.returns-clause-found
 returns-clause-found g c =
     let folder = c.args.around.now.folder.now in
     let at = g.D.Folder.bytes_at folder in
-    let stored = λ (place bytes : List ℕ). IsStored g.D.Folder.known (g.D.Folder.knows folder) (g.D.Folder.was_put folder) place bytes in
+    let stored = storing g.D.Folder.known g.D.Folder.known_closed (g.D.Folder.knows folder) (g.D.Folder.was_put folder) in
     let within = c.args.arguments.now.within in
     let both = c.both_images-both.result in
     let plan = c.plan_of.result in
@@ -29,10 +29,12 @@ returns-clause-found g c =
       counts = c.aspects_of.ensures;
     } in
     let out = writer_of (g.O.Sink.written c.args.out.now) (g.O.Sink.written c.outside_into.new.out) (g.O.Sink.broken c.outside_into.new.out) in
+    let outs = output_paths_as_asked (λ v. v.items) c.paths-paths.result.output c.new-places.result.outputs c.in_ok-outputs.outputs c.paths-paths.ensures.output
+        c.new-places.ensures.outputs c.in_ok-outputs.ensures.paths in
     on_ok_weaker c.outside_into.result (λ found. record {
       comparison = comparison;
       asked = asked;
-      found = subst (λ p. RecordsOutside comparison (stored p) out) (c.new-places.ensures.trace ∙ c.paths-paths.ensures) found;
+      found = outside_kept (kept_as_asked stored (c.new-places.ensures.trace ∙ c.paths-paths.ensures.trace) outs) found;
     }) c.outside_into.ensures.found
 
 pub returns-clause-none : goal.returns-clause-none

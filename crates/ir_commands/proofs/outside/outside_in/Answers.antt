@@ -13,7 +13,7 @@ returns-clause-found g c = ok_gives c.outside_run.result (λ recorded done. reco
   recorded = recorded;
   printed = done.2;
   finding = done.3;
-  trace = done.4;
+  kept = (done.4, done.5);
   lines = done.6;
 }) c.outside_run.ensures.found
 

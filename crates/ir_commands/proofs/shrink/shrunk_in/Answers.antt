@@ -12,7 +12,7 @@ returns-clause-done g c = IfOk-weaker c.shrink_run.result _ _ (λ shrunk done. r
   recorded = shrunk.trace;
   printed = done.3;
   shrinking = done.4;
-  trace = done.5;
+  kept = (done.5, done.6);
   lines = done.7;
 }) c.shrink_run.ensures.done
 

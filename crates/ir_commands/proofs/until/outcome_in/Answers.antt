@@ -11,7 +11,7 @@ returns-clause-found g c = ok_gives c.explore_until.result (λ recorded done. re
   recorded = recorded;
   printed = done.2;
   finding = done.3;
-  trace = done.4;
+  kept = (done.4, done.5);
   lines = done.6;
 }) c.explore_until.ensures.found
 
