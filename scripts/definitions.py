@@ -83,7 +83,7 @@ CLAIMS = [
         ("ir_explore", "Conditions", "`IsFirst`, `NeverFulfils`"),
         ("ir_explore", "Until", "`IsSought`, `IsVain`"),
         ("ir_explore", "Hang", "`FindsHang`, `IsHangTold`"),
-    ], (521, 320)),
+    ], (533, 320)),
     Claim("Comparing", "`ir explore --within` says whether each outcome of a guest is also an outcome of another guest; `--only` lists outcomes by classes.", {
         "ir_within/src/run.rt": ["within_run"],
         "ir_within/src/classes.rt": ["classes_run"],

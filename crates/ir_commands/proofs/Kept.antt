@@ -43,9 +43,9 @@ outputs_in_place {D} {Put} known knows was_put thread of folder first last paths
     let same : last ≡ folder = ap (λ (h : D × Option (List (List ℕ))). h.0) home ∙ here in
     let there : other ≡ paths = ap (λ (h : D × Option (List (List ℕ))). h.1) home ∙ at in
     let begun : outputs_given (knows first) (λ p. (thread p, known (of p))) own old ≡ outputs_given (knows folder) (λ p. (thread p, known (of p))) paths [] =
-        λ i. outputs_given (knows (here i)) (λ p. (thread p, known (of p))) (at i) (none i) in
+    λ i. outputs_given (knows (here i)) (λ p. (thread p, known (of p))) (at i) (none i) in
     let ended : outputs_given (knows last) (λ p. (thread p, known (of p))) other new ≡ outputs_given (knows folder) (λ p. (thread p, known (of p))) paths new =
-        λ i. outputs_given (knows (same i)) (λ p. (thread p, known (of p))) (there i) new in
+    λ i. outputs_given (knows (same i)) (λ p. (thread p, known (of p))) (there i) new in
     outputs_stand known (knows folder) (was_put folder) thread of paths new printed
     (subst (λ o. Gains (outputs_given (knows folder) (λ p. (thread p, known (of p))) paths []) o (by_thread printed)) ended
     (subst (λ o. Gains o (outputs_given (knows last) (λ p. (thread p, known (of p))) other new) (by_thread printed)) begun gains))

@@ -57,8 +57,11 @@ pub outside_tells_none : {W P O : Type 0} (d : Tellings W P O) (answered : ExitS
 outside_tells_none d answered c old new reports (inl h) = inl h.3
 outside_tells_none d answered c old new reports (inr (inl h)) =
     inr (within_fault_is h.0 (told_lacks_guest h.0 c _ h.4) h.1, (h.5.0, h.5.2))
-outside_tells_none d answered c old new reports (inr (inr h)) = inr (fault_is_no_recording h.0 (λ r. inl (spelled_lacks_guest _ h.5.told.first.leads.spelled
-    (stopped_lacks_guest h.0 c.image h.3 (recording c.plan (Some h.3)) h.5.guest _ _ _ _ _ _ h.5.is.0 refl h.7.1 r))) h.1, reported_is_told h.0 c.image _ _ _ reports h.7.0)
+outside_tells_none d answered c old new reports (inr (inr h)) = inr (
+  fault_is_no_recording h.0 (λ r. inl (spelled_lacks_guest _ h.5.told.first.leads.spelled
+      (stopped_lacks_guest h.0 c.image h.3 (recording c.plan (Some h.3)) h.5.guest _ _ _ _ _ _ h.5.is.0 refl h.7.1 r))) h.1,
+  reported_is_told h.0 c.image _ _ _ reports h.7.0,
+)
 
 either_refused : (at : Paths) (arguments : OutsideArguments) (c : Comparison) → AsksComparison at arguments.within c
     → LacksGuest c.image c.plan.profile ⊎ LacksGuest c.other c.plan.profile → RefusesEither at arguments

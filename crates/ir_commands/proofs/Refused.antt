@@ -35,8 +35,8 @@ abbrev is_ok : {A E : Type 0} → Result A E → Bool
 is_ok (Ok x) = true
 is_ok (Err e) = false
 
-value_is : {A : Type 0} {a b : A} → Some a ≡ Some b → a ≡ b
-value_is {A} {a} {b} e = ap (λ (o : Option A). option_map_or (λ z. z) o a) e
+lists_are_same : {a b : List ℕ} → Some a ≡ Some b → a ≡ b
+lists_are_same {a} {b} e = ap (λ (o : Option (List ℕ)). option_map_or (λ z. z) o a) e
 
 -- ---- statuses
 
@@ -97,7 +97,7 @@ spells_none : (image list : List ℕ) (plan : Plan) (guest : Guest) (threads : �
     → RefusesRecord (Order threads) image plan → order_of (length guest.entries) list ≡ None
 spells_none image list plan guest threads is order r =
     let own : r.0 ≡ guest = ok_is_injective r.0 guest (sym r.2 ∙ is) in
-    let same : r.1 ≡ list = value_is (sym r.7 ∙ order) in
+    let same : r.1 ≡ list = lists_are_same (sym r.7 ∙ order) in
     let many : threads ≡ length guest.entries = r.4 ∙ ap (λ (g : Guest). length g.entries) own in
     ap (λ n. order_of n list) (sym many) ∙ ap (order_of threads) (sym same) ∙ r.8
 

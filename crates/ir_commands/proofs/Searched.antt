@@ -34,7 +34,8 @@ use Rattle.ir_trace.specs.Recorded.{Recorded}
 use Rattle.ir_commands.specs.Files.{LacksGuest, TellsFault}
 use Rattle.ir_commands.specs.Printing.{Paths}
 use Rattle.ir_commands.specs.Searching.{AsksHunt, AsksSearch, AsksShrink, EndsFound, HangHasNoOrder, HuntsFile, IsShrinkPlanOfHunt, IsStatusOfNoShrinking, RecordsHang, RecordsHunted}
-use Rattle.ir_commands.specs.Searching.{RecordsShrunkRun, RefusesFound, RefusesGiven, RefusesSearch, RefusesUntil, SearchFinds, SearchMisses, SearchesFile, ShrinkRefuses, ShrinksFound, TellsNoSearch, TellsNoSeed, TellsVain}
+use Rattle.ir_commands.specs.Searching.{RecordsShrunkRun, RefusesFound, RefusesGiven, RefusesSearch, RefusesUntil}
+use Rattle.ir_commands.specs.Searching.{SearchFinds, SearchMisses, SearchesFile, ShrinkRefuses, ShrinksFound, TellsNoSearch, TellsNoSeed, TellsVain}
 use Rattle.ir_commands.specs.Writing.{IsStatusOfNoRecording, KeptAsAsked, Keeping, Storing}
 use Rattle.ir_commands.proofs.Kept.{ends_kept, hunted_kept, shrunk_kept}
 use Rattle.ir_commands.proofs.Refused.{answer_lacks_guest, explore_fault_is, failed_is_not_refused, fault_is_no_recording, hang_lacks_guest, hunt_lacks_guest}
@@ -74,8 +75,10 @@ hunt_tells_none d answered image plan old new reports to (inr (e, is, inl t)) =
 hunt_tells_none d answered image plan old new reports to (inr (e, is, inr (inl t))) =
     inr (fault_is_no_recording Lines failed_is_not_refused (is ∙ ap fault_status t.1), (record_fault_words e, t.6))
 hunt_tells_none d answered image plan old new reports to (inr (e, is, inr (inr t))) =
-    inr (fault_is_no_recording e (λ r. spelled_lacks_guest _ t.4.lowest.found.spelled (stopped_lacks_guest e image t.2 (by_list plan.record t.2) t.4.guest _ _ _ _ _ _ t.4.is refl t.6.1 r)) is,
-    reported_is_told e image _ _ _ reports t.6.0)
+    inr (
+      fault_is_no_recording e (λ r. spelled_lacks_guest _ t.4.lowest.found.spelled (stopped_lacks_guest e image t.2 (by_list plan.record t.2) t.4.guest _ _ _ _ _ _ t.4.is refl t.6.1 r)) is,
+      reported_is_told e image _ _ _ reports t.6.0,
+    )
 
 -- what a search for an outcome tells that records nothing
 pub search_tells_none : {W P O : Type 0} (d : Tellings W P O) (answered : ExitStatus) (image : List ℕ) (plan : ExplorePlan) (conditions : List Condition)
@@ -85,8 +88,10 @@ search_tells_none d answered image plan conditions old new reports (inl h) = inl
 search_tells_none d answered image plan conditions old new reports (inr (inl h)) =
     inr (explore_fault_is h.0 (answer_lacks_guest h.0 image plan (map as_condition conditions) _ h.4) h.1, (explore_fault_words h.0, h.5))
 search_tells_none d answered image plan conditions old new reports (inr (inr h)) =
-    inr (fault_is_no_recording h.0 (λ r. spelled_lacks_guest _ h.5.says.hit.spelled (stopped_lacks_guest h.0 image h.3 (recording plan (Some h.3)) h.5.guest _ _ _ _ _ _ h.5.is refl h.7.1 r)) h.1,
-    reported_is_told h.0 image _ _ _ reports h.7.0)
+    inr (
+      fault_is_no_recording h.0 (λ r. spelled_lacks_guest _ h.5.says.hit.spelled (stopped_lacks_guest h.0 image h.3 (recording plan (Some h.3)) h.5.guest _ _ _ _ _ _ h.5.is refl h.7.1 r)) h.1,
+      reported_is_told h.0 image _ _ _ reports h.7.0,
+    )
 
 hang_or_guest : (image : List ℕ) (plan : ExplorePlan) (order : HangOrder) (text : List ℕ) (told : IsHangAnswer image plan (Ok order) text)
     → LacksGuest image plan.profile ⊎ (order_of (length told.guest.entries) (string_bytes order.list) ≡ None) → LacksGuest image plan.profile ⊎ HangHasNoOrder image plan
@@ -103,8 +108,11 @@ hang_tells_none d answered image plan old new reports (inl h) = inl h.3
 hang_tells_none d answered image plan old new reports (inr (inl h)) =
     inr (explore_fault_is h.0 (λ r. inl (hang_lacks_guest h.0 image plan _ h.4 r)) h.1, (explore_fault_words h.0, h.5))
 hang_tells_none d answered image plan old new reports (inr (inr h)) =
-    inr (fault_is_no_recording h.0 (λ r. hang_or_guest image plan h.2 h.3 h.5
-    (stopped_lacks_guest h.0 image (string_bytes h.2.list) (hang_plan plan h.2) h.5.guest _ _ _ _ _ _ h.5.is refl h.7.1 r)) h.1, reported_is_told h.0 image _ _ _ reports h.7.0)
+    inr (
+      fault_is_no_recording h.0 (λ r. hang_or_guest image plan h.2 h.3 h.5
+          (stopped_lacks_guest h.0 image (string_bytes h.2.list) (hang_plan plan h.2) h.5.guest _ _ _ _ _ _ h.5.is refl h.7.1 r)) h.1,
+      reported_is_told h.0 image _ _ _ reports h.7.0,
+    )
 
 -- a plan that is the same may stand for it
 pub with_plan : {image : List ℕ} {plan other : ExplorePlan} {is_kept : Keeping} {out : Writer} → plan ≡ other
@@ -169,14 +177,17 @@ hunt_comes_to written broken reported fails at stored arguments image plan out s
     )
 hunt_comes_to written broken reported fails at stored arguments image plan out said out' faults told faults' answered one (Err e) asked here found (inl none) stopped quiet kept done shrunk =
     let seedless = subst (λ a. TellsNoSeed image plan a (writer_of (written out) (written out') (broken out')) (writer_of (reported faults) (reported faults') (fails faults')))
-        (sym stopped)
-        (subst (λ f. TellsNoSeed image plan e (writer_of (written out) (written out') (broken out')) (writer_of (reported faults) (reported f) (fails f))) (sym kept)
-        (subst (λ o. TellsNoSeed image plan e (writer_of (written out) (written o) (broken o)) (writer_of (reported faults) (reported told) (fails told))) (sym quiet) none)) in
+    (sym stopped)
+    (subst (λ f. TellsNoSeed image plan e (writer_of (written out) (written out') (broken out')) (writer_of (reported faults) (reported f) (fails f))) (sym kept)
+    (subst (λ o. TellsNoSeed image plan e (writer_of (written out) (written o) (broken o)) (writer_of (reported faults) (reported told) (fails told))) (sym quiet) none)) in
     inl (λ no. record { image = image; plan = plan; asked = asked; ended = inr seedless }, λ yes. record { image = image; plan = plan; asked = asked; ended = inr seedless })
 hunt_comes_to written broken reported fails at stored arguments image plan out said out' faults told faults' answered one (Err e) asked here found (inr none) stopped quiet kept done shrunk =
     let refuses = RefusesSearch (at (string_bytes arguments.image)) arguments.options.profile arguments.until.items in
-    let why : LacksGuest image plan.record.profile → refuses = λ lacks. inl (inr (image, asked.is_image,
-        subst (λ (p : Plan). LacksGuest image p.profile) asked.is_plan.how lacks)) in
+    let why : LacksGuest image plan.record.profile → refuses = λ lacks. inl (inr (
+      image,
+      asked.is_image,
+      subst (λ (p : Plan). LacksGuest image p.profile) asked.is_plan.how lacks,
+    )) in
     inr (subst (λ a. TellsNoSearch refuses a (writer_of (reported faults) (reported faults') (fails faults'))) (sym stopped)
     (subst (λ f. TellsNoSearch refuses e (writer_of (reported faults) (reported f) (fails f))) (sym kept) (refused_since why none.0, none.1)))
 

@@ -1,5 +1,6 @@
 -- What the commands that write files leave there, by the bytes that a folder says are at the paths of their arguments.
-use Rattle.std.specs.Prelude.{◌≡◌, ◌⊎◌, ◌&&◌, ℕ, Bool, true, List, [], ◌∷◌, ◌++◌, Option, Some, None, option_map, IfSome, IsSomeAnd, MatchOption, Ok, Err, String, map, not, slice_get, ⊤, if◌then◌else◌}
+use Rattle.std.specs.Prelude.{◌≡◌, ◌⊎◌, ◌&&◌, ℕ, Bool, true, List, [], ◌∷◌, ◌++◌, Ok, Err, String, map, not, slice_get, ⊤, if◌then◌else◌}
+use Rattle.std.specs.Prelude.{Option, Some, None, option_map, IfSome, IsSomeAnd, MatchOption}
 use Rattle.std.specs.List.{list_all, range_with_len}
 use Rattle.std.specs.String.{string_bytes}
 use Rattle.std.specs.Borrow.{Bor}

@@ -11,7 +11,9 @@ ghost use Rattle.ir_commands.specs.Writing.{AreOutputPaths, IsListIn, IsNoText, 
 
 use crate::ends::{all_ended, tell_ends};
 use crate::files::{bytes_of, image_in, say};
-use crate::recording::{Places, RecordingPaths, input_of, loses_input, output_places, record_files};
+use crate::recording::{
+    Places, RecordingPaths, input_of, loses_input, output_places, record_files,
+};
 use crate::surroundings::Surroundings;
 use ir_arguments::{Chaos, RecordArguments};
 use ir_files::{ExitStatus, Folder, MOST_FILE_BYTES};
@@ -174,7 +176,8 @@ impl Beside {
         ensures input { IfOk result (λ beside. IsInput (D.bytes_at folder.now) arguments.now.options.input beside.input.items) }
         ensures outputs { IfOk result (λ beside. AreOutputPaths arguments.now.options.output (option_map (λ each. map string_bytes each.items) beside.outputs)) }
         ensures order { IfOk result (λ beside. IsOrderAsked (D.bytes_at folder.now) arguments.now image.now beside.input.items (option_map string_bytes beside.list)) }
-        ensures status { IfErr result (IsStatusOfNoRecording (LacksGuest image.now arguments.now.options.profile ⊎ IsSomeAnd arguments.now.order_file (λ path. IfSome (D.bytes_at folder.now (string_bytes path)) IsNoText))) }
+        ensures status { IfErr result (IsStatusOfNoRecording (LacksGuest image.now arguments.now.options.profile
+            ⊎ IsSomeAnd arguments.now.order_file (λ path. IfSome (D.bytes_at folder.now (string_bytes path)) IsNoText))) }
         ensures told { OnErr result (E.broken faults.old ≡ false → TellsFault (writer_of (E.written faults.old) (E.written faults.new) (E.broken faults.new))) }
     {
         let paths = paths(arguments);
@@ -236,7 +239,8 @@ where
         arguments.now recorded (writer_of (O.written out.old) (O.written out.new) (O.broken out.new))) }
     ensures stopped { IfErr result (λ answered. StopsRecords (D.bytes_at around.now.folder.now) arguments.now answered (writer_of (O.written out.old) (O.written out.new) (O.broken out.new))
         (writer_of (E.written faults.old) (E.written faults.new) (E.broken faults.new)) (out.new ≡ out.old)
-        ⊎ LeavesUnread (IsStatusOfNoRecording (RefusesRecording (D.bytes_at around.now.folder.now) arguments.now) answered) (out.new ≡ out.old) (writer_of (E.written faults.old) (E.written faults.new) (E.broken faults.new))) }
+        ⊎ LeavesUnread (IsStatusOfNoRecording (RefusesRecording (D.bytes_at around.now.folder.now) arguments.now) answered)
+        (out.new ≡ out.old) (writer_of (E.written faults.old) (E.written faults.new) (E.broken faults.new))) }
 {
     let (rt, folder) = (around.rt, around.folder);
     let alloc = rt.alloc();

@@ -99,7 +99,8 @@ where
         × TookEach (output_writer_of (P.taken files.old.outputs) (P.taken files.new.outputs) (P.broken files.new.outputs)) printed)
         (writer_of (O.written out.old) (O.written out.new) (O.broken out.new))) }
     ensures none { IfErr result (λ answered. ((text : List ℕ) × IsHangAnswer plan.now.image.now plan.now.explore (Err answered) text
-        × Took (writer_of (O.written out.old) (O.written out.new) (O.broken out.new)) text) ⊎ TellsNoSearch (LacksGuest plan.now.image.now plan.now.explore.profile ⊎ HangHasNoOrder plan.now.image.now plan.now.explore) answered
+        × Took (writer_of (O.written out.old) (O.written out.new) (O.broken out.new)) text) ⊎ TellsNoSearch
+        (LacksGuest plan.now.image.now plan.now.explore.profile ⊎ HangHasNoOrder plan.now.image.now plan.now.explore) answered
         (writer_of (E.written faults.old) (E.written faults.new) (E.broken faults.new))) }
     ensures whole { OnOk result (W.whole files.new.trace ≡ true) }
     ensures home { W.home files.new.trace ≡ W.home files.old.trace }
@@ -156,7 +157,8 @@ where
         (KeptAt (storing D.known D.known_closed (D.knows around.now.folder.now) (D.was_put around.now.folder.now)) places.entry.trace.now (texts_of_paths places.entry.outputs))
         (writer_of (O.written out.old) (O.written out.new) (O.broken out.new))) }
     ensures none { IfErr result (λ answered. TellsVain true plan.now.image.now plan.now.explore plan.now.conditions.now answered
-        (writer_of (O.written out.old) (O.written out.new) (O.broken out.new)) ⊎ TellsNoSearch (LacksGuest plan.now.image.now plan.now.explore.profile ⊎ HangHasNoOrder plan.now.image.now plan.now.explore) answered
+        (writer_of (O.written out.old) (O.written out.new) (O.broken out.new)) ⊎ TellsNoSearch
+        (LacksGuest plan.now.image.now plan.now.explore.profile ⊎ HangHasNoOrder plan.now.image.now plan.now.explore) answered
         (writer_of (E.written faults.old) (E.written faults.new) (E.broken faults.new))) }
 {
     let Surroundings { rt, folder, .. } = *around;

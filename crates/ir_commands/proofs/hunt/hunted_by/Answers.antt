@@ -44,7 +44,7 @@ returns-clause-done g c =
       };
     } in
     let outs = output_paths_as_asked (λ v. v.items) c.paths-paths.result.output c.new-places.result.outputs c.in_ok-outputs.outputs c.paths-paths.ensures.output
-        c.new-places.ensures.outputs c.in_ok-outputs.ensures.paths in
+    c.new-places.ensures.outputs c.in_ok-outputs.ensures.paths in
     let kept = c.in_ok-outputs.ensures.kept ∙ c.in_ok-conditions.ensures.kept ∙ c.in_ok-image.ensures.kept ∙ c.if-loses_input.ensures.kept refl in
     subst (λ f. HuntsFile at stored arguments c.ended.result
     (writer_of (g.O.Sink.written c.args.out.now) (g.O.Sink.written c.ended.new.out) (g.O.Sink.broken c.ended.new.out))

@@ -31,7 +31,7 @@ returns-clause-found g c =
     } in
     let out = writer_of (g.O.Sink.written c.args.out.now) (g.O.Sink.written c.outside_into.new.out) (g.O.Sink.broken c.outside_into.new.out) in
     let outs = output_paths_as_asked (λ v. v.items) c.paths-paths.result.output c.new-places.result.outputs c.in_ok-outputs.outputs c.paths-paths.ensures.output
-        c.new-places.ensures.outputs c.in_ok-outputs.ensures.paths in
+    c.new-places.ensures.outputs c.in_ok-outputs.ensures.paths in
     on_ok_weaker c.outside_into.result (λ found. record {
       comparison = comparison;
       asked = asked;
@@ -64,7 +64,7 @@ returns-in_err-files-clause-none g c =
     let kept = c.if-loses_input.ensures.kept refl in
     let reports = writer_of (g.E.Sink.written c.args.faults.now) (g.E.Sink.written c.compared_files.new.faults) (g.E.Sink.broken c.compared_files.new.faults) in
     let told : TellsFault reports = subst (λ f. TellsFault (writer_of (g.E.Sink.written f) (g.E.Sink.written c.compared_files.new.faults)
-        (g.E.Sink.broken c.compared_files.new.faults))) kept
-        (c.in_err-files.ensures.told (subst (λ f. g.E.Sink.broken f ≡ false) (sym kept) c.requires.reports)) in
+    (g.E.Sink.broken c.compared_files.new.faults))) kept
+    (c.in_err-files.ensures.told (subst (λ f. g.E.Sink.broken f ≡ false) (sym kept) c.requires.reports)) in
     if_err_handed_on _ c.from_residual.result c.in_err-files.field-0.0 p.0 p.1 p.2
     (inr (no_comparison_no_recording (g.D.Folder.bytes_at c.args.around.now.folder.now) c.args.arguments.now.within c.in_err-files.ensures.status, told))

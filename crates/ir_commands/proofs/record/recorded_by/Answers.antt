@@ -19,7 +19,7 @@ returns-clause-done g c =
     let folder = c.args.around.now.folder.now in
     let stored = storing g.D.Folder.known g.D.Folder.known_closed (g.D.Folder.knows folder) (g.D.Folder.was_put folder) in
     let outs = subst (AreOutputPaths arguments.options.output) (sym (texts_of_lent (λ v. v.items) c.new-places.result.outputs c.in_ok-beside.beside.outputs
-        c.new-places.ensures.outputs)) c.in_ok-beside.ensures.outputs in
+    c.new-places.ensures.outputs)) c.in_ok-beside.ensures.outputs in
     let asked : AsksFor at arguments image c.plan-plan.result = record {
       input = c.in_ok-beside.beside.input.items;
       order = option_map string_bytes c.in_ok-beside.beside.list;
@@ -37,9 +37,9 @@ returns-clause-done g c =
       is = done.1;
       kept = kept_as_asked stored _ _ (c.new-places.ensures.trace ∙ c.as_str-2.ensures.value) outs (encoding recorded) done.0 (
         stored_in_place g.D.Folder.known g.D.Folder.knows g.D.Folder.was_put (λ m. m.file) c.args.around.now.folder.now files.trace.folder.now
-          after.trace.folder.now c.new-places.result.trace.now files.trace.place.now after.trace.place.now files.trace.made after.trace.made
-          (encoding recorded) c.record_files-files.ensures.folder c.record_files-files.ensures.place
-          c.record_run.ensures.homes.0 c.record_files-files.ensures.empty (after.trace.put whole) done.2,
+            after.trace.folder.now c.new-places.result.trace.now files.trace.place.now after.trace.place.now files.trace.made after.trace.made
+            (encoding recorded) c.record_files-files.ensures.folder c.record_files-files.ensures.place
+            c.record_run.ensures.homes.0 c.record_files-files.ensures.empty (after.trace.put whole) done.2,
         outputs_in_place g.D.Folder.known_closed g.D.Folder.knows g.D.Folder.was_put (λ o. o.thread) (λ o. o.file) folder
             files.outputs.folder.now after.outputs.folder.now (texts_of_paths c.new-places.result.outputs) (texts_of_paths files.outputs.paths)
             (texts_of_paths after.outputs.paths) files.outputs.each.items after.outputs.each.items done.0 c.record_files-files.ensures.folders

@@ -43,7 +43,7 @@ returns-clause-done g c =
       };
     } in
     let outs = output_paths_as_asked (λ v. v.items) c.paths.result.output c.new-places.result.outputs c.in_ok-outputs.outputs c.paths.ensures.output
-        c.new-places.ensures.outputs c.in_ok-outputs.ensures.paths in
+    c.new-places.ensures.outputs c.in_ok-outputs.ensures.paths in
     IfOk-weaker c.shrunk_into.result _ _ (λ shrunk h. record {
       image = image;
       given = c.in_ok-trace.trace;

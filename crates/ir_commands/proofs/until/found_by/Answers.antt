@@ -31,7 +31,7 @@ returns-then-arguments-clause-found g c =
     } in
     let out = writer_of (g.O.Sink.written c.args.out.now) (g.O.Sink.written c.hang_into.new.out) (g.O.Sink.broken c.hang_into.new.out) in
     let outs = output_paths_as_asked (λ v. v.items) c.paths-paths.result.output c.new-places.result.outputs c.in_ok-outputs.outputs c.paths-paths.ensures.output
-        c.new-places.ensures.outputs c.in_ok-outputs.ensures.paths in
+    c.new-places.ensures.outputs c.in_ok-outputs.ensures.paths in
     on_ok_weaker c.hang_into.result (λ found. record {
       image = image;
       plan = plan;
@@ -84,7 +84,7 @@ returns-clause-found g c =
     } in
     let out = writer_of (g.O.Sink.written c.args.out.now) (g.O.Sink.written c.found_into.new.out) (g.O.Sink.broken c.found_into.new.out) in
     let outs = output_paths_as_asked (λ v. v.items) c.paths-paths.result.output c.new-places.result.outputs c.in_ok-outputs.outputs c.paths-paths.ensures.output
-        c.new-places.ensures.outputs c.in_ok-outputs.ensures.paths in
+    c.new-places.ensures.outputs c.in_ok-outputs.ensures.paths in
     on_ok_weaker c.found_into.result (λ found. record {
       image = image;
       plan = plan;

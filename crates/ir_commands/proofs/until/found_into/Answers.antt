@@ -18,9 +18,9 @@ returns-clause-found g c =
       finding = found.finding;
       kept = (
         stored_in_place g.D.Folder.known g.D.Folder.knows g.D.Folder.was_put (λ m. m.file) c.args.around.now.folder.now files.trace.folder.now
-          after.trace.folder.now c.args.places.trace.now files.trace.place.now after.trace.place.now files.trace.made after.trace.made
-          (encoding found.recorded) c.record_files-files.ensures.folder c.record_files-files.ensures.place
-          c.outcome_in.ensures.home c.record_files-files.ensures.empty (after.trace.put whole) found.kept.0,
+            after.trace.folder.now c.args.places.trace.now files.trace.place.now after.trace.place.now files.trace.made after.trace.made
+            (encoding found.recorded) c.record_files-files.ensures.folder c.record_files-files.ensures.place
+            c.outcome_in.ensures.home c.record_files-files.ensures.empty (after.trace.put whole) found.kept.0,
         outputs_in_place g.D.Folder.known_closed g.D.Folder.knows g.D.Folder.was_put (λ o. o.thread) (λ o. o.file) c.args.around.now.folder.now
             files.outputs.folder.now after.outputs.folder.now (texts_of_paths c.args.places.outputs) (texts_of_paths files.outputs.paths)
             (texts_of_paths after.outputs.paths) files.outputs.each.items after.outputs.each.items found.printed c.record_files-files.ensures.folders
