@@ -16,7 +16,6 @@ use Rattle.ir_files.specs.declared.exit_status.ExitStatus.TheVariants as status
 use Rattle.ir_hunt.specs.Stopping.{RefusesHunt}
 use Rattle.ir_image.specs.Guest.{Guest, guest_at}
 use Rattle.ir_image.specs.declared.image_err.ImageErr.{ImageErr}
-use Rattle.ir_lemmas.proofs.CallerLemmas.{ok_is_injective}
 use Rattle.ir_record_command.specs.Faults.{RefusesRecord, StopsRecord, fault_status}
 use Rattle.ir_record_command.specs.Order.{order_of}
 use Rattle.ir_record_command.specs.Plan.{Plan}
@@ -34,6 +33,13 @@ failed_is_not_refused e = let bad : 1 ≡ 3 = ap status_number e in absurd (omeg
 abbrev is_ok : {A E : Type 0} → Result A E → Bool
 is_ok (Ok x) = true
 is_ok (Err e) = false
+
+abbrev guest_or : Guest → Result Guest ImageErr → Guest
+guest_or other (Ok guest) = guest
+guest_or other (Err e) = other
+
+guests_are_same : (a b : Guest) → ◌≡◌ {A = Result Guest ImageErr} (Ok a) (Ok b) → a ≡ b
+guests_are_same a b e = ap (guest_or a) e
 
 lists_are_same : {a b : List ℕ} → Some a ≡ Some b → a ≡ b
 lists_are_same {a} {b} e = ap (λ (o : Option (List ℕ)). option_map_or (λ z. z) o a) e
@@ -80,7 +86,7 @@ faulty_lacks_guest image profile e bad guest is allowed = true≢false (sym (ap 
 -- a guest that isn't allowed is none
 pub unallowed_lacks_guest : (image : List ℕ) (profile : Profile) (large : Guest) → guest_at image ≡ Ok large → (IsAllowed profile large → ⊥) → LacksGuest image profile
 unallowed_lacks_guest image profile large is not guest same allowed =
-    not (subst (IsAllowed profile) (ok_is_injective guest large (sym same ∙ is)) allowed)
+    not (subst (IsAllowed profile) (guests_are_same guest large (sym same ∙ is)) allowed)
 
 -- why a hunt tries no seed
 pub hunt_lacks_guest : (e : RecordFault) (image : List ℕ) (plan : Plan) → RefusesHunt e image plan → fault_status e ≡ status.Refused → LacksGuest image plan.profile
@@ -96,7 +102,7 @@ hunt_lacks_guest Lines image plan r is = failed_is_not_refused is
 spells_none : (image list : List ℕ) (plan : Plan) (guest : Guest) (threads : ℕ) → guest_at image ≡ Ok guest → plan.order ≡ Some list
     → RefusesRecord (Order threads) image plan → order_of (length guest.entries) list ≡ None
 spells_none image list plan guest threads is order r =
-    let own : r.0 ≡ guest = ok_is_injective r.0 guest (sym r.2 ∙ is) in
+    let own : r.0 ≡ guest = guests_are_same r.0 guest (sym r.2 ∙ is) in
     let same : r.1 ≡ list = lists_are_same (sym r.7 ∙ order) in
     let many : threads ≡ length guest.entries = r.4 ∙ ap (λ (g : Guest). length g.entries) own in
     ap (λ n. order_of n list) (sym many) ∙ ap (order_of threads) (sym same) ∙ r.8
