@@ -50,7 +50,7 @@ pub run_form_status_is_answer : (o : Form) (f : FittedTrace) (near : Option Arou
 run_form_status_is_answer form.Page f near p kept s text (inl (few, same, is)) = ap is_of_answer same
 run_form_status_is_answer form.Page f near p kept s text (inr (many, same, is)) = ap is_of_answer same
 run_form_status_is_answer form.Data f near p kept s text (same, is) = ap is_of_answer same
-run_form_status_is_answer form.Chrome f near p kept s text (drawn, are, same, is) = ap is_of_answer same
+run_form_status_is_answer form.Chrome f near p kept s text (drawn, are, done) = ap is_of_answer done.0
 
 -- a box of a run is one of its trace
 pub run_box_is_box : (f : FittedTrace) (b : EventBox) → IsRunBox f b → IsBox f.recorded b

@@ -1,14 +1,15 @@
-use Rattle.std.proofs.Common.{◌∙◌, List, ℕ, ap, refl, subst, sym}
-use Rattle.std.proofs.lemmas.Result.{IfErr-weaker, on_ok_weaker}
+use Rattle.std.proofs.Common.{◌≡◌, false, inr, ◌∙◌, List, ℕ, ap, refl, subst, sym}
+use Rattle.std.proofs.lemmas.Result.{IfErr-weaker, err_from_is_err_and, on_ok_weaker}
 use Rattle.std.specs.String.{string_bytes}
 use Rattle.ir_files.specs.Writers.{writer_of}
 use Rattle.ir_within.specs.Faults.{Comparison}
 use Rattle.ir_within.specs.Plans.{aspects_of}
 use Rattle.ir_commands.specs.Exploring.{AsksComparison, IsPlanOf}
-use Rattle.ir_commands.specs.Files.{IsImageIn}
+use Rattle.ir_files.proofs.CallerLemmas.{if_err_handed_on}
+use Rattle.ir_commands.specs.Files.{IsImageIn, TellsFault}
 use Rattle.ir_commands.specs.Writing.{storing}
 use Rattle.ir_commands.proofs.Kept.{kept_as_asked, outside_kept, output_paths_as_asked}
-use Rattle.ir_commands.proofs.Outsides.{outside_misses}
+use Rattle.ir_commands.proofs.Outsides.{no_comparison_no_recording, outside_misses}
 use Rattle.ir_commands.proofs.outside.outside_by.Goals as goal
 
 pub returns-clause-found : goal.returns-clause-found
@@ -56,3 +57,14 @@ returns-clause-none g c =
     let kept = c.in_ok-outputs.ensures.kept ∙ c.if-lacks_either.ensures.kept refl ∙ c.in_ok-files.ensures.kept ∙ c.if-loses_input.ensures.kept refl in
     IfErr-weaker c.outside_into.result _ _ (λ answered h. outside_misses answered out asked (ap
     (λ f. writer_of (g.E.Sink.written f) (g.E.Sink.written c.outside_into.new.faults) (g.E.Sink.broken c.outside_into.new.faults)) kept) h) c.outside_into.ensures.none
+
+pub returns-in_err-files-clause-none : goal.returns-in_err-files-clause-none
+returns-in_err-files-clause-none g c =
+    let p = err_from_is_err_and c.from_residual.result c.from_residual.ensures.1 in
+    let kept = c.if-loses_input.ensures.kept refl in
+    let reports = writer_of (g.E.Sink.written c.args.faults.now) (g.E.Sink.written c.compared_files.new.faults) (g.E.Sink.broken c.compared_files.new.faults) in
+    let told : TellsFault reports = subst (λ f. TellsFault (writer_of (g.E.Sink.written f) (g.E.Sink.written c.compared_files.new.faults)
+        (g.E.Sink.broken c.compared_files.new.faults))) kept
+        (c.in_err-files.ensures.told (subst (λ f. g.E.Sink.broken f ≡ false) (sym kept) c.requires.reports)) in
+    if_err_handed_on _ c.from_residual.result c.in_err-files.field-0.0 p.0 p.1 p.2
+    (inr (no_comparison_no_recording (g.D.Folder.bytes_at c.args.around.now.folder.now) c.args.arguments.now.within c.in_err-files.ensures.status, told))
