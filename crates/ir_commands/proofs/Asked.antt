@@ -17,16 +17,25 @@ no_reply_is_failure : {X : Type 0} (Are : X → Type 0) (A : X → ExitStatus �
 no_reply_is_failure Are A R s (ask.Absent what) out same none = absurd none.lacks
 no_reply_is_failure Are A R s (ask.Unwritten e) out same none = same
 
-fault_of_no_reply : {X : Type 0} (Are : X → Type 0) (A : X → ExitStatus → List ℕ → Type 0) (R : ExitStatus → List ℕ → Type 0) (e : AskErr)
+-- the fault that stopped an answer about what is always there
+pub fault_of_no_reply : {X : Type 0} (Are : X → Type 0) (A : X → ExitStatus → List ℕ → Type 0) (R : ExitStatus → List ℕ → Type 0) (e : AskErr)
     (out faults : Writer) → IsReplyless Are A (λ _ _. ⊥) R e out → Reports faults (fault_text (ask_words e))
     → (f : PastErr) × NotAnswered (IsReply Are A R) f out × Reports faults (fault_text (fault_words f))
 fault_of_no_reply Are A R (ask.Absent what) out faults none reports = absurd none.lacks
 fault_of_no_reply Are A R (ask.Unwritten e) out faults none reports = (e, none, reports)
 
+-- what is always there leaves no status of bad arguments
+pub never_bad_arguments : {X : Type 0} (Are : X → Type 0) (A : X → ExitStatus → List ℕ → Type 0) (R : ExitStatus → List ℕ → Type 0) (s : ExitStatus)
+    (out faults : Writer)
+    → ((s ≡ status.Failed) ⊎ (s ≡ status.BadArguments)
+    → (e : AskErr) × (s ≡ ask_status e) × IsReplyless Are A (λ _ _. ⊥) R e out × Reports faults (fault_text (ask_words e)))
+    → (s ≡ status.Failed → ⊥) → s ≡ status.BadArguments → ⊥
+never_bad_arguments Are A R s out faults failed works bad = let e = failed (inr bad) in works (no_reply_is_failure Are A R s e.0 out e.1.0 e.1.1.0)
+
 -- what is always there is printed, or a fault stopped it
 pub printed_if_always_there : {X : Type 0} (Are : X → Type 0) (A : X → ExitStatus → List ℕ → Type 0) (R : ExitStatus → List ℕ → Type 0) (s : ExitStatus)
     (out faults : Writer) → PrintedIfThere (IsReply Are A R) (IsReplyless Are A (λ _ _. ⊥) R) s out faults → IsPrinted (IsReply Are A R) s out faults
 printed_if_always_there Are A R s out faults h = (
-  (λ works. h.0 works (λ bad. let e = h.1 (inr bad) in works (no_reply_is_failure Are A R s e.0 out e.1.0 e.1.1.0))),
+  (λ works. h.0 works (never_bad_arguments Are A R s out faults h.1 works)),
   (λ failed. let e = h.1 (inl failed) in fault_of_no_reply Are A R e.0 out faults e.1.1.0 e.1.1.1),
 )
