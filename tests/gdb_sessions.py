@@ -96,6 +96,16 @@ SESSIONS = {
          r"Thread 1 .*add \(i=(?:i@entry=)?51\)", r"Thread 2 .*hit Breakpoint 1, add \(i=(?:i@entry=)?1007\)"],
         locked=False,
     ),
+    "06-conditions-backwards": Session(
+        "cond",
+        ["continue", "break add if i == 120", "reverse-continue", "print i", "condition 1 i == 1000", "reverse-continue", "print i", "condition 1 i == 0",
+         "reverse-continue", "print i", "condition 1 *(int *)0x80000000 == 100 && i == 110", "continue", "continue", "condition 1 i == 5000",
+         "reverse-continue"],
+        ["No more reverse-execution history", r"Thread 1 .*hit Breakpoint 1, add \(i=(?:i@entry=)?120\)", "= 120",
+         r"Thread 2 .*hit Breakpoint 1, add \(i=(?:i@entry=)?1000\)", "= 1000", r"Thread 1 .*hit Breakpoint 1, add \(i=(?:i@entry=)?0\)", "= 0",
+         r"Thread 1 .*hit Breakpoint 1, add \(i=(?:i@entry=)?110\)", "No more reverse-execution history", "No more reverse-execution history"],
+        locked=False,
+    ),
     "06-conditions-without-value": Session(
         "cond",
         ["break add if 1 / (i - 20) == 5", "continue", "print i", "delete", "starti", "break add if *(int *)0 == 5", "continue", "print i", "delete",
