@@ -347,6 +347,11 @@ def check_slow_opening(folder):
             raise Wrong(f"{words}: {ended!r}")
     wanted = [r"\(at 0 of 3000000001\)", r"\(at 1 of 3000000001\)"]
     check_session(Session("spin", ["info threads", "stepi", "info threads"], wanted), folder)
+    # without ir.gdb gdb waits some seconds for a byte
+    words = [GDB, "-nx", "-batch", "-ex", "set architecture riscv:rv32", "-ex", f"target remote | {program()} gdb spin.img spin.trc", "-ex", "info threads"]
+    ended = subprocess.run(words, cwd=folder, stdin=subprocess.DEVNULL, stdout=subprocess.PIPE, stderr=subprocess.STDOUT, text=True, timeout=600, check=False)
+    if not re.search(wanted[0], ended.stdout):
+        raise Wrong(f"without ir.gdb: {ended.stdout}")
 
 
 def assembled(folder, guest):
