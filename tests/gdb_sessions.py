@@ -96,6 +96,16 @@ SESSIONS = {
          r"Thread 1 .*add \(i=(?:i@entry=)?51\)", r"Thread 2 .*hit Breakpoint 1, add \(i=(?:i@entry=)?1007\)"],
         locked=False,
     ),
+    "06-conditions-backwards": Session(
+        "cond",
+        ["continue", "break add if i == 120", "reverse-continue", "print i", "condition 1 i == 1000", "reverse-continue", "print i", "condition 1 i == 0",
+         "reverse-continue", "print i", "condition 1 *(int *)0x80000000 == 100 && i == 110", "continue", "continue", "condition 1 i == 5000",
+         "reverse-continue"],
+        ["No more reverse-execution history", r"Thread 1 .*hit Breakpoint 1, add \(i=(?:i@entry=)?120\)", "= 120",
+         r"Thread 2 .*hit Breakpoint 1, add \(i=(?:i@entry=)?1000\)", "= 1000", r"Thread 1 .*hit Breakpoint 1, add \(i=(?:i@entry=)?0\)", "= 0",
+         r"Thread 1 .*hit Breakpoint 1, add \(i=(?:i@entry=)?110\)", "No more reverse-execution history", "No more reverse-execution history"],
+        locked=False,
+    ),
     "06-conditions-without-value": Session(
         "cond",
         ["break add if 1 / (i - 20) == 5", "continue", "print i", "delete", "starti", "break add if *(int *)0 == 5", "continue", "print i", "delete",
@@ -337,6 +347,11 @@ def check_slow_opening(folder):
             raise Wrong(f"{words}: {ended!r}")
     wanted = [r"\(at 0 of 3000000001\)", r"\(at 1 of 3000000001\)"]
     check_session(Session("spin", ["info threads", "stepi", "info threads"], wanted), folder)
+    # without ir.gdb gdb waits some seconds for a byte
+    words = [GDB, "-nx", "-batch", "-ex", "set architecture riscv:rv32", "-ex", f"target remote | {program()} gdb spin.img spin.trc", "-ex", "info threads"]
+    ended = subprocess.run(words, cwd=folder, stdin=subprocess.DEVNULL, stdout=subprocess.PIPE, stderr=subprocess.STDOUT, text=True, timeout=600, check=False)
+    if not re.search(wanted[0], ended.stdout):
+        raise Wrong(f"without ir.gdb: {ended.stdout}")
 
 
 def assembled(folder, guest):

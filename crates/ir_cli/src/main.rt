@@ -53,9 +53,17 @@ fn words_of(rt: &HostRuntime) -> Result<Vec<String>, ExitStatus> {
     }
 }
 
+// Whether gdb starts the program, and waits for it.
+fn is_for_gdb(words: &[String]) -> bool {
+    match words {
+        [_, command, ..] => command.as_str() == "gdb",
+        _ => false,
+    }
+}
+
 // Does what the arguments ask for, over standard streams and the files of the system; the exit status. Threads that record
 // or replay are those of the second handle. What is known of the reader of standard output is noted.
-fn run<R: Threads + Wait + Sync + Clock + Eprint + AllocGlobal>(
+fn run<R: Threads + Wait + Sync + Clock + Print + Eprint + AllocGlobal>(
     rt: &HostRuntime,
     threads: &R,
     reader: &Reader,
@@ -73,7 +81,7 @@ fn run<R: Threads + Wait + Sync + Clock + Eprint + AllocGlobal>(
         input: rt.stdin().is_terminal(),
         faults: rt.stderr().is_terminal(),
     };
-    let progress = Progress::new(threads, terminals.faults);
+    let progress = Progress::new(threads, terminals.faults, is_for_gdb(words.as_slice()));
     let mut out = Wiping::new(
         FromStd::new(Noticing::new(io::writer(rt), reader)),
         &progress,

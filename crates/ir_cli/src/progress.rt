@@ -28,13 +28,19 @@ const ASKS_FOR_A_LOOK: u64 = 1 << 4;
 
 /// Shows on standard error, once a second, how many steps all threads have taken since the program wrote something last: of a
 /// recording the private ones; of a search for all outcomes how many states and outcomes it has found, after how many switches.
+/// Where gdb waits for its first reply, a `+` goes to standard output as often: gdb gives up if no byte comes for some seconds, and
+/// passes over a `+` before a packet.
 #[derive(Drop)]
 pub struct Progress<'a, R> {
     rt: &'a R,
     // When it was made; None where the clock couldn't be read.
     made: Option<Instant>,
-    // None where nothing is shown.
+    // None where nothing is shown, and gdb isn't kept waiting.
     start: Option<Instant>,
+    // Whether steps are shown.
+    is_shown: bool,
+    // Whether gdb is kept waiting, which has been written nothing yet.
+    keeps_gdb: AtomicBool,
     // Of each thread, which alone writes it.
     steps: [CachePadded<AtomicU64>; MOST_THREADS as usize],
     // The second in which it was shown last.
@@ -48,13 +54,15 @@ pub struct Progress<'a, R> {
 }
 
 impl<'a, R: Clock> Progress<'a, R> {
-    /// Shows steps from now on, if it is to show any and the clock can be read.
-    pub fn new(rt: &'a R, is_shown: bool) -> Progress<'a, R> {
+    /// Shows steps from now on, and keeps gdb waiting, if it is to do so and the clock can be read.
+    pub fn new(rt: &'a R, is_shown: bool, keeps_gdb: bool) -> Progress<'a, R> {
         let made = Instant::now(rt).ok();
         Progress {
             rt,
             made,
-            start: if is_shown { made } else { None },
+            start: if is_shown || keeps_gdb { made } else { None },
+            is_shown,
+            keeps_gdb: AtomicBool::new(keeps_gdb),
             steps: array::from_fn(|_| CachePadded::new(AtomicU64::new(0))),
             shown: AtomicU32::new(NEVER),
             stands: AtomicBool::new(false),
@@ -64,7 +72,7 @@ impl<'a, R: Clock> Progress<'a, R> {
     }
 }
 
-impl<R: Clock + Eprint> Progress<'_, R> {
+impl<R: Clock + Print + Eprint> Progress<'_, R> {
     // Whether nothing was shown in this second. The first second is that of the first look.
     fn is_due(&self, start: Instant) -> bool {
         let Some(millis) = millis_since(self.rt, start) else {
@@ -101,6 +109,16 @@ impl<R: Clock + Eprint> Progress<'_, R> {
         let after = before.saturating_add(steps);
         own.store(after, Ordering::Relaxed);
         if before / STEPS_FOR_A_LOOK != after / STEPS_FOR_A_LOOK && self.is_due(start) {
+            self.tell();
+        }
+    }
+
+    // Shows the sum, and keeps gdb waiting.
+    fn tell(&self) {
+        if self.keeps_gdb.load(Ordering::Relaxed) {
+            let _ = self.rt.write_all(b"+");
+        }
+        if self.is_shown {
             self.show_steps();
         }
     }
@@ -110,6 +128,7 @@ impl<R: Clock + Eprint> Progress<'_, R> {
         if self.start.is_none() {
             return;
         }
+        self.keeps_gdb.store(false, Ordering::Relaxed);
         if self.stands.swap(false, Ordering::Relaxed) {
             let _ = self.rt.eprint(format_args!("{ERASED}"));
         }
@@ -120,7 +139,7 @@ impl<R: Clock + Eprint> Progress<'_, R> {
     }
 }
 
-impl<R: Clock + Eprint> Gate for Progress<'_, R> {
+impl<R: Clock + Print + Eprint> Gate for Progress<'_, R> {
     fn entered(&self, _thread: u8, _object: u8, _access: Access) {}
 
     fn leaving(&self, _thread: u8, _object: u8, _access: Access) {}
@@ -134,7 +153,7 @@ impl<R: Clock + Eprint> Gate for Progress<'_, R> {
     }
 }
 
-impl<R: Clock + Eprint> Observer for Progress<'_, R> {
+impl<R: Clock + Print + Eprint> Observer for Progress<'_, R> {
     fn searched(&self, states: usize, switches: usize) {
         let Some(start) = self.start else {
             return;
@@ -190,7 +209,7 @@ impl<'a, S: Sink, R> Wiping<'a, S, R> {
     }
 }
 
-impl<S: Sink, R: Clock + Eprint> Sink for Wiping<'_, S, R> {
+impl<S: Sink, R: Clock + Print + Eprint> Sink for Wiping<'_, S, R> {
     ghost written = { λ w. S.written w.sink };
 
     ghost broken = { λ w. S.broken w.sink };

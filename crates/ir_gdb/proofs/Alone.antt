@@ -27,7 +27,7 @@ use Rattle.ir_gdb.specs.Together.{Halt, Comes, MovesAlone}
 use Rattle.ir_gdb.specs.Over.{PassesHit, stepped_over, StepsOver, LeadsBy}
 use Rattle.ir_gdb.specs.Laws.{SessionGoes, LeadsLone, StaysWhereItIs}
 use Rattle.ir_gdb.proofs.Finding.{position_in, upwards_as_session, downwards_as_session}
-use Rattle.ir_gdb.proofs.Unguarded.{AreUnguarded, first_stop_is_first_hit}
+use Rattle.ir_gdb.proofs.Unguarded.{AreUnguarded, first_stop_is_first_hit, last_stop_is_last_hit}
 
 -- ---- where no watch is set
 
@@ -102,11 +102,12 @@ continue_as_session run s t h stub free lone = by (subst (λ (b : Bool). LeadsBy
 
 -- ---- `bc`
 
-stops_below_as_session : (run : List Step) (s : Stub) (t n : ℕ) (to : Stopped) → s.watches ≡ [] → n ≡ position_of s t → ContinuesBackBy run s t true n to
+stops_below_as_session : (run : List Step) (s : Stub) (t n : ℕ) (to : Stopped) → IsStub s → AreUnguarded s.breaks → s.watches ≡ [] → n ≡ position_of s t
+    → ContinuesBackBy run s t true n to
     → (hit : Option Hit) × IsLastHit s.desk.fitted run (s.desk.points ++ break_points t (s.desk.last_point + 1) (map without_conditions s.breaks)) t (position_of s t) hit
     × (to.position ≡ stop_of s.desk.fitted t Backwards hit)
-stops_below_as_session run s t zero to none here is = (None, λ j n low high. absurd (omega (arith, high, here)), ap (λ (x : Stopped). x.position) is)
-stops_below_as_session run s t (suc p) to none here (why, next, back) = by (subst (λ (w : Option Reason). BackBy run s t true (suc p) w to)
+stops_below_as_session run s t zero to stub unguarded none here is = (None, λ j n low high. absurd (omega (arith, high, here)), ap (λ (x : Stopped). x.position) is)
+stops_below_as_session run s t (suc p) to stub unguarded none here (why, next, back) = by (subst (λ (w : Option Reason). BackBy run s t true (suc p) w to)
     (no_watch_is_next run s t p true why none next) back)
   where
     f : FittedTrace
@@ -116,7 +117,8 @@ stops_below_as_session run s t (suc p) to none here (why, next, back) = by (subs
         × IsLastHit s.desk.fitted run (s.desk.points ++ break_points t (s.desk.last_point + 1) (map without_conditions s.breaks)) t (position_of s t) hit
         × (to.position ≡ stop_of s.desk.fitted t Backwards hit)
     by (hit, finds, ends) =
-        let bare = subst (λ (ws : List Watched). IsLastHit f run (points_downwards t ws s.breaks s.desk.points) t (position_of s t) hit) none finds in
+        let last = last_stop_is_last_hit run s t none unguarded stub.few (position_of s t) hit finds in
+        let bare = subst (λ (ws : List Watched). IsLastHit f run (points_downwards t ws s.breaks s.desk.points) t (position_of s t) hit) none last in
         let found = downwards_as_session run f s.breaks s.desk.points t (position_of s t) (s.desk.last_point + 1) hit bare in (
           found.0,
           found.1,
@@ -124,13 +126,13 @@ stops_below_as_session run s t (suc p) to none here (why, next, back) = by (subs
               ∙ end_below_is_stop f t s.breaks hit found.0 found.2,
         )
 
-pub continue_back_as_session : (run : List Step) (s : Stub) (t : ℕ) (h : Halt) → LeadsLone run s t motion.ContinueBack h
+pub continue_back_as_session : (run : List Step) (s : Stub) (t : ℕ) (h : Halt) → IsStub s → AreUnguarded s.breaks → LeadsLone run s t motion.ContinueBack h
     → (h.thread ≡ t) × SessionGoes run s t (command.Continue t Backwards) h.cut
-continue_back_as_session run s t h lone = by (subst (λ (b : Bool). LeadsBy b false run s t motion.ContinueBack h) lone.free lone.leads)
+continue_back_as_session run s t h stub unguarded lone = by (subst (λ (b : Bool). LeadsBy b false run s t motion.ContinueBack h) lone.free lone.leads)
   where
     by : MovesAlone run s t motion.ContinueBack h → (h.thread ≡ t) × SessionGoes run s t (command.Continue t Backwards) h.cut
     by (to, moves, comes, is) =
-        let found = stops_below_as_session run s t (position_of s t) to lone.watches refl moves in
+        let found = stops_below_as_session run s t (position_of s t) to stub unguarded lone.watches refl moves in
         (ap (λ (x : Halt). x.thread) is, (_, (h.cut, found.0, (found.1, subst (λ (k : ℕ). Comes run s Backwards t k h.cut) found.2 comes), (refl, refl))))
 
 -- ---- `bs`

@@ -9,7 +9,7 @@ use Rattle.ir_command.specs.declared.command.Point.TheVariants.{Break}
 use Rattle.ir_hits.specs.Hits.{Numbered, HitBy, HitByNumber}
 use Rattle.ir_gdb.specs.declared.point.Watched.{Watched}
 use Rattle.ir_gdb.specs.Guards.{Guarded, is_guarded, guard_offset, break_number, has_guard}
-use Rattle.ir_gdb.specs.Points.{word_points, watch_points, break_points, own_points, points_upwards}
+use Rattle.ir_gdb.specs.Points.{word_points, watch_points, break_points, own_points, points_upwards, points_downwards}
 use Rattle.ir_gdb.specs.Stub.{most_stub_points}
 use Rattle.ir_gdb.proofs.Finding.{first_point_hits, later_point_hits, first_or_later_hits}
 
@@ -154,3 +154,20 @@ module _ (f : FittedTrace) (run : List Step) (t k : ℕ) where
   guarded_hits_upwards ws bs own i b at is hits = subst (λ m. HitByNumber f run (points_upwards t ws bs own) t k m) (guarded_number b (length ws + i) is)
       (hit_in_left (watch_points t 0 ws ++ break_points t (length ws) bs) (own_points (length ws + length bs) own) _
       (hit_in_right (watch_points t 0 ws) (break_points t (length ws) bs) _ (break_hits (length ws) bs i b at hits)))
+
+  pub guarded_hit_downwards : (ws : List Watched) (bs : List Guarded) (own : List Numbered) (n : ℕ) → length bs + length ws ≤ most_stub_points → has_guard n ≡ true
+      → HitByNumber f run (points_downwards t ws bs own) t k n → (i : ℕ) × (b : Guarded) × IsHitGuarded 0 bs n i b
+  guarded_hit_downwards ws bs own n few guard hits =
+      elim (hit_of_appended (break_points t 0 bs ++ watch_points t (length bs) ws) (own_points (length bs + length ws) own) n hits) [
+        | inr mine ↦ (let is = number_of_own (length bs + length ws) own n mine in absurd (not_guarded_below n (omega (arith, is, few)) guard))
+        | inl both ↦ elim (hit_of_appended (break_points t 0 bs) (watch_points t (length bs) ws) n both) [
+          | inl break ↦ guarded_of_break 0 bs n (omega (arith, few)) guard break
+          | inr watch ↦ (let less = number_of_watches (length bs) ws n watch in absurd (not_guarded_below n (omega (arith, less, few)) guard))
+        ]
+      ]
+
+  pub guarded_hits_downwards : (ws : List Watched) (bs : List Guarded) (own : List Numbered) (i : ℕ) (b : Guarded) → slice_get bs i ≡ Some b → is_guarded b ≡ true
+      → HitBy f run t k (Break t b.point.address) → HitByNumber f run (points_downwards t ws bs own) t k (0 + i + guard_offset)
+  guarded_hits_downwards ws bs own i b at is hits = subst (λ m. HitByNumber f run (points_downwards t ws bs own) t k m) (guarded_number b (0 + i) is)
+      (hit_in_left (break_points t 0 bs ++ watch_points t (length bs) ws) (own_points (length bs + length ws) own) _
+      (hit_in_left (break_points t 0 bs) (watch_points t (length bs) ws) _ (break_hits 0 bs i b at hits)))

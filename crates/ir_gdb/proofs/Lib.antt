@@ -39,3 +39,5 @@ mod MetPlaces
 mod Deciding
 mod Nexts
 mod Lasts
+mod Starts
+mod Previous

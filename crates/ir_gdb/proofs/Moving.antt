@@ -15,13 +15,14 @@ use Rattle.ir_packet.specs.declared.request.Motion.{Motion}
 use Rattle.ir_gdb.specs.declared.stopped.Moving.{Moving}
 use Rattle.ir_gdb.specs.declared.stopped.Stopped.{Stopped}
 use Rattle.ir_gdb.specs.Stub.{Stub, stub_spoken}
-use Rattle.ir_gdb.specs.Stops.{stopped, StopsInDirection, MovesTo, direction_of, reason_at_end}
+use Rattle.ir_gdb.specs.Stops.{stopped, position_of, StopsInDirection, MovesTo, direction_of, reason_at_end}
 use Rattle.ir_gdb.specs.Together.{Halt, halt, Comes, OwnStop, stop_among, AreStops, AreWithin, passes, is_free, moves, moves_other, IsMet}
 use Rattle.ir_gdb.specs.Together.{IsNotMet, FirstMet, first_met, halt_or, MetBy, StepsAmong, StopsAmong, NoneStops, FirstStop, furthest}
 use Rattle.ir_gdb.specs.Together.{ContinuesAmong, MovesAlone}
 use Rattle.ir_gdb.specs.Moves.{all_at_stop, after_told, interrupted_at, told_text, Moves, MovesBy}
 use Rattle.ir_gdb.specs.Replies.{RepliesToMove}
 use Rattle.ir_gdb.proofs.Nexts.{first_upward_stop_from_spoken}
+use Rattle.ir_gdb.proofs.Stopping.{continues_back_from_spoken}
 use Rattle.ir_gdb.proofs.Together.{below_next_cases, holds_below_except_one}
 
 -- ---- of a stub that has spoken
@@ -29,8 +30,7 @@ use Rattle.ir_gdb.proofs.Together.{below_next_cases, holds_below_except_one}
 stops_from_spoken : (d : Direction) (run : List Step) (s : Stub) (t : ℕ) (w : Bool) (to : Stopped) → StopsInDirection d run (stub_spoken s) t w to → StopsInDirection d run s t w to
 stops_from_spoken Forwards run s t true to goes = (goes.0, first_upward_stop_from_spoken run s t true goes.0 goes.1, goes.2)
 stops_from_spoken Forwards run s t false to goes = (goes.0, first_upward_stop_from_spoken run s t false goes.0 goes.1, goes.2)
-stops_from_spoken Backwards run s t true to goes = goes
-stops_from_spoken Backwards run s t false to goes = goes
+stops_from_spoken Backwards run s t w to goes = continues_back_from_spoken run s t (position_of s t) w to goes
 
 are_stops_from_spoken : (run : List Step) (s : Stub) (d : Direction) (mover : ℕ) (each : List Stopped) → AreStops run (stub_spoken s) d mover each
     → AreStops run s d mover each

@@ -5,7 +5,8 @@ use Rattle.std.proofs.lemmas.Bool.{cases_lt}
 use Rattle.ir_runs.specs.Run.{Step, IsLeast}
 use Rattle.ir_fit.specs.Fit.{FittedTrace, HasRun}
 use Rattle.ir_cut.specs.Positions.{EachRun, machine_of, start_of, cut_of}
-use Rattle.ir_command.specs.declared.command.Direction.TheVariants.{Forwards}
+use Rattle.ir_command.specs.declared.command.Direction.{Direction}
+use Rattle.ir_command.specs.declared.command.Direction.TheVariants.{Forwards, Backwards}
 use Rattle.ir_command.specs.declared.hit.Hit.{Hit}
 use Rattle.ir_hits.specs.Hits.{Numbered, NoneWithin, IsLowest, IsFirstHit}
 use Rattle.ir_hits.specs.Searching.{IsNextHit}
@@ -15,9 +16,11 @@ use Rattle.ir_gdb.specs.Guards.{has_guard, guard_offset, conditions_at}
 use Rattle.ir_gdb.specs.Points.{watches_if, upwards_of}
 use Rattle.ir_gdb.specs.Stub.{Stub, stub_spoken, most_stub_points}
 use Rattle.ir_gdb.specs.Stops.{position_of}
-use Rattle.ir_gdb.specs.Conditions.{IsMetBy, StopsUpwards, IsLowestThat, IsStopAt, NoneStopsWithin, IsFirstStop, IsNextStop, is_plain_hit, first_met_at}
+use Rattle.ir_gdb.specs.Conditions.{IsMetBy, StopsUpwards, IsLowestThat, IsStopAt, NoneStopsWithin, IsFirstStop, IsNextStop, IsLastStop}
+use Rattle.ir_gdb.specs.Seeking.{IsLastStopFrom}
+use Rattle.ir_gdb.specs.Conditions.{is_plain_hit, first_met_at}
 use Rattle.ir_gdb.proofs.Farther.{own_cut_is_least, least_from_least}
-use Rattle.ir_gdb.proofs.Deciding.{none_met_is_no_stop, first_met_is_stop}
+use Rattle.ir_gdb.proofs.Deciding.{points_in, before_breaks, StopsIn, none_met_is_no_stop, first_met_is_stop}
 
 -- ---- hits that are between positions
 
@@ -39,27 +42,31 @@ upwards_of_spoken s u t w same = ap (λ (x : Stub). upwards_of x t w) same ∙ b
     by true = refl
     by false = refl
 
-met_from_spoken : (run : List Step) (s : Stub) (t k : ℕ) (conditions : List (List ℕ)) (guard : Bool) → IsMetBy guard run (stub_spoken s) t k conditions
-    → IsMetBy guard run s t k conditions
-met_from_spoken run s t k conditions true met = met
-met_from_spoken run s t k conditions false met = tt
+met_from_spoken : (run : List Step) (s : Stub) (d : Direction) (t k : ℕ) (conditions : List (List ℕ)) (guard : Bool)
+    → IsMetBy guard run (stub_spoken s) d t k conditions → IsMetBy guard run s d t k conditions
+met_from_spoken run s d t k conditions true met = met
+met_from_spoken run s d t k conditions false met = tt
 
-met_to_spoken : (run : List Step) (s : Stub) (t k : ℕ) (conditions : List (List ℕ)) (guard : Bool) → IsMetBy guard run s t k conditions
-    → IsMetBy guard run (stub_spoken s) t k conditions
-met_to_spoken run s t k conditions true met = met
-met_to_spoken run s t k conditions false met = tt
+met_to_spoken : (run : List Step) (s : Stub) (d : Direction) (t k : ℕ) (conditions : List (List ℕ)) (guard : Bool) → IsMetBy guard run s d t k conditions
+    → IsMetBy guard run (stub_spoken s) d t k conditions
+met_to_spoken run s d t k conditions true met = met
+met_to_spoken run s d t k conditions false met = tt
 
-upward_stop_from_spoken : (run : List Step) (s : Stub) (t : ℕ) (w : Bool) (k n : ℕ) → StopsUpwards run (stub_spoken s) t w k n → StopsUpwards run s t w k n
-upward_stop_from_spoken run s t true k n stops =
-    (stops.0, met_from_spoken run s t k (conditions_at s.breaks (length (watches_if s true)) n) (has_guard n) stops.1)
-upward_stop_from_spoken run s t false k n stops =
-    (stops.0, met_from_spoken run s t k (conditions_at s.breaks (length (watches_if s false)) n) (has_guard n) stops.1)
+pub stop_from_spoken : (run : List Step) (s : Stub) (d : Direction) (t : ℕ) (w : Bool) (k n : ℕ) → StopsIn d run (stub_spoken s) t w k n → StopsIn d run s t w k n
+stop_from_spoken run s Forwards t true k n stops =
+    (stops.0, met_from_spoken run s Forwards t k (conditions_at s.breaks (length (watches_if s true)) n) (has_guard n) stops.1)
+stop_from_spoken run s Forwards t false k n stops =
+    (stops.0, met_from_spoken run s Forwards t k (conditions_at s.breaks (length (watches_if s false)) n) (has_guard n) stops.1)
+stop_from_spoken run s Backwards t true k n stops = (stops.0, met_from_spoken run s Backwards t k (conditions_at s.breaks 0 n) (has_guard n) stops.1)
+stop_from_spoken run s Backwards t false k n stops = (stops.0, met_from_spoken run s Backwards t k (conditions_at s.breaks 0 n) (has_guard n) stops.1)
 
-upward_stop_to_spoken : (run : List Step) (s : Stub) (t : ℕ) (w : Bool) (k n : ℕ) → StopsUpwards run s t w k n → StopsUpwards run (stub_spoken s) t w k n
-upward_stop_to_spoken run s t true k n stops =
-    (stops.0, met_to_spoken run s t k (conditions_at s.breaks (length (watches_if s true)) n) (has_guard n) stops.1)
-upward_stop_to_spoken run s t false k n stops =
-    (stops.0, met_to_spoken run s t k (conditions_at s.breaks (length (watches_if s false)) n) (has_guard n) stops.1)
+pub stop_to_spoken : (run : List Step) (s : Stub) (d : Direction) (t : ℕ) (w : Bool) (k n : ℕ) → StopsIn d run s t w k n → StopsIn d run (stub_spoken s) t w k n
+stop_to_spoken run s Forwards t true k n stops =
+    (stops.0, met_to_spoken run s Forwards t k (conditions_at s.breaks (length (watches_if s true)) n) (has_guard n) stops.1)
+stop_to_spoken run s Forwards t false k n stops =
+    (stops.0, met_to_spoken run s Forwards t k (conditions_at s.breaks (length (watches_if s false)) n) (has_guard n) stops.1)
+stop_to_spoken run s Backwards t true k n stops = (stops.0, met_to_spoken run s Backwards t k (conditions_at s.breaks 0 n) (has_guard n) stops.1)
+stop_to_spoken run s Backwards t false k n stops = (stops.0, met_to_spoken run s Backwards t k (conditions_at s.breaks 0 n) (has_guard n) stops.1)
 
 -- where the same stop, the same is first
 module _ (P Q : ℕ → ℕ → Type 0) (there : (k n : ℕ) → P k n → Q k n) (back : (k n : ℕ) → Q k n → P k n) where
@@ -75,6 +82,16 @@ module _ (P Q : ℕ → ℕ → Type 0) (there : (k n : ℕ) → P k n → Q k n
   next_of_same_stops p to (Some h) is =
       (is.0, is.1, λ j n low high stops. is.2 j n low high (back j n stops), lowest_of_same_stops h.position h.number is.3)
 
+  pub last_of_same_stops : (p : ℕ) (stop : Option Hit) → IsLastStop P p stop → IsLastStop Q p stop
+  last_of_same_stops p None is = λ j n low high stops. is j n low high (back j n stops)
+  last_of_same_stops p (Some h) is =
+      (is.0, λ j n low high stops. is.1 j n low high (back j n stops), lowest_of_same_stops h.position h.number is.2)
+
+  pub last_from_of_same_stops : (from to : ℕ) (stop : Option Hit) → IsLastStopFrom P from to stop → IsLastStopFrom Q from to stop
+  last_from_of_same_stops from to None is = λ j n low high stops. is j n low high (back j n stops)
+  last_from_of_same_stops from to (Some h) is =
+      (is.0, is.1, λ j n low high stops. is.2 j n low high (back j n stops), lowest_of_same_stops h.position h.number is.3)
+
   first_of_same_stops : (p : ℕ) (stop : Option Hit) → IsFirstStop P p stop → IsFirstStop Q p stop
   first_of_same_stops p None is = λ j n up stops. is j n up (back j n stops)
   first_of_same_stops p (Some h) is =
@@ -83,23 +100,23 @@ module _ (P Q : ℕ → ℕ → Type 0) (there : (k n : ℕ) → P k n → Q k n
 pub first_upward_stop_from_spoken : (run : List Step) (s : Stub) (t : ℕ) (w : Bool) (stop : Option Hit)
     → IsFirstStop (StopsUpwards run (stub_spoken s) t w) (position_of s t) stop → IsFirstStop (StopsUpwards run s t w) (position_of s t) stop
 first_upward_stop_from_spoken run s t w stop is =
-    first_of_same_stops (StopsUpwards run (stub_spoken s) t w) (StopsUpwards run s t w) (upward_stop_from_spoken run s t w) (upward_stop_to_spoken run s t w)
+    first_of_same_stops (StopsUpwards run (stub_spoken s) t w) (StopsUpwards run s t w) (stop_from_spoken run s Forwards t w) (stop_to_spoken run s Forwards t w)
     (position_of s t) stop is
 
-stop_at_from_spoken : (run : List Step) (s : Stub) (t : ℕ) (w : Bool) (k : ℕ) (stop : Option Hit) → IsStopAt (StopsUpwards run (stub_spoken s) t w) k stop
-    → IsStopAt (StopsUpwards run s t w) k stop
-stop_at_from_spoken run s t w k stop is =
-    stop_of_same_stops (StopsUpwards run (stub_spoken s) t w) (StopsUpwards run s t w) (upward_stop_from_spoken run s t w) (upward_stop_to_spoken run s t w) k stop is
+stop_at_from_spoken : (run : List Step) (s : Stub) (d : Direction) (t : ℕ) (w : Bool) (k : ℕ) (stop : Option Hit)
+    → IsStopAt (StopsIn d run (stub_spoken s) t w) k stop → IsStopAt (StopsIn d run s t w) k stop
+stop_at_from_spoken run s d t w k stop is =
+    stop_of_same_stops (StopsIn d run (stub_spoken s) t w) (StopsIn d run s t w) (stop_from_spoken run s d t w) (stop_to_spoken run s d t w) k stop is
 
-pub stop_at_of_spoken : (s u : Stub) (t : ℕ) (w : Bool) (k : ℕ) (stop : Option Hit) → u ≡ stub_spoken s
-    → EachRun u.desk.fitted (λ run. IsStopAt (StopsUpwards run u t w) k stop) → EachRun s.desk.fitted (λ run. IsStopAt (StopsUpwards run s t w) k stop)
-stop_at_of_spoken s u t w k stop same is run whole =
-    stop_at_from_spoken run s t w k stop (subst (λ (x : Stub). EachRun x.desk.fitted (λ r. IsStopAt (StopsUpwards r x t w) k stop)) same is run whole)
+pub stop_at_of_spoken : (s u : Stub) (d : Direction) (t : ℕ) (w : Bool) (k : ℕ) (stop : Option Hit) → u ≡ stub_spoken s
+    → EachRun u.desk.fitted (λ run. IsStopAt (StopsIn d run u t w) k stop) → EachRun s.desk.fitted (λ run. IsStopAt (StopsIn d run s t w) k stop)
+stop_at_of_spoken s u d t w k stop same is run whole =
+    stop_at_from_spoken run s d t w k stop (subst (λ (x : Stub). EachRun x.desk.fitted (λ r. IsStopAt (StopsIn d r x t w) k stop)) same is run whole)
 
 next_stop_from_spoken : (run : List Step) (s : Stub) (t : ℕ) (w : Bool) (to : ℕ) (stop : Option Hit)
     → IsNextStop (StopsUpwards run (stub_spoken s) t w) (position_of s t) to stop → IsNextStop (StopsUpwards run s t w) (position_of s t) to stop
 next_stop_from_spoken run s t w to stop is =
-    next_of_same_stops (StopsUpwards run (stub_spoken s) t w) (StopsUpwards run s t w) (upward_stop_from_spoken run s t w) (upward_stop_to_spoken run s t w)
+    next_of_same_stops (StopsUpwards run (stub_spoken s) t w) (StopsUpwards run s t w) (stop_from_spoken run s Forwards t w) (stop_to_spoken run s Forwards t w)
     (position_of s t) to stop is
 
 pub next_stop_of_spoken : (s u : Stub) (t : ℕ) (w : Bool) (to : ℕ) (stop : Option Hit) → u ≡ stub_spoken s
@@ -223,27 +240,27 @@ next_stop_at_end s t q to w past none run whole j n low high stops = none run wh
 
 -- ---- decisions
 
-plain_number_has_no_guard : (h : Hit) → is_plain_hit (Some h) ≡ true → has_guard h.number ≡ false
+pub plain_number_has_no_guard : (h : Hit) → is_plain_hit (Some h) ≡ true → has_guard h.number ≡ false
 plain_number_has_no_guard h plain = by (has_guard h.number) refl
   where
     by : (b : Bool) → has_guard h.number ≡ b → has_guard h.number ≡ false
     by true is = absurd (true≢false (sym plain ∙ ap not is))
     by false is = is
 
-plain_lowest_stops : (run : List Step) (s : Stub) (t : ℕ) (w : Bool) (h : Hit) → is_plain_hit (Some h) ≡ true
-    → IsLowest s.desk.fitted run (upwards_of s t w) t h.position h.number → IsLowestThat (StopsUpwards run s t w) h.position h.number
-plain_lowest_stops run s t w h plain lowest = record {
+pub plain_lowest_stops : (run : List Step) (s : Stub) (d : Direction) (t : ℕ) (w : Bool) (h : Hit) → is_plain_hit (Some h) ≡ true
+    → IsLowest s.desk.fitted run (points_in d s t w) t h.position h.number → IsLowestThat (StopsIn d run s t w) h.position h.number
+plain_lowest_stops run s d t w h plain lowest = record {
   stops = (
     lowest.hits,
-    subst (λ (b : Bool). IsMetBy b run s t h.position (conditions_at s.breaks (length (watches_if s w)) h.number)) (sym (plain_number_has_no_guard h plain)) tt,
+    subst (λ (b : Bool). IsMetBy b run s d t h.position (conditions_at s.breaks (before_breaks d s w) h.number)) (sym (plain_number_has_no_guard h plain)) tt,
   );
   lowest = λ m stops. lowest.lowest m stops.0;
 }
 
-pub plain_hit_is_stop : (s : Stub) (t : ℕ) (w : Bool) (h : Hit) → is_plain_hit (Some h) ≡ true
-    → EachRun s.desk.fitted (λ run. IsLowest s.desk.fitted run (upwards_of s t w) t h.position h.number)
-    → EachRun s.desk.fitted (λ run. IsStopAt (StopsUpwards run s t w) h.position (Some h))
-plain_hit_is_stop s t w h plain lowest run whole = (refl, plain_lowest_stops run s t w h plain (lowest run whole))
+pub plain_hit_is_stop : (s : Stub) (d : Direction) (t : ℕ) (w : Bool) (h : Hit) → is_plain_hit (Some h) ≡ true
+    → EachRun s.desk.fitted (λ run. IsLowest s.desk.fitted run (points_in d s t w) t h.position h.number)
+    → EachRun s.desk.fitted (λ run. IsStopAt (StopsIn d run s t w) h.position (Some h))
+plain_hit_is_stop s d t w h plain lowest run whole = (refl, plain_lowest_stops run s d t w h plain (lowest run whole))
 
 guard_of_other : (h : Hit) → is_plain_hit (Some h) ≡ false → has_guard h.number ≡ true
 guard_of_other h other = by (has_guard h.number) refl
@@ -252,26 +269,26 @@ guard_of_other h other = by (has_guard h.number) refl
     by true is = is
     by false is = absurd (true≢false (sym (ap not is) ∙ other))
 
-pub undecided_hit_is_no_stop : (s : Stub) (t : ℕ) (w : Bool) (h : Hit) (cut : List ℕ) (place : Option ℕ)
+pub undecided_hit_is_no_stop : (s : Stub) (d : Direction) (t : ℕ) (w : Bool) (h : Hit) (cut : List ℕ) (place : Option ℕ)
     → length s.breaks + length (watches_if s w) ≤ most_stub_points → cut_of cut t ≡ h.position → is_plain_hit (Some h) ≡ false → place ≡ None
-    → EachRun s.desk.fitted (λ run. StopsAt run s.desk.fitted s.desk.at t Forwards h.position cut)
-    → EachRun s.desk.fitted (λ run. IsLowest s.desk.fitted run (upwards_of s t w) t h.position h.number)
+    → EachRun s.desk.fitted (λ run. StopsAt run s.desk.fitted s.desk.at t d h.position cut)
+    → EachRun s.desk.fitted (λ run. IsLowest s.desk.fitted run (points_in d s t w) t h.position h.number)
     → EachRun s.desk.fitted (λ run. place ≡ first_met_at run s cut t)
-    → EachRun s.desk.fitted (λ run. IsStopAt (StopsUpwards run s t w) h.position None)
-undecided_hit_is_no_stop s t w h cut place few there other none comes lowest met run whole = none_met_is_no_stop run s t w h.position cut
+    → EachRun s.desk.fitted (λ run. IsStopAt (StopsIn d run s t w) h.position None)
+undecided_hit_is_no_stop s d t w h cut place few there other none comes lowest met run whole = none_met_is_no_stop run s d t w h.position cut
     (comes run whole) there few h.number (lowest run whole) (guard_of_other h other) (sym (met run whole) ∙ none)
 
-pub decided_hit_is_stop : (s : Stub) (t : ℕ) (w : Bool) (h stop : Hit) (cut : List ℕ) (place : Option ℕ) (i : ℕ)
+pub decided_hit_is_stop : (s : Stub) (d : Direction) (t : ℕ) (w : Bool) (h stop : Hit) (cut : List ℕ) (place : Option ℕ) (i : ℕ)
     → length s.breaks + length (watches_if s w) ≤ most_stub_points → cut_of cut t ≡ h.position → is_plain_hit (Some h) ≡ false → place ≡ Some i
-    → stop ≡ record { position = h.position; number = length (watches_if s w) + i + guard_offset }
-    → EachRun s.desk.fitted (λ run. StopsAt run s.desk.fitted s.desk.at t Forwards h.position cut)
-    → EachRun s.desk.fitted (λ run. IsLowest s.desk.fitted run (upwards_of s t w) t h.position h.number)
+    → stop ≡ record { position = h.position; number = before_breaks d s w + i + guard_offset }
+    → EachRun s.desk.fitted (λ run. StopsAt run s.desk.fitted s.desk.at t d h.position cut)
+    → EachRun s.desk.fitted (λ run. IsLowest s.desk.fitted run (points_in d s t w) t h.position h.number)
     → EachRun s.desk.fitted (λ run. place ≡ first_met_at run s cut t)
-    → EachRun s.desk.fitted (λ run. IsStopAt (StopsUpwards run s t w) h.position (Some stop))
-decided_hit_is_stop s t w h stop cut place i few there other some is comes lowest met run whole = (
+    → EachRun s.desk.fitted (λ run. IsStopAt (StopsIn d run s t w) h.position (Some stop))
+decided_hit_is_stop s d t w h stop cut place i few there other some is comes lowest met run whole = (
   ap (λ (x : Hit). x.position) is,
-  subst (λ (n : ℕ). IsLowestThat (StopsUpwards run s t w) h.position n) (sym (ap (λ (x : Hit). x.number) is))
-      (first_met_is_stop run s t w h.position cut (comes run whole) there few h.number (lowest run whole) (guard_of_other h other) i (sym (met run whole) ∙ some)),
+  subst (λ (n : ℕ). IsLowestThat (StopsIn d run s t w) h.position n) (sym (ap (λ (x : Hit). x.number) is))
+      (first_met_is_stop run s d t w h.position cut (comes run whole) there few h.number (lowest run whole) (guard_of_other h other) i (sym (met run whole) ∙ some)),
 )
 
 -- ---- the first of all
@@ -286,4 +303,4 @@ first_stop_if_plain s u t w points hit same are plain finds run whole =
     by : (hit : Option Hit) → is_plain_hit hit ≡ true → IsFirstHit s.desk.fitted run (upwards_of s t w) t (position_of s t) hit
         → IsFirstStop (StopsUpwards run s t w) (position_of s t) hit
     by None plain found = λ j n up stops. found j n up stops.0
-    by (Some h) plain found = (found.0, no_hit_is_no_stop run s t w (suc (position_of s t)) h.position found.1, plain_lowest_stops run s t w h plain found.2)
+    by (Some h) plain found = (found.0, no_hit_is_no_stop run s t w (suc (position_of s t)) h.position found.1, plain_lowest_stops run s Forwards t w h plain found.2)

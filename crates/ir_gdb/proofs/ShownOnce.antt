@@ -8,9 +8,9 @@ use Rattle.ir_cut.specs.Positions.{cut_of, threads_of, last_of}
 use Rattle.ir_command.specs.declared.command.Direction.{Direction}
 use Rattle.ir_command.specs.declared.command.Direction.TheVariants.{Forwards, Backwards}
 use Rattle.ir_command.specs.declared.hit.Hit.{Hit}
-use Rattle.ir_hits.specs.Hits.{Numbered, HitByNumber, IsLastHit}
+use Rattle.ir_hits.specs.Hits.{Numbered, HitByNumber}
 use Rattle.ir_gdb.specs.Guards.{has_guard, conditions_at}
-use Rattle.ir_gdb.specs.Conditions.{IsMetBy, StopsUpwards, IsFirstStop}
+use Rattle.ir_gdb.specs.Conditions.{IsMetBy, StopsUpwards, StopsDownwards, IsFirstStop, IsLastStop}
 use Rattle.ir_packet.specs.declared.reply.Reason.{Reason}
 use Rattle.ir_gdb.specs.declared.point.Watched.{Watched}
 use Rattle.ir_gdb.specs.declared.stopped.Stopped.{Stopped}
@@ -18,10 +18,11 @@ use Rattle.ir_gdb.specs.Points.{points_upwards, points_downwards, watches_if, up
 use Rattle.ir_gdb.specs.Stub.{Stub, shared_breaks, IsStub, most_stub_points}
 use Rattle.ir_gdb.specs.Stops.{position_of, end_above, end_below, is_hit, StopsInDirection, BackBy, StopsBelow, ContinuesBackBy, reason_at_end}
 use Rattle.ir_gdb.specs.Together.{Halt, halt, Comes, stop_among, is_on_way, AreStops, FirstMet, meets, halt_or, own_halt, met_or, StopsAmong, FirstStop, furthest, ContinuesAmong}
-use Rattle.ir_gdb.specs.Laws.{MeetsNone, PassesNone, PassesNoHit, Stands, stub_behind, ShowsHit, ContinuesToEnd, IsHitBeyond, ShowsAt, IsShownOnce, IsConditional, IsConditionMet}
+use Rattle.ir_gdb.specs.Laws.{MeetsNone, PassesNone, PassesNoHit, Stands, stub_behind, ShowsHit, ContinuesToEnd, IsHitBeyond, ShowsAt, IsShownOnce}
+use Rattle.ir_gdb.specs.Laws.{directed_points, IsConditional, IsConditionMet}
 use Rattle.ir_gdb.proofs.Alone.{no_watch_is_next, stop_above_is_at_hit, stop_below_is_at_hit}
 use Rattle.ir_gdb.proofs.Blocked.{Within, comes_within_cut, comes_exactly_there, hit_on_way_if_meets}
-use Rattle.ir_gdb.proofs.Deciding.{guarded_stop_is_met}
+use Rattle.ir_gdb.proofs.Deciding.{points_in, StopsIn, guarded_stop_is_met}
 use Rattle.ir_gdb.proofs.Unpassed.{continue_passes_no_hit, no_stop_is_no_hit}
 use Rattle.ir_gdb.proofs.Ways.{meets_none_if_not_met, meets_by}
 
@@ -56,11 +57,18 @@ downwards_of_any : (s : Stub) (u : ℕ) (w : Bool) → s.watches ≡ [] → down
 downwards_of_any s u w none = ap (λ (ws : List Watched). points_downwards u ws s.breaks s.desk.points) (watches_if_none s false none ∙ sym (watches_if_none s w none))
 
 -- a point without conditions stops where it hits
+stops_downwards_if_free : (run : List Step) (s : Stub) (u k n : ℕ) (w : Bool) → s.watches ≡ [] → HitByNumber s.desk.fitted run (downwards_of s u false) u k n
+    → has_guard n ≡ false → StopsDownwards run s u w k n
+stops_downwards_if_free run s u k n w none hits free = (
+  subst (λ points. HitByNumber s.desk.fitted run points u k n) (downwards_of_any s u w none) hits,
+  subst (λ (b : Bool). IsMetBy b run s Backwards u k (conditions_at s.breaks 0 n)) (sym free) tt,
+)
+
 stops_upwards_if_free : (run : List Step) (s : Stub) (u k n : ℕ) (w : Bool) → s.watches ≡ [] → HitByNumber s.desk.fitted run (upwards_of s u false) u k n
     → has_guard n ≡ false → StopsUpwards run s u w k n
 stops_upwards_if_free run s u k n w none hits free = (
   subst (λ points. HitByNumber s.desk.fitted run points u k n) (upwards_of_any s u w none) hits,
-  subst (λ (b : Bool). IsMetBy b run s u k (conditions_at s.breaks (length (watches_if s w)) n)) (sym free) tt,
+  subst (λ (b : Bool). IsMetBy b run s Forwards u k (conditions_at s.breaks (length (watches_if s w)) n)) (sym free) tt,
 )
 
 -- a hit is at the position to which a thread comes, or beyond
@@ -73,10 +81,10 @@ hit_not_passed_is_beyond run s Forwards u k c w none passes (beyond, (n, hits, f
     | inr back ↦ inl (omega (arith, from, back))
   ]
 ]
-hit_not_passed_is_beyond run s Backwards u k c w none passes (beyond, (n, hits)) = elim (cases_lt k c) [
+hit_not_passed_is_beyond run s Backwards u k c w none passes (beyond, (n, hits, free)) = elim (cases_lt k c) [
   | inl less ↦ inr less
   | inr from ↦ elim (cases_lt c k) [
-    | inl less ↦ absurd (passes.0 k n less beyond (subst (λ points. HitByNumber s.desk.fitted run points u k n) (downwards_of_any s u w none) hits))
+    | inl less ↦ absurd (passes.0 k n less beyond (stops_downwards_if_free run s u k n w none hits free))
     | inr back ↦ inl (omega (arith, from, back))
   ]
 ]
@@ -87,9 +95,9 @@ hit_not_met_is_beyond run s Forwards u k c w none meets (beyond, (n, hits, free)
   | inl less ↦ less
   | inr from ↦ absurd (meets k n beyond (omega (arith, from)) (stops_upwards_if_free run s u k n w none hits free))
 ]
-hit_not_met_is_beyond run s Backwards u k c w none meets (beyond, (n, hits)) = elim (cases_lt k c) [
+hit_not_met_is_beyond run s Backwards u k c w none meets (beyond, (n, hits, free)) = elim (cases_lt k c) [
   | inl less ↦ less
-  | inr from ↦ absurd (meets.0 k n from beyond (subst (λ points. HitByNumber s.desk.fitted run points u k n) (downwards_of_any s u w none) hits))
+  | inr from ↦ absurd (meets.0 k n from beyond (stops_downwards_if_free run s u k n w none hits free))
 ]
 
 -- a hit that is beyond a stop is so from there on
@@ -110,7 +118,7 @@ own_hit_is_beyond run s Forwards u w to none (hit, finds, ends) told = by hit fi
     by (Some h) finds is = let up = finds.0 in let at = ap (λ (x : Stopped). x.position) is ∙ stop_above_is_at_hit s.breaks h in omega (arith, up, at)
 own_hit_is_beyond run s Backwards u w to none goes told = by (position_of s u) refl goes
   where
-    below : (hit : Option Hit) → IsLastHit s.desk.fitted run (downwards_of s u w) u (position_of s u) hit → to ≡ end_below [] s.breaks hit
+    below : (hit : Option Hit) → IsLastStop (StopsDownwards run s u w) (position_of s u) hit → to ≡ end_below [] s.breaks hit
         → to.position < position_of s u
     below None finds is = absurd (true≢false (sym told ∙ ap (λ (x : Stopped). is_hit x.reason) is))
     below (Some h) finds is = let down = finds.0 in let at = ap (λ (x : Stopped). x.position) is ∙ stop_below_is_at_hit s.breaks h in omega (arith, down, at)
@@ -332,18 +340,60 @@ hit_beyond_shown_once run s d (m ∷ next ∷ ms) stands none continues u k belo
 
 -- ---- conditions
 
-pub shown_condition_is_met : (run : List Step) (s : Stub) (t : ℕ) (h : Halt) → Stands run s → IsStub s → s.watches ≡ [] → t < threads_of s.desk.fitted
-    → ContinuesAmong run s t Forwards h → is_hit h.reason ≡ true → IsConditional run s h.thread (cut_of h.cut h.thread) → IsConditionMet run s h
-shown_condition_is_met run s t h stands is none below continues told conditional = by stop.goes
+directed_points_of_any : (s : Stub) (d : Direction) (u : ℕ) (w : Bool) → s.watches ≡ [] → directed_points d s u ≡ points_in d s u w
+directed_points_of_any s Forwards u w none = upwards_of_any s u w none
+directed_points_of_any s Backwards u w none = downwards_of_any s u w none
+
+-- the stop of a thread at a hit: the point of a number stops it there
+record IsStopOf (run : List Step) (s : Stub) (d : Direction) (u : ℕ) (w : Bool) (to : Stopped) (n : ℕ) : Type 0 where
+  stops : StopsIn d run s u w to.position n
+
+stop_of_upward_hit : (run : List Step) (s : Stub) (u : ℕ) (w : Bool) (to : Stopped) → s.watches ≡ [] → StopsInDirection Forwards run s u w to
+    → is_hit to.reason ≡ true → (n : ℕ) × IsStopOf run s Forwards u w to n
+stop_of_upward_hit run s u w to none (None, finds, ends) told = absurd (true≢false (sym told ∙ ap (λ (x : Stopped). is_hit x.reason) ends))
+stop_of_upward_hit run s u w to none (Some g, finds, ends) told =
+    let at = ap (λ (x : Stopped). x.position) (ends ∙ ap (λ (ws : List Watched). end_above ws s.breaks (last_of s.desk.fitted u) (Some g)) (watches_if_none s w none))
+    ∙ stop_above_is_at_hit s.breaks g in
+    (g.number, record { stops = subst (λ (k : ℕ). StopsUpwards run s u w k g.number) (sym at) finds.2.stops })
+
+stop_of_downward_hit : (run : List Step) (s : Stub) (u : ℕ) (w : Bool) (to : Stopped) → s.watches ≡ [] → StopsInDirection Backwards run s u w to
+    → is_hit to.reason ≡ true → (n : ℕ) × IsStopOf run s Backwards u w to n
+stop_of_downward_hit run s u w to none goes told = by (position_of s u) goes
   where
-    stop : IsHitStop run s Forwards h
-    stop = hit_stop_if_reason_is_hit run s Forwards t h none below continues told
+    of_stop : StopsBelow run s u w to → (n : ℕ) × IsStopOf run s Backwards u w to n
+    of_stop (None, finds, ends) = absurd (true≢false (sym told ∙ ap (λ (x : Stopped). is_hit x.reason) ends))
+    of_stop (Some g, finds, ends) =
+        let at = ap (λ (x : Stopped). x.position) (ends ∙ ap (λ (ws : List Watched). end_below ws s.breaks (Some g)) (watches_if_none s w none))
+        ∙ stop_below_is_at_hit s.breaks g in
+        (g.number, record { stops = subst (λ (k : ℕ). StopsDownwards run s u w k g.number) (sym at) finds.2.stops })
+
+    by : (p : ℕ) → ContinuesBackBy run s u w p to → (n : ℕ) × IsStopOf run s Backwards u w to n
+    by zero is = absurd (true≢false (sym told ∙ ap (λ (x : Stopped). is_hit x.reason) is))
+    by (suc p) (why, next, back) = of_stop (subst (λ (x : Option Reason). BackBy run s u w (suc p) x to) (no_watch_is_next run s u p w why (watches_if_none s w none) next) back)
+
+stop_of_hit : (run : List Step) (s : Stub) (d : Direction) (u : ℕ) (w : Bool) (to : Stopped) → s.watches ≡ [] → StopsInDirection d run s u w to
+    → is_hit to.reason ≡ true → (n : ℕ) × IsStopOf run s d u w to n
+stop_of_hit run s Forwards u w to none goes told = stop_of_upward_hit run s u w to none goes told
+stop_of_hit run s Backwards u w to none goes told = stop_of_downward_hit run s u w to none goes told
+
+pub shown_condition_is_met : (run : List Step) (s : Stub) (d : Direction) (t : ℕ) (h : Halt) → Stands run s → IsStub s → s.watches ≡ [] → t < threads_of s.desk.fitted
+    → ContinuesAmong run s t d h → is_hit h.reason ≡ true → IsConditional run s d h.thread (cut_of h.cut h.thread) → IsConditionMet run s h
+shown_condition_is_met run s d t h stands is none below continues told conditional =
+    let met = guarded_stop_is_met run s d u stop.watched stop.to.position h.cut stop.comes here few found.0 guard found.1.stops in
+    (met.0, met.1, met.2.at, met.2.met)
+  where
+    stop : IsHitStop run s d h
+    stop = hit_stop_if_reason_is_hit run s d t h none below continues told
 
     u : ℕ
     u = h.thread
 
-    there : position_of s u ≤ stop.to.position → cut_of h.cut u ≡ stop.to.position
-    there ahead = comes_exactly_there run s stands Forwards u stop.to.position h.cut ahead stop.comes
+    found : (n : ℕ) × IsStopOf run s d u stop.watched stop.to n
+    found = stop_of_hit run s d u stop.watched stop.to none stop.goes stop.hit
+
+    here : cut_of h.cut u ≡ stop.to.position
+    here = comes_exactly_there run s stands d u stop.to.position h.cut
+        (within_if_beyond d (position_of s u) stop.to.position (own_hit_is_beyond run s d u stop.watched stop.to none stop.goes stop.hit)) stop.comes
 
     few : length s.breaks + length (watches_if s stop.watched) ≤ most_stub_points
     few =
@@ -352,17 +402,7 @@ shown_condition_is_met run s t h stands is none below continues told conditional
         let mine = ap (λ (ws : List Watched). length ws) (watches_if_none s stop.watched none) in
         omega (arith, all, own, mine)
 
-    at_hit : (g : Hit) → IsFirstStop (StopsUpwards run s u stop.watched) (position_of s u) (Some g) → stop.to.position ≡ g.position → IsConditionMet run s h
-    at_hit g finds at =
-        let up = finds.0 in
-        let here : cut_of h.cut u ≡ g.position = there (omega (arith, up, at)) ∙ at in
-        let hits = subst (λ (points : List Numbered). HitByNumber s.desk.fitted run points u g.position g.number) (sym (upwards_of_any s u stop.watched none)) finds.2.stops.0 in
-        let guard = conditional g.number (subst (λ (k : ℕ). HitByNumber s.desk.fitted run (upwards_of s u false) u k g.number) (sym here) hits) in
-        let comes = subst (λ (k : ℕ). Comes run s Forwards u k h.cut) at stop.comes in
-        let met = guarded_stop_is_met run s u stop.watched g.position h.cut comes here few g.number guard finds.2.stops in
-        (met.0, met.1, met.2.at, met.2.met)
-
-    by : StopsInDirection Forwards run s u stop.watched stop.to → IsConditionMet run s h
-    by (None, finds, ends) = absurd (true≢false (sym stop.hit ∙ ap (λ (x : Stopped). is_hit x.reason) ends))
-    by (Some g, finds, ends) = at_hit g finds (ap (λ (x : Stopped). x.position) (ends
-        ∙ ap (λ (ws : List Watched). end_above ws s.breaks (last_of s.desk.fitted u) (Some g)) (watches_if_none s stop.watched none)) ∙ stop_above_is_at_hit s.breaks g)
+    guard : has_guard found.0 ≡ true
+    guard = conditional found.0 (subst (λ (k : ℕ). HitByNumber s.desk.fitted run (directed_points d s u) u k found.0) (sym here)
+        (subst (λ (points : List Numbered). HitByNumber s.desk.fitted run points u stop.to.position found.0) (sym (directed_points_of_any s d u stop.watched none))
+        found.1.stops.0))

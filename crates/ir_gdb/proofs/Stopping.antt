@@ -5,20 +5,22 @@ use Rattle.std.specs.Prelude.{nat_lt, ◌==◌, ⊤, option_map}
 use Rattle.ir_fit.specs.Fit.{FittedTrace}
 use Rattle.ir_runs.specs.Run.{Step}
 use Rattle.ir_cut.specs.Positions.{EachRun, last_of}
+use Rattle.ir_command.specs.declared.command.Direction.TheVariants.{Backwards}
 use Rattle.ir_command.specs.declared.hit.Hit.{Hit}
-use Rattle.ir_hits.specs.Hits.{Numbered, IsLastHit}
+use Rattle.ir_hits.specs.Hits.{Numbered}
 use Rattle.ir_hits.specs.Searching.{IsNextHit}
 use Rattle.ir_debug.specs.Machine.{Desk}
 use Rattle.ir_packet.specs.declared.reply.Reason.{Reason}
 use Rattle.ir_gdb.specs.Guards.{Guarded}
 use Rattle.ir_gdb.specs.declared.point.Watched.{Watched}
 use Rattle.ir_gdb.specs.declared.stopped.Stopped.{Stopped}
-use Rattle.ir_gdb.specs.Points.{watch_points, points_downwards, watches_if, downwards_of}
-use Rattle.ir_gdb.specs.Conditions.{StopsUpwards, IsFirstStop}
+use Rattle.ir_gdb.specs.Points.{watch_points, watches_if}
+use Rattle.ir_gdb.specs.Conditions.{StopsUpwards, StopsDownwards, IsFirstStop, IsLastStop}
 use Rattle.ir_gdb.specs.Serving.{Serving}
 use Rattle.ir_gdb.specs.Stub.{Stub, stub_spoken}
 use Rattle.ir_gdb.specs.Stops.{position_of, WatchNext, StepsBy, StepsTo, after_step, StepsBackBy, StepsBackTo, after_back, StopsBelow}
 use Rattle.ir_gdb.specs.Stops.{BackBy, ContinuesBackBy, ContinuesBackTo, ContinuesTo, end_above, end_below, watch_reason}
+use Rattle.ir_gdb.proofs.Nexts.{stop_from_spoken, stop_to_spoken, last_of_same_stops}
 
 -- the value seen of what a function holds
 abbrev pub serving_seen : {a b : Serving} → a ≡ b → Serving
@@ -117,25 +119,39 @@ before_is_below_last k p here last is at above within = omega (arith, is, at, ab
 -- ---- searches
 
 stops_below_from_spoken : (run : List Step) (s : Stub) (t : ℕ) (w : Bool) (to : Stopped) → StopsBelow run (stub_spoken s) t w to → StopsBelow run s t w to
-stops_below_from_spoken run s t true to stops = stops
-stops_below_from_spoken run s t false to stops = stops
+stops_below_from_spoken run s t true to (hit, last, is) = (
+  hit,
+  last_of_same_stops (StopsDownwards run (stub_spoken s) t true) (StopsDownwards run s t true) (stop_from_spoken run s Backwards t true)
+      (stop_to_spoken run s Backwards t true) (position_of s t) hit last,
+  is,
+)
+stops_below_from_spoken run s t false to (hit, last, is) = (
+  hit,
+  last_of_same_stops (StopsDownwards run (stub_spoken s) t false) (StopsDownwards run s t false) (stop_from_spoken run s Backwards t false)
+      (stop_to_spoken run s Backwards t false) (position_of s t) hit last,
+  is,
+)
 
-pub search_is_downwards_of : (u : Stub) (t : ℕ) (w : Bool) (points : List Numbered) (ws : List Watched) (bs : List Guarded) (own : List Numbered)
-    → points ≡ points_downwards t ws bs own → ws ≡ watches_if u w → bs ≡ u.breaks → own ≡ u.desk.points → points ≡ downwards_of u t w
-search_is_downwards_of u t w points ws bs own is watches breaks mine =
-    is ∙ ap (λ (x : List Watched). points_downwards t x bs own) watches ∙ ap (λ (x : List Guarded). points_downwards t (watches_if u w) x own) breaks
-    ∙ ap (λ (x : List Numbered). points_downwards t (watches_if u w) u.breaks x) mine
+back_from_spoken : (run : List Step) (s : Stub) (t p : ℕ) (w : Bool) (why : Option Reason) (to : Stopped) → BackBy run (stub_spoken s) t w p why to
+    → BackBy run s t w p why to
+back_from_spoken run s t p w None to back = stops_below_from_spoken run s t w to back
+back_from_spoken run s t p w (Some why) to back = back
 
-pub search_end_stops_below : (s u : Stub) (e : Desk) (t : ℕ) (w : Bool) (points : List Numbered) (hit : Option Hit) (ws : List Watched) (bs : List Guarded)
-    (to : Stopped) → u ≡ stub_spoken s → points ≡ downwards_of u t w
-    → EachRun u.desk.fitted (λ run. IsLastHit u.desk.fitted run points t (position_of u t) hit) → ws ≡ watches_if (record u { desk = e }) w
-    → bs ≡ u.breaks → to ≡ end_below ws bs hit → EachRun s.desk.fitted (λ run. StopsBelow run s t w to)
-search_end_stops_below s u e t w points hit ws bs to same are finds watches breaks is run whole =
-    let end = is ∙ ap (λ (x : List Watched). end_below x bs hit) (watches ∙ watches_if_ignores_desk u e w)
-    ∙ ap (λ (x : List Guarded). end_below (watches_if u w) x hit) breaks in
-    let stops : EachRun u.desk.fitted (λ r. StopsBelow r u t w to) = λ r all.
-    (hit, subst (λ (ps : List Numbered). IsLastHit u.desk.fitted r ps t (position_of u t) hit) are (finds r all), end) in
-    stops_below_from_spoken run s t w to (subst (λ (x : Stub). EachRun x.desk.fitted (λ r. StopsBelow r x t w to)) same stops run whole)
+pub continues_back_from_spoken : (run : List Step) (s : Stub) (t p : ℕ) (w : Bool) (to : Stopped) → ContinuesBackBy run (stub_spoken s) t w p to
+    → ContinuesBackBy run s t w p to
+continues_back_from_spoken run s t zero w to is = is
+continues_back_from_spoken run s t (suc p) w to (why, next, back) =
+    (why, watch_next_from_spoken run s t p w why next, back_from_spoken run s t (suc p) w why to back)
+
+pub stops_below_at_last : (s u : Stub) (t : ℕ) (w : Bool) (hit : Option Hit) (ws : List Watched) (bs : List Guarded) (to : Stopped) → u ≡ stub_spoken s
+    → EachRun s.desk.fitted (λ run. IsLastStop (StopsDownwards run s t w) (position_of s t) hit) → ws ≡ watches_if u w → bs ≡ u.breaks
+    → to ≡ end_below ws bs hit → EachRun s.desk.fitted (λ run. StopsBelow run s t w to)
+stops_below_at_last s u t w hit ws bs to same finds watches breaks is run whole = (
+  hit,
+  finds run whole,
+  is ∙ ap (λ (x : List Watched). end_below x bs hit) (watches ∙ watches_if_ignores_spoken s u w same)
+      ∙ ap (λ (x : List Guarded). end_below (watches_if s w) x hit) (breaks ∙ ap (λ (x : Stub). x.breaks) same),
+)
 
 continues_back_by_stop : (run : List Step) (s : Stub) (t n : ℕ) (w : Bool) (why : Option Reason) (to : Stopped) → 0 < n → WatchNext run s t w (n - 1) why
     → why ≡ None → StopsBelow run s t w to → ContinuesBackBy run s t w n to

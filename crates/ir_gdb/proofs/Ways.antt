@@ -8,14 +8,14 @@ use Rattle.ir_cut.specs.Positions.{last_of}
 use Rattle.ir_command.specs.declared.command.Direction.{Direction}
 use Rattle.ir_command.specs.declared.command.Direction.TheVariants.{Forwards, Backwards}
 use Rattle.ir_command.specs.declared.hit.Hit.{Hit}
-use Rattle.ir_hits.specs.Hits.{Numbered, HitByNumber, NoneWithin, IsLastHit}
+use Rattle.ir_hits.specs.Hits.{Numbered, HitByNumber}
 use Rattle.ir_hits.specs.Searching.{IsNextHit}
 use Rattle.ir_packet.specs.declared.reply.Reason.{Reason}
 use Rattle.ir_gdb.specs.declared.point.Watched.{Watched}
 use Rattle.ir_gdb.specs.declared.stopped.Stopped.{Stopped}
 use Rattle.ir_gdb.specs.Guards.{Guarded, place_of}
-use Rattle.ir_gdb.specs.Points.{watch_points, watches_if, downwards_of}
-use Rattle.ir_gdb.specs.Conditions.{StopsUpwards, NoneStopsWithin, IsFirstStop}
+use Rattle.ir_gdb.specs.Points.{watch_points, watches_if}
+use Rattle.ir_gdb.specs.Conditions.{StopsUpwards, StopsDownwards, NoneStopsWithin, IsFirstStop, IsLastStop}
 use Rattle.ir_gdb.specs.Stub.{Stub}
 use Rattle.ir_gdb.specs.Stops.{stopped, position_of, reason_of_break, reason_of_watch, break_of, break_reason, watch_reason, stop_above}
 use Rattle.ir_gdb.specs.Stops.{stop_below, end_above, end_below, is_hit, ContinuesTo, BackBy, ContinuesBackBy, StopsInDirection}
@@ -85,10 +85,10 @@ continuing_stops_above run s u w to (hit, finds, ends) = subst (StopsAbove (Stop
 
 -- ---- downwards
 
--- where thread u stops at `to` from p on, and no point hits it before; and no watch hits it at p if it goes on
-record StopsUnder (f : FittedTrace) (run : List Step) (points watches : List Numbered) (u p : ℕ) (to : Stopped) : Type 0 where
-  met : (j n : ℕ) → j < p → HitByNumber f run points u j n → (is_hit to.reason ≡ true) × (j ≤ to.position)
-  none : NoneWithin f run points u (suc to.position) p
+-- where thread u stops at `to` from p on, and no point of which P says that it stops does so before; and no watch hits it at p if it goes on
+record StopsUnder (f : FittedTrace) (run : List Step) (P : ℕ → ℕ → Type 0) (watches : List Numbered) (u p : ℕ) (to : Stopped) : Type 0 where
+  met : (j n : ℕ) → j < p → P j n → (is_hit to.reason ≡ true) × (j ≤ to.position)
+  none : NoneStopsWithin P (suc to.position) p
   behind : to.position ≤ p
   here : (n : ℕ) → 0 < p → HitByNumber f run watches u p n → (is_hit to.reason ≡ true) × (to.position ≡ p)
 
@@ -100,15 +100,15 @@ stop_below_at_hit : (ws : List Watched) (bs : List Guarded) (h : Hit) → (stop_
 stop_below_at_hit ws bs h = choice_has_property (λ x. x.position ≡ h.position) (nat_lt (place_of h.number) (length bs)) (stopped h.position (break_reason bs (place_of h.number)))
     (stopped h.position (watch_reason ws (h.number - length bs))) refl refl
 
-last_hit_stops_under : (f : FittedTrace) (run : List Step) (points watches : List Numbered) (u p : ℕ) (ws : List Watched) (bs : List Guarded) (hit : Option Hit)
-    → ((n : ℕ) → HitByNumber f run watches u p n → ⊥) → IsLastHit f run points u p hit → StopsUnder f run points watches u p (end_below ws bs hit)
-last_hit_stops_under f run points watches u p ws bs None free finds = record {
+last_hit_stops_under : (f : FittedTrace) (run : List Step) (P : ℕ → ℕ → Type 0) (watches : List Numbered) (u p : ℕ) (ws : List Watched) (bs : List Guarded)
+    (hit : Option Hit) → ((n : ℕ) → HitByNumber f run watches u p n → ⊥) → IsLastStop P p hit → StopsUnder f run P watches u p (end_below ws bs hit)
+last_hit_stops_under f run P watches u p ws bs None free finds = record {
   met = λ j n below hits. absurd (finds j n (omega arith) below hits);
   none = λ j n low high hits. finds j n (omega arith) high hits;
   behind = omega arith;
   here = λ n some hits. absurd (free n hits);
 }
-last_hit_stops_under f run points watches u p ws bs (Some h) free finds =
+last_hit_stops_under f run P watches u p ws bs (Some h) free finds =
     let at = stop_below_at_hit ws bs h in
     let under = finds.0 in
     record {
@@ -125,7 +125,7 @@ last_hit_stops_under f run points watches u p ws bs (Some h) free finds =
     }
 
 continuing_stops_under : (run : List Step) (s : Stub) (u : ℕ) (w : Bool) (p : ℕ) (to : Stopped) → p ≡ position_of s u → ContinuesBackBy run s u w p to
-    → StopsUnder s.desk.fitted run (downwards_of s u w) (watch_points u 0 (watches_if s w)) u p to
+    → StopsUnder s.desk.fitted run (StopsDownwards run s u w) (watch_points u 0 (watches_if s w)) u p to
 continuing_stops_under run s u w zero to here is =
     let at = ap (λ (x : Stopped). x.position) is in
     record {
@@ -139,19 +139,19 @@ continuing_stops_under run s u w (suc p) to here (why, (hit, next, is), back) = 
     f : FittedTrace
     f = s.desk.fitted
 
-    points : List Numbered
-    points = downwards_of s u w
+    stops : ℕ → ℕ → Type 0
+    stops = StopsDownwards run s u w
 
     watches : List Numbered
     watches = watch_points u 0 (watches_if s w)
 
     by : (hit : Option Hit) → IsNextHit f run watches u p (p + 1) hit → (why : Option Reason)
         → why ≡ option_map (λ (h : Hit). watch_reason (watches_if s w) h.number) hit → BackBy run s u w (suc p) why to
-        → StopsUnder f run points watches u (suc p) to
+        → StopsUnder f run stops watches u (suc p) to
     by None next None is (other, finds, ends) =
         let free : (n : ℕ) → HitByNumber f run watches u (suc p) n → ⊥ = λ n hits. next (suc p) n (omega arith) (omega arith) hits in
-        let last = subst (λ (n : ℕ). IsLastHit f run points u n other) (sym here) finds in
-        subst (StopsUnder f run points watches u (suc p)) (sym ends) (last_hit_stops_under f run points watches u (suc p) (watches_if s w) s.breaks other free last)
+        let last = subst (λ (n : ℕ). IsLastStop stops n other) (sym here) finds in
+        subst (StopsUnder f run stops watches u (suc p)) (sym ends) (last_hit_stops_under f run stops watches u (suc p) (watches_if s w) s.breaks other free last)
     by None next (Some r) is back = absurd (cc is)
     by (Some h) next None is back = absurd (cc is)
     by (Some h) next (Some r) is back =

@@ -1,5 +1,5 @@
--- Which hits stop a thread that moves upwards: those of points without conditions, and those of breakpoints of which a condition is met at the cut
--- to which the thread comes. Downwards each hit stops it, and gdb decides.
+-- Which hits stop a thread that moves: those of points without conditions, and those of breakpoints of which a condition is met at the cut to which
+-- the thread comes.
 use Rattle.std.specs.Prelude.{◌≡◌, ◌<◌, ◌≤◌, ◌+◌, ◌==◌, ⊤, ℕ, suc, Bool, true, false, ◌||◌, ◌&&◌, not, List, [], ◌∷◌, length, slice_get, Option, Some, None, option_map, if◌then◌else◌}
 use Rattle.ir_agent.specs.Evaluation.{Seen, scene_of, condition_holds}
 use Rattle.ir_runs.specs.Run.{Step, Cut}
@@ -7,10 +7,11 @@ use Rattle.ir_cut.specs.Positions.{cut_of, thread_at}
 use Rattle.ir_fit.specs.Fit.{FittedTrace}
 use Rattle.ir_hits.specs.Hits.{HitByNumber}
 use Rattle.ir_command.specs.declared.hit.Hit.{Hit}
-use Rattle.ir_command.specs.declared.command.Direction.TheVariants.{Forwards}
+use Rattle.ir_command.specs.declared.command.Direction.{Direction}
+use Rattle.ir_command.specs.declared.command.Direction.TheVariants.{Forwards, Backwards}
 use Rattle.ir_debug.specs.Machine.{StopsAt}
 use Rattle.ir_gdb.specs.Guards.{Guarded, is_guarded, has_guard, conditions_at}
-use Rattle.ir_gdb.specs.Points.{upwards_of, watches_if}
+use Rattle.ir_gdb.specs.Points.{upwards_of, downwards_of, watches_if}
 use Rattle.ir_gdb.specs.Reads.{register_words, byte_at_cut}
 use Rattle.ir_gdb.specs.Stub.{Stub}
 
@@ -25,20 +26,25 @@ unfoldable pub any_holds : Seen → List (List ℕ) → Bool
 any_holds seen [] = false
 any_holds seen (c ∷ cs) = condition_holds seen c || any_holds seen cs
 
--- a condition is met where thread t comes upwards to position k
-abbrev pub IsMetAt : List Step → Stub → ℕ → ℕ → List (List ℕ) → Type 0
-IsMetAt run s t k conditions =
-    (cut : List ℕ) × StopsAt run s.desk.fitted s.desk.at t Forwards k cut × (any_holds (seen_at run s.desk.fitted (cut_of cut) t) conditions ≡ true)
+-- a condition is met where thread t, which moves in a direction, comes to position k: with the others moved only as far as they must
+abbrev pub IsMetAt : List Step → Stub → Direction → ℕ → ℕ → List (List ℕ) → Type 0
+IsMetAt run s d t k conditions =
+    (cut : List ℕ) × StopsAt run s.desk.fitted s.desk.at t d k cut × (any_holds (seen_at run s.desk.fitted (cut_of cut) t) conditions ≡ true)
 
 -- by whether there are conditions
-abbrev pub IsMetBy : Bool → List Step → Stub → ℕ → ℕ → List (List ℕ) → Type 0
-IsMetBy true run s t k conditions = IsMetAt run s t k conditions
-IsMetBy false run s t k conditions = ⊤
+abbrev pub IsMetBy : Bool → List Step → Stub → Direction → ℕ → ℕ → List (List ℕ) → Type 0
+IsMetBy true run s d t k conditions = IsMetAt run s d t k conditions
+IsMetBy false run s d t k conditions = ⊤
 
 -- the point of this number stops thread t at position k when it moves upwards
 abbrev pub StopsUpwards : List Step → Stub → ℕ → Bool → ℕ → ℕ → Type 0
 StopsUpwards run s t watched k n = HitByNumber s.desk.fitted run (upwards_of s t watched) t k n
-    × IsMetBy (has_guard n) run s t k (conditions_at s.breaks (length (watches_if s watched)) n)
+    × IsMetBy (has_guard n) run s Forwards t k (conditions_at s.breaks (length (watches_if s watched)) n)
+
+-- it does so when the thread moves downwards
+abbrev pub StopsDownwards : List Step → Stub → ℕ → Bool → ℕ → ℕ → Type 0
+StopsDownwards run s t watched k n = HitByNumber s.desk.fitted run (downwards_of s t watched) t k n
+    × IsMetBy (has_guard n) run s Backwards t k (conditions_at s.breaks 0 n)
 
 -- ---- the first
 
@@ -65,6 +71,11 @@ IsFirstStop P p None = (j n : ℕ) → p < j → P j n → ⊥
 abbrev pub IsNextStop : (ℕ → ℕ → Type 0) → ℕ → ℕ → Option Hit → Type 0
 IsNextStop P p to (Some h) = (p < h.position) × (h.position ≤ to) × NoneStopsWithin P (suc p) h.position × IsLowestThat P h.position h.number
 IsNextStop P p to None = NoneStopsWithin P (suc p) (suc to)
+
+-- the last position below p at which one stops, and the lowest number of those that do; or none stops below p
+abbrev pub IsLastStop : (ℕ → ℕ → Type 0) → ℕ → Option Hit → Type 0
+IsLastStop P p (Some h) = (h.position < p) × NoneStopsWithin P (suc h.position) p × IsLowestThat P h.position h.number
+IsLastStop P p None = NoneStopsWithin P 0 p
 
 -- whether a hit is none of a breakpoint with conditions, or there is no hit
 abbrev pub is_plain_hit : Option Hit → Bool

@@ -4,7 +4,7 @@ use Rattle.ir_runs.specs.Run.{Step, IsCut, Consistent}
 use Rattle.ir_fit.specs.Fit.{IsRunOf}
 use Rattle.ir_cut.specs.Positions.{machine_of, start_of, cut_of, threads_of, thread_at}
 use Rattle.std.specs.List.{AllByRecursion}
-use Rattle.ir_hits.specs.Hits.{HitByNumber, NoneWithin}
+use Rattle.ir_hits.specs.Hits.{Numbered, HitByNumber, NoneWithin}
 use Rattle.ir_command.specs.declared.command.Direction.{Direction}
 use Rattle.ir_command.specs.declared.command.Command.{Command}
 use Rattle.ir_command.specs.declared.command.Command.TheVariants as command
@@ -18,7 +18,7 @@ use Rattle.ir_gdb.specs.Stub.{Stub, IsStub}
 use Rattle.ir_gdb.specs.declared.stopped.Stopped.{Stopped}
 use Rattle.ir_gdb.specs.Guards.{Guarded, has_guard, is_guarded, without_conditions}
 use Rattle.ir_gdb.specs.Points.{watch_points, break_points, watches_if, upwards_of, downwards_of}
-use Rattle.ir_gdb.specs.Conditions.{StopsUpwards, NoneStopsWithin, seen_at, is_met_at}
+use Rattle.ir_gdb.specs.Conditions.{StopsUpwards, StopsDownwards, NoneStopsWithin, seen_at, is_met_at}
 use Rattle.ir_gdb.specs.Stops.{position_of, is_hit, direction_of}
 use Rattle.ir_gdb.specs.Together.{Halt, halt, Comes, stop_among, AreStops, meets, FirstMet, ContinuesAmong, MovesAmong}
 use Rattle.ir_gdb.specs.declared.stopped.Moving.{Moving}
@@ -53,9 +53,10 @@ ContinueIsSession = (run : List Step) (s : Stub) (t : ℕ) (h : Halt) → IsStub
     → LeadsLone run s t motion.Continue h
     → (h.thread ≡ t) × SessionGoes run s t (command.Continue t Forwards) h.cut
 
--- `bc` ends where `rcont T` does
+-- `bc` ends where `rcont T` does, if no breakpoint has conditions
 abbrev pub ContinueBackIsSession : Type 0
-ContinueBackIsSession = (run : List Step) (s : Stub) (t : ℕ) (h : Halt) → LeadsLone run s t motion.ContinueBack h
+ContinueBackIsSession = (run : List Step) (s : Stub) (t : ℕ) (h : Halt) → IsStub s → AllByRecursion (λ b. is_guarded b ≡ false) s.breaks
+    → LeadsLone run s t motion.ContinueBack h
     → (h.thread ≡ t) × SessionGoes run s t (command.Continue t Backwards) h.cut
 
 -- nothing moves, where gdb moves the threads together and another has a hit on its way to where `step T 1` leads
@@ -78,13 +79,13 @@ StepBackIsSession = (run : List Step) (s : Stub) (t : ℕ) (h : Halt) → LeadsL
 -- no point stops thread u on its way to position k, nor there; and backwards no watch hits it where it is, if it moves
 abbrev pub MeetsNone : List Step → Stub → Direction → ℕ → Bool → ℕ → Type 0
 MeetsNone run s Forwards u watched k = NoneStopsWithin (StopsUpwards run s u watched) (suc (position_of s u)) (suc k)
-MeetsNone run s Backwards u watched k = NoneWithin s.desk.fitted run (downwards_of s u watched) u k (position_of s u)
+MeetsNone run s Backwards u watched k = NoneStopsWithin (StopsDownwards run s u watched) k (position_of s u)
     × (k < position_of s u → NoneWithin s.desk.fitted run (watch_points u 0 (watches_if s watched)) u (position_of s u) (suc (position_of s u)))
 
 -- none does before it comes to k
 abbrev pub PassesNone : List Step → Stub → Direction → ℕ → Bool → ℕ → Type 0
 PassesNone run s Forwards u watched k = NoneStopsWithin (StopsUpwards run s u watched) (suc (position_of s u)) k
-PassesNone run s Backwards u watched k = NoneWithin s.desk.fitted run (downwards_of s u watched) u (suc k) (position_of s u)
+PassesNone run s Backwards u watched k = NoneStopsWithin (StopsDownwards run s u watched) (suc k) (position_of s u)
     × (k < position_of s u → NoneWithin s.desk.fitted run (watch_points u 0 (watches_if s watched)) u (position_of s u) (suc (position_of s u)))
 
 -- a move of thread t ends at a stop, and no thread has passed a hit. Watches of private memory are of thread t alone, those of the objects of all
@@ -126,10 +127,10 @@ ContinuesToEnd run s d (m ∷ []) = (m.0 < threads_of s.desk.fitted) × Continue
 ContinuesToEnd run s d (m ∷ next ∷ ms) = (m.0 < threads_of s.desk.fitted) × ContinuesAmong run s m.0 d m.1 × (is_hit m.1.reason ≡ true)
     × ContinuesToEnd run (stub_behind s m.1) d (next ∷ ms)
 
--- a point hits thread u at position k, beyond its own; upwards a point without conditions
+-- a point without conditions hits thread u at position k, beyond its own
 abbrev pub IsHitBeyond : List Step → Stub → Direction → ℕ → ℕ → Type 0
 IsHitBeyond run s Forwards u k = (position_of s u < k) × ((n : ℕ) × HitByNumber s.desk.fitted run (upwards_of s u false) u k n × (has_guard n ≡ false))
-IsHitBeyond run s Backwards u k = (k < position_of s u) × ((n : ℕ) × HitByNumber s.desk.fitted run (downwards_of s u false) u k n)
+IsHitBeyond run s Backwards u k = (k < position_of s u) × ((n : ℕ) × HitByNumber s.desk.fitted run (downwards_of s u false) u k n × (has_guard n ≡ false))
 
 -- the stop of this number shows thread u so
 abbrev pub ShowsAt : List (ℕ × Halt) → ℕ → ℕ → ℕ → Type 0
@@ -139,7 +140,7 @@ ShowsAt ms u k i = (m : ℕ × Halt) × (slice_get ms i ≡ Some m) × ShowsHit 
 abbrev pub IsShownOnce : List (ℕ × Halt) → ℕ → ℕ → Type 0
 IsShownOnce ms u k = (i : ℕ) × ShowsAt ms u k i × ((j : ℕ) → ShowsAt ms u k j → j ≡ i)
 
--- `continue` repeated to the end shows each hit of each thread once, upwards each at a point without conditions; no watch is set
+-- `continue` repeated to the end shows each hit of each thread at a point without conditions once; no watch is set
 abbrev pub EachHitIsShownOnce : Type 0
 EachHitIsShownOnce = (run : List Step) (s : Stub) (d : Direction) (ms : List (ℕ × Halt)) → Stands run s → s.watches ≡ [] → ContinuesToEnd run s d ms
     → (u k : ℕ) → u < threads_of s.desk.fitted → IsHitBeyond run s d u k → IsShownOnce ms u k
@@ -149,9 +150,14 @@ abbrev pub NoneIsShownTwice : Type 0
 NoneIsShownTwice = (run : List Step) (s : Stub) (d : Direction) (ms : List (ℕ × Halt)) → Stands run s → s.watches ≡ [] → ContinuesToEnd run s d ms
     → (u k i j : ℕ) → ShowsAt ms u k i → ShowsAt ms u k j → i ≡ j
 
+-- the points of a thread in a direction
+abbrev pub directed_points : Direction → Stub → ℕ → List Numbered
+directed_points Forwards s u = upwards_of s u false
+directed_points Backwards s u = downwards_of s u false
+
 -- only points with conditions hit thread u at position k
-abbrev pub IsConditional : List Step → Stub → ℕ → ℕ → Type 0
-IsConditional run s u k = (n : ℕ) → HitByNumber s.desk.fitted run (upwards_of s u false) u k n → has_guard n ≡ true
+abbrev pub IsConditional : List Step → Stub → Direction → ℕ → ℕ → Type 0
+IsConditional run s d u k = (n : ℕ) → HitByNumber s.desk.fitted run (directed_points d s u) u k n → has_guard n ≡ true
 
 -- the thread of a stop is at a breakpoint of which a condition is met by what is there
 abbrev pub IsConditionMet : List Step → Stub → Halt → Type 0
@@ -160,8 +166,9 @@ IsConditionMet run s h = (i : ℕ) × (b : Guarded) × (slice_get s.breaks i ≡
 
 -- where `continue` shows a hit at points with conditions alone, one of them is met; no watch is set
 abbrev pub ShownConditionIsMet : Type 0
-ShownConditionIsMet = (run : List Step) (s : Stub) (t : ℕ) (h : Halt) → Stands run s → IsStub s → s.watches ≡ [] → t < threads_of s.desk.fitted
-    → ContinuesAmong run s t Forwards h → is_hit h.reason ≡ true → IsConditional run s h.thread (cut_of h.cut h.thread) → IsConditionMet run s h
+ShownConditionIsMet = (run : List Step) (s : Stub) (d : Direction) (t : ℕ) (h : Halt) → Stands run s → IsStub s → s.watches ≡ []
+    → t < threads_of s.desk.fitted → ContinuesAmong run s t d h → is_hit h.reason ≡ true → IsConditional run s d h.thread (cut_of h.cut h.thread)
+    → IsConditionMet run s h
 
 -- ---- bad ends
 

@@ -6,6 +6,7 @@ pub mod Reads
 pub mod Points
 pub mod Setting
 pub mod Conditions
+pub mod Seeking
 pub mod Sight
 pub mod Stops
 pub mod Together

@@ -2,7 +2,6 @@
 use Rattle.std.specs.Prelude.{◌≡◌, ◌<◌, ◌≤◌, ℕ, zero, suc, ◌+◌, ◌-◌, nat_lt, nat_le, ◌&&◌, Bool, true, false, List, slice_get, Option, Some, None, option_map, length, if◌then◌else◌}
 use Rattle.ir_runs.specs.Run.{Step}
 use Rattle.ir_cut.specs.Positions.{cut_of, last_of, thread_at}
-use Rattle.ir_hits.specs.Hits.{IsLastHit}
 use Rattle.ir_hits.specs.Searching.{IsNextHit}
 use Rattle.ir_command.specs.declared.hit.Hit.{Hit}
 use Rattle.ir_command.specs.declared.command.Direction.{Direction}
@@ -14,8 +13,8 @@ use Rattle.ir_packet.specs.declared.request.Motion.TheVariants as motion
 use Rattle.ir_gdb.specs.declared.point.Watched.{Watched}
 use Rattle.ir_gdb.specs.declared.stopped.Stopped.{Stopped}
 use Rattle.ir_gdb.specs.Guards.{Guarded, place_of}
-use Rattle.ir_gdb.specs.Points.{watch_points, watches_if, downwards_of}
-use Rattle.ir_gdb.specs.Conditions.{StopsUpwards, IsFirstStop, IsNextStop}
+use Rattle.ir_gdb.specs.Points.{watch_points, watches_if}
+use Rattle.ir_gdb.specs.Conditions.{StopsUpwards, StopsDownwards, IsFirstStop, IsNextStop, IsLastStop}
 use Rattle.ir_gdb.specs.Stub.{Stub}
 
 abbrev pub stopped : ℕ → Reason → Stopped
@@ -145,9 +144,9 @@ end_below watches breaks (Some h) = stop_below watches breaks h
 abbrev pub below : Stub → Bool → Option Hit → Stopped
 below s watched hit = end_below (watches_if s watched) s.breaks hit
 
--- to the hit below a position, or to 0: conditions count for nothing, gdb decides them
+-- to the last stop below the thread's position, or to 0
 abbrev pub StopsBelow : List Step → Stub → ℕ → Bool → Stopped → Type 0
-StopsBelow run s t watched to = (hit : Option Hit) × IsLastHit s.desk.fitted run (downwards_of s t watched) t (position_of s t) hit
+StopsBelow run s t watched to = (hit : Option Hit) × IsLastStop (StopsDownwards run s t watched) (position_of s t) hit
     × (to ≡ below s watched hit)
 
 -- by the watch that hits at the position itself: no motion

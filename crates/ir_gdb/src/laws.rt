@@ -24,14 +24,14 @@ pub fn none_is_blocked()
 {}
 
 /// `continue` repeated to the end shows each hit of each thread at a point without conditions once, and each at one with conditions
-/// at most once; `reverse-continue` shows each hit once; no watch is set.
+/// at most once; so does `reverse-continue` to the start; no watch is set.
 pub fn each_hit_is_shown_once()
     ensures once { EachHitIsShownOnce }
     ensures never_twice { NoneIsShownTwice }
 {}
 
-/// Where `continue` shows a thread at a hit of breakpoints with conditions alone, one of them is met by what gdb sees there; no watch
-/// is set.
+/// Where `continue` or `reverse-continue` shows a thread at a hit of breakpoints with conditions alone, one of them is met by what gdb
+/// sees there; no watch is set.
 pub fn shown_condition_is_met()
     ensures { ShownConditionIsMet }
 {}

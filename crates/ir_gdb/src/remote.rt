@@ -20,6 +20,7 @@ use std::alloc::{AllocError, Global};
 use std::marker::Model;
 
 mod among;
+mod below;
 mod conditions;
 mod cuts;
 mod lines;

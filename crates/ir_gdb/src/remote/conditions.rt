@@ -1,4 +1,4 @@
-//! Searches in which a breakpoint with conditions stops a thread only if one of them is met where all threads come to. A hit that is none is
+//! Searches upwards in which a breakpoint with conditions stops a thread only if one of them is met where all threads come to. A hit that is none is
 //! passed here, and not by gdb.
 
 ghost use Rattle.std.specs.Prelude.{◌≡◌, ◌≤◌, ◌<◌, ◌+◌, length, IfOk, IfSome};
@@ -56,7 +56,7 @@ fn first_met_place(breaks: &[Guarded], address: u32, sight: &Sight<'_>) -> Optio
 }
 
 // The hit of the breakpoint with conditions at a place, behind this many points.
-fn guarded_hit(position: u64, before: u32, place: u32) -> Hit
+pub(crate) fn guarded_hit(position: u64, before: u32, place: u32) -> Hit
     requires { before + place ≤ 64 }
     ensures { result ≡ record { position = position; number = before + place + guard_offset } }
 {
@@ -67,7 +67,7 @@ fn guarded_hit(position: u64, before: u32, place: u32) -> Hit
 }
 
 // Whether a hit is none of a breakpoint with conditions, or there is no hit.
-fn is_plain(found: Option<Hit>) -> bool
+pub(crate) fn is_plain(found: Option<Hit>) -> bool
     ensures { result ≡ is_plain_hit found }
 {
     match found {
@@ -78,7 +78,7 @@ fn is_plain(found: Option<Hit>) -> bool
 
 impl Remote {
     // The hit that a thread finds from its position in a cut upwards, at most at another position.
-    fn next_hit<H: Hands>(
+    pub(crate) fn next_hit<H: Hands>(
         &mut self,
         hands: &H,
         from: &Cut,
@@ -112,7 +112,7 @@ impl Remote {
     }
 
     // The same where all threads are at a cut.
-    fn met_break<H: Hands>(
+    pub(crate) fn met_break<H: Hands>(
         &mut self,
         hands: &H,
         cut: &Cut,

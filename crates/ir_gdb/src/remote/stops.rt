@@ -9,7 +9,7 @@ ghost use Rattle.ir_gdb.specs.Stub.{IsWatched, most_stub_points, stub_spoken};
 ghost use Rattle.ir_gdb.specs.Points.{watches_if, upwards_of};
 ghost use Rattle.ir_gdb.specs.Stops.{Leaves, WatchNext, position_of, StepsTo, RangesTo, ContinuesTo, StepsBackTo, StopsBelow, ContinuesBackTo, StopsInDirection, MovesTo};
 
-use crate::numbered::{Halts, points_downwards, points_upwards, watch_points};
+use crate::numbered::{Halts, points_upwards, watch_points};
 use crate::point::Watched;
 use crate::remote::Remote;
 use crate::stopped::{Stopped, after_range, end_above, end_below, reason_of_hit, stop_or_end};
@@ -119,7 +119,12 @@ impl Remote {
     }
 
     // The pc of a thread, where all threads are at a cut.
-    fn pc_in<H: Hands>(&mut self, hands: &H, cut: &Cut, thread: u32) -> Result<u32, AllocError>
+    pub(crate) fn pc_in<H: Hands>(
+        &mut self,
+        hands: &H,
+        cut: &Cut,
+        thread: u32,
+    ) -> Result<u32, AllocError>
         requires thread { thread < threads_of self.old.stub.desk.fitted }
         requires cut { IsCutOf self.old.stub.desk.fitted cut.now }
         ensures stub { self.new.stub ≡ stub_spoken self.old.stub }
@@ -268,7 +273,6 @@ impl Remote {
     }
 
     // The stop that is found downwards.
-    #[tactic(auto, using(crate::proofs::Bounds::end_below_within_last))]
     fn found_below<H: Hands>(
         &mut self,
         hands: &H,
@@ -280,13 +284,11 @@ impl Remote {
         ensures stops { IfOk result (λ to. EachRun self.old.stub.desk.fitted (λ run. StopsBelow run self.old.stub thread watched to)) }
         ensures within { IfOk result (λ to. to.position ≤ last_of self.old.stub.desk.fitted thread) }
     {
-        self.speak();
-        self.debugger.fitted().known();
-        let points = points_downwards(hands.alloc(), thread, self.halts(watched))?;
-        let backwards = Direction::Backwards;
-        let points = points.as_slice();
-        let hit = self.debugger.search(hands, thread, backwards, points)?;
-        Ok(end_below(self.watches_if(watched), self.breaks.as_slice(), hit))
+        self.has_run();
+        self.position(thread);
+        let hit = self.last_stop_below(hands, thread, watched)?;
+        let halts = self.halts(watched);
+        Ok(end_below(halts.watches, halts.breaks, hit))
     }
 
     // Back to the stop before.

@@ -1,19 +1,14 @@
-use Rattle.std.proofs.Common.{◌≡◌, ◌∙◌, sym, ap}
-use Rattle.ir_gdb.specs.Serving.{Serving}
-use Rattle.ir_gdb.specs.Stub.{stub_spoken}
-use Rattle.ir_gdb.specs.Points.{downwards_of}
-use Rattle.ir_gdb.proofs.Stopping.{serving_seen, search_is_downwards_of, search_end_stops_below}
+use Rattle.ir_gdb.proofs.Bounds.{last_stop_end_within_last}
+use Rattle.ir_gdb.proofs.Stopping.{stops_below_at_last}
 use Rattle.ir_gdb.proofs.remote.Remote.found_below.Goals as goal
+
+pub returns-clause-within : goal.returns-clause-within
+returns-clause-within g c =
+    last_stop_end_within_last c.args.self.now.stub c.args.thread c.position.result c.args.watched c.halts-halts.result.watches.now c.halts-halts.result.breaks.now
+    c.in_ok-hit.hit c.end_below.result c.has_run.ensures c.position.ensures.value c.position.ensures.within c.in_ok-hit.ensures.stop c.end_below.ensures
 
 pub returns-clause-stops : goal.returns-clause-stops
 returns-clause-stops g c =
-    let s = c.args.self.now.stub in
-    let u = (serving_seen c.self.view_is).stub in
-    let halts = c.halts in
-    let same : u ≡ stub_spoken s = ap (λ (x : Serving). x.stub) c.self.view_is ∙ c.speak.ensures in
-    let v = c.speak.new.self.stub in
-    let are = search_is_downwards_of v c.args.thread c.args.watched c.as_slice-points.result.now halts.result.watches.now halts.result.breaks.now halts.result.own.now
-    (c.as_slice-points.ensures.value ∙ c.in_ok-points.ensures.points) halts.ensures.watches halts.ensures.breaks halts.ensures.own in
-    search_end_stops_below s u c.search.new.self.desk c.args.thread c.args.watched c.as_slice-points.result.now c.in_ok-hit.hit c.watches_if.result.now
-    c.as_slice.result.now c.end_below.result same
-    (are ∙ ap (λ (x : Serving). downwards_of x.stub c.args.thread c.args.watched) (sym c.self.view_is)) c.in_ok-hit.ensures.finds c.watches_if.ensures.value c.as_slice.ensures c.end_below.ensures
+    stops_below_at_last c.args.self.now.stub c.last_stop_below.new.self.stub c.args.thread c.args.watched c.in_ok-hit.hit c.halts-halts.result.watches.now
+    c.halts-halts.result.breaks.now c.end_below.result c.last_stop_below.ensures.stub c.in_ok-hit.ensures.stop c.halts-halts.ensures.watches
+    c.halts-halts.ensures.breaks c.end_below.ensures

@@ -80,7 +80,7 @@ returns-in-Some-decided-clause-stop g c =
     let finds = subst (λ (n : ℕ). EachRun s.desk.fitted (λ run. IsNextHit s.desk.fitted run (upwards_of s t w) t n c.args.to c.in_ok-found.found)) is.there
     (next_hit_of_spoken s c.hits.self.stub t (cut_of c.hits.at t) c.args.to w c.as_slice-points.result.now c.in_ok-found.found is.stub are c.in_ok-found.ensures.finds) in
     next_stop_at_hit s t c.hits.position c.args.to w c.in_ok-found.found c.in_ok-decided.decided h c.in-Some-decided.stop c.in-Some.is c.in-Some-decided.is is.above is.none finds
-    (stop_at_of_spoken s c.next_hit.new.self.stub t w h.position c.in_ok-decided.decided same c.in_ok-decided.ensures.stop)
+    (stop_at_of_spoken s c.next_hit.new.self.stub Forwards t w h.position c.in_ok-decided.decided same c.in_ok-decided.ensures.stop)
 
 pub hits-preserved : goal.hits-preserved
 hits-preserved g c =
@@ -107,7 +107,7 @@ hits-preserved g c =
       within = between.1;
       comes = comes_onward s c.next_hit.new.self.stub t c.hits.position h.position c.hits.at cut same low is.comes c.in_ok-at-2.ensures.least;
       none = none_stops_up_to_hit s t c.hits.position c.args.to w c.in_ok-found.found c.in_ok-decided.decided h c.in-Some.is c.in_default-decided.is is.none finds
-          (stop_at_of_spoken s c.next_hit.new.self.stub t w h.position c.in_ok-decided.decided same c.in_ok-decided.ensures.stop);
+          (stop_at_of_spoken s c.next_hit.new.self.stub Forwards t w h.position c.in_ok-decided.decided same c.in_ok-decided.ensures.stop);
     }
 
 pub returns-clause-stop : goal.returns-clause-stop
