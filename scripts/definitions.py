@@ -131,7 +131,7 @@ CLAIMS = [
         ("ir_gdb", "Replies", "`RepliesTo`: the reply to each request"),
         ("ir_gdb", "Connection", "`RepliesToItems`: the bytes of packets and acknowledgements"),
         ("ir_gdb", "Laws", "the laws"),
-    ], (3051, 1614)),
+    ], (3041, 1614)),
     Claim("Questions about a recording", "The lines of `ir stale`, `who`, `why`, `diff`, `view`, `events` and `list`.", {
         "ir_past/src/asking.rt": ["TraceQuestion", "ask_trace"],
         "ir_past/src/run.rt": ["TraceQuestion for StaleQuestion"],
