@@ -30,12 +30,12 @@ pub never_bad_arguments : {X : Type 0} (Are : X → Type 0) (A : X → ExitStatu
     → ((s ≡ status.Failed) ⊎ (s ≡ status.BadArguments)
     → (e : AskErr) × (s ≡ ask_status e) × IsReplyless Are A (λ _ _. ⊥) R e out × Reports faults (fault_text (ask_words e)))
     → (s ≡ status.Failed → ⊥) → s ≡ status.BadArguments → ⊥
-never_bad_arguments Are A R s out faults failed works bad = let e = failed (inr bad) in works (no_reply_is_failure Are A R s e.0 out e.1.0 e.1.1.0)
+never_bad_arguments Are A R s out faults failed works bad = let e = failed (inr bad) in works (no_reply_is_failure Are A R s e.0 out e.1 e.2)
 
 -- what is always there is printed, or a fault stopped it
 pub printed_if_always_there : {X : Type 0} (Are : X → Type 0) (A : X → ExitStatus → List ℕ → Type 0) (R : ExitStatus → List ℕ → Type 0) (s : ExitStatus)
     (out faults : Writer) → PrintedIfThere (IsReply Are A R) (IsReplyless Are A (λ _ _. ⊥) R) s out faults → IsPrinted (IsReply Are A R) s out faults
 printed_if_always_there Are A R s out faults h = (
   (λ works. h.0 works (never_bad_arguments Are A R s out faults h.1 works)),
-  (λ failed. let e = h.1 (inl failed) in fault_of_no_reply Are A R e.0 out faults e.1.1.0 e.1.1.1),
+  (λ failed. let e = h.1 (inl failed) in fault_of_no_reply Are A R e.0 out faults e.2 e.3),
 )
