@@ -4,7 +4,10 @@ ghost use Rattle.std.specs.Prelude.{◌≡◌, ◌⊎◌, false};
 ghost use Rattle.ir_files.specs.Writers.{writer_of};
 ghost use Rattle.ir_files.specs.declared.exit_status.ExitStatus.TheVariants as status;
 ghost use Rattle.ir_commands.specs.Files.{IsUnread};
-ghost use Rattle.ir_commands.specs.Printing.{PrintsVersions, PrintsWho, who_asked, LeavesUnread};
+ghost use Rattle.ir_commands.specs.Printing.{PrintedIfThere, PrintsVersions, PrintsWho, who_asked, LeavesUnread};
+ghost use Rattle.ir_past.specs.Replies.{IsAnswerOf};
+ghost use Rattle.ir_trace.specs.Recorded.{recorded_at};
+ghost use Rattle.ir_who.specs.Lines.{IsWhoAnswer, IsWhoUnanswered};
 
 use crate::asking::{answer_of_run, answer_of_trace};
 use crate::files::{bytes_of, image_in};
@@ -14,14 +17,26 @@ use ir_stream::Sink;
 use ir_who::Question;
 use std::alloc::Global;
 
-// What the arguments ask about versions.
-fn question(arguments: &WhoArguments) -> Question
-    ensures { result ≡ who_asked arguments.now }
+// Prints the versions of an object of a trace.
+fn of_trace<O: Sink, E: Sink>(
+    alloc: Global,
+    trace: &[u8],
+    arguments: &WhoArguments,
+    out: &mut O,
+    faults: &mut E,
+) -> ExitStatus
+    requires writes { O.broken out.old ≡ false }
+    requires reports { E.broken faults.old ≡ false }
+    ensures prints { PrintedIfThere (IsAnswerOf (IsWhoAnswer (who_asked arguments.now)) (recorded_at trace.now))
+        (IsWhoUnanswered (who_asked arguments.now) (recorded_at trace.now)) result
+        (writer_of (O.written out.old) (O.written out.new) (O.broken out.new)) (writer_of (E.written faults.old) (E.written faults.new) (E.broken faults.new)) }
+    ensures quiet { result ≡ status.Done → faults.new ≡ faults.old }
 {
-    Question {
+    let asked = Question {
         object: arguments.object,
         version: arguments.version,
-    }
+    };
+    answer_of_trace(alloc, trace, &asked, out, faults)
 }
 
 // Prints the versions of an object of a run of the image with their steps, or those in which a word changed.
@@ -40,7 +55,11 @@ fn of_run<O: Sink, E: Sink>(
     ensures quiet { result ≡ status.Done → faults.new ≡ faults.old }
 {
     let Some(word) = arguments.word else {
-        return answer_of_run(alloc, image, trace, &question(arguments), out, faults);
+        let asked = Question {
+            object: arguments.object,
+            version: arguments.version,
+        };
+        return answer_of_run(alloc, image, trace, &asked, out, faults);
     };
     let asked = ir_who_word::Question {
         object: arguments.object,
@@ -72,7 +91,7 @@ pub fn who_file<D: Folder, O: Sink, E: Sink>(
     };
     let trace = trace.as_slice();
     let Some(image) = &arguments.image else {
-        return answer_of_trace(alloc, trace, &question(arguments), out, faults);
+        return of_trace(alloc, trace, arguments, out, faults);
     };
     match image_in(alloc, folder, faults, image.as_str()) {
         Ok(image) => of_run(alloc, image.as_slice(), trace, arguments, out, faults),

@@ -21,4 +21,4 @@ returns-clause-stopped g c = λ stopped.
     let e = c.ask_trace.ensures.failed (inl stopped) in
     fault_of_no_reply (IsTraceRead read) (λ a. IsSecondAnswer a (recorded_at c.args.second.now)) (IsRefusal read) e.0
     (writer_of (g.O.Sink.written c.args.out.now) (g.O.Sink.written c.ask_trace.new.out) (g.O.Sink.broken c.ask_trace.new.out))
-    (writer_of (g.E.Sink.written c.args.faults.now) (g.E.Sink.written c.ask_trace.new.faults) (g.E.Sink.broken c.ask_trace.new.faults)) e.1.1.0 e.1.1.1
+    (writer_of (g.E.Sink.written c.args.faults.now) (g.E.Sink.written c.ask_trace.new.faults) (g.E.Sink.broken c.ask_trace.new.faults)) e.2 e.3
