@@ -278,6 +278,7 @@ where
         arguments.now result (writer_of (O.written out.old) (O.written out.new) (O.broken out.new)) (writer_of (E.written faults.old) (E.written faults.new) (E.broken faults.new)) }
 {
     match hunted_by(around, arguments, explains, out, faults) {
-        Ok(status) | Err(status) => status,
+        Ok(status) => status,
+        Err(status) => status,
     }
 }
