@@ -1,6 +1,6 @@
 -- Which points hit a thread at 0.
-use Rattle.std.proofs.Common.{◌≡◌, ◌<◌, ◌≤◌, ◌⊎◌, ◌∙◌, ℕ, zero, suc, min, Bool, true, false, true≢false, List, [], ◌∷◌, Option, Some, None, is_none, inl, inr, refl, sym, ap, subst, arith, eq-eqb}
-use Rattle.std.specs.Prelude.{◌&&◌, ◌==◌, slice_get, if◌then◌else◌}
+use Rattle.std.proofs.Common.{◌≡◌, ◌<◌, ◌≤◌, ◌⊎◌, ◌∙◌, ℕ, suc, min, Bool, true, false, true≢false, List, [], ◌∷◌, Option, Some, None, is_none, inl, inr, refl, sym, ap, subst, arith, eq-eqb}
+use Rattle.std.specs.Prelude.{◌==◌, if◌then◌else◌}
 use Rattle.std.proofs.lemmas.Bool.{eqb-true, cases_lt}
 use Rattle.ir_lemmas.proofs.CallerLemmas.{and_true_from_both, conjuncts_are_true}
 use Rattle.ir_runs.specs.Run.{Step}
@@ -10,7 +10,7 @@ use Rattle.ir_command.specs.declared.command.Point.{Point}
 use Rattle.ir_command.specs.declared.command.Point.TheVariants.{Break, Watch, WatchObject}
 use Rattle.ir_hits.specs.Seeing.{steps_of}
 use Rattle.ir_hits.specs.Hits.{Numbered, HitBy, HitByNumber, IsLowest}
-use Rattle.ir_gdb.specs.Seeking.{is_break_at, least_number, lower_start, lowest_start}
+use Rattle.ir_gdb.specs.Seeking.{is_break_at, least_number, lowest_start}
 use Rattle.ir_gdb.proofs.Finding.{first_point_hits, later_point_hits, first_or_later_hits}
 
 -- ---- a point
