@@ -23,7 +23,7 @@ def crates_of(top):
                 pass
     return {c.name: c for c in known.values()}
 mine = crates_of(clone)
-tops = [clone_ for clone_ in glob.glob("/tmp/rt-copy-*/repo") + ["/tmp/w/base", "/tmp/w/base2", "/tmp/w/m", "/tmp/w/n", "/tmp/w/me", "/tmp/w/a", "/tmp/w/b", "/tmp/w/c", "/tmp/w/gate", "/tmp/w/gate2", "/tmp/w/gate3", "/tmp/w/dev", "/tmp/w/lib"] + glob.glob("/tmp/w/h*") + glob.glob("/tmp/w/main*") + ["/tmp/w/f"] if os.path.isdir(f"{clone_}/crates") and os.path.isfile(f"{clone_}/crates.txt") and os.path.abspath(clone_) != clone]
+tops = [clone_ for clone_ in glob.glob("/tmp/rt-copy-*/repo") + ["/tmp/w/base", "/tmp/w/base2", "/tmp/w/me", "/tmp/w/a", "/tmp/w/b", "/tmp/w/c", "/tmp/w/gate", "/tmp/w/gate2", "/tmp/w/gate3", "/tmp/w/dev", "/tmp/w/lib"] + glob.glob("/tmp/w/h*") + glob.glob("/tmp/w/main*") + ["/tmp/w/f"] if os.path.isdir(f"{clone_}/crates") and os.path.isfile(f"{clone_}/crates.txt") and os.path.abspath(clone_) != clone]
 done = []
 for top in tops:
     try: other = crates_of(top)

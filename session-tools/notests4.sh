@@ -1,3 +1,0 @@
-#!/bin/bash
-P=$1
-while kill -0 $P 2>/dev/null && [ ! -e /tmp/w/tests_ok ]; do for p in $(pgrep -f "bin/rattle .*--test"); do d="$(readlink /proc/$p/cwd)"; case "$d" in /tmp/rt-copy-$P-*/ir_program_tests) ;; /tmp/rt-copy-$P-*) kill -9 $p;; esac; done; sleep 1; done
