@@ -11,6 +11,9 @@ const TRIAL: u64 = 1 << 18;
 // A move of fewer steps begins with the workers, since it shows nothing of how fast the caller is.
 const FEWEST_FOR_TRIAL: u64 = 1 << 16;
 
+// A move of fewer steps is the caller's: it takes them in less time than it takes to start and to join a worker.
+const FEWEST_FOR_WORKERS: u64 = 1 << 14;
+
 // A move that the caller ends in so many milliseconds is the caller's, by how often the trace has an event: more often than each `OFTEN` steps, not more
 // often than each `SELDOM`, or between. Where threads log often, workers wait for each other, and are seldom much faster; where they log seldom, workers
 // are faster once they have started.
@@ -115,6 +118,7 @@ impl Pace {
         self.left = self.left.max(left);
         match self.turn {
             Turn::First if self.left >= FEWEST_FOR_TRIAL => TRIAL,
+            Turn::First if self.left < FEWEST_FOR_WORKERS => TRIAL,
             Turn::First | Turn::Workers => 0,
             Turn::Trial => TRIAL,
             Turn::Caller(steps) => steps,

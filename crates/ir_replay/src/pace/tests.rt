@@ -25,7 +25,9 @@ fn a_short_move_is_the_callers(rt: HostRuntime) {
 }
 
 #[test]
-fn the_shortest_moves_begin_with_workers(rt: HostRuntime) {
+fn short_moves_begin_with_workers_and_the_shortest_are_the_callers(rt: HostRuntime) {
+    assert_eq!(rt; Pace::new().stretch(16_383), TRIAL);
+    assert_eq!(rt; Pace::new().stretch(16_384), 0);
     assert_eq!(rt; Pace::new().stretch(65_535), 0);
     assert_eq!(rt; Pace::new().stretch(65_536), TRIAL);
     assert_eq!(rt; Pace::of_move(65_536).stretch(10), TRIAL);
