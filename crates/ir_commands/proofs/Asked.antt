@@ -5,7 +5,6 @@ use Rattle.ir_files.specs.declared.exit_status.ExitStatus.{ExitStatus}
 use Rattle.ir_files.specs.declared.exit_status.ExitStatus.TheVariants as status
 use Rattle.ir_past.specs.Answers.{NotAnswered, fault_words}
 use Rattle.ir_past.specs.Replies.{IsReply, IsReplyless, ask_status, ask_words}
-use Rattle.ir_past.specs.declared.absent.Absent.{Absent}
 use Rattle.ir_past.specs.declared.ask_err.AskErr.{AskErr}
 use Rattle.ir_past.specs.declared.ask_err.AskErr.TheVariants as ask
 use Rattle.ir_past.specs.declared.past_err.PastErr.{PastErr}
