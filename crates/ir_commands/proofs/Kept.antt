@@ -169,5 +169,5 @@ shrunk_kept to h = record {
 pub ends_kept : {image : List ℕ} {plan : HuntPlan} {given : Recorded} {one other : Keeping} {answered : ExitStatus} {out faults : Writer}
     → ((bytes : List ℕ) (printed : List (List ℕ)) → one bytes printed → other bytes printed)
     → EndsFound image plan given one answered out faults → EndsFound image plan given other answered out faults
-ends_kept to (inl h) = inl (h.0, h.1, record { plan = h.2.plan; is_plan = h.2.is_plan; shrunk = shrunk_kept to h.2.shrunk })
+ends_kept to (inl h) = inl (h.0, h.1, record { plan = h.2.plan; is_plan = h.2.is_plan; shrunk = shrunk_kept to h.2.shrunk }, h.3)
 ends_kept to (inr h) = inr h

@@ -1,3 +1,4 @@
+pub mod CallerLemmas
 mod Explored
 mod Kept
 mod Listed

@@ -31,7 +31,7 @@ use Rattle.ir_shrink.specs.declared.plan.ShrinkPlan.{ShrinkPlan}
 use Rattle.ir_shrink.specs.declared.refusal.Refusal.{Refusal}
 use Rattle.ir_shrink.specs.declared.refusal.Refusal.TheVariants as refused
 use Rattle.ir_trace.specs.Recorded.{Recorded}
-use Rattle.ir_commands.specs.Files.{LacksGuest, TellsFault}
+use Rattle.ir_commands.specs.Files.{GoesOn, LacksGuest, TellsFault}
 use Rattle.ir_commands.specs.Printing.{Paths}
 use Rattle.ir_commands.specs.Searching.{AsksHunt, AsksSearch, AsksShrink, EndsFound, HangHasNoOrder, HuntsFile, IsShrinkPlanOfHunt, IsStatusOfNoShrinking, RecordsHang, RecordsHunted}
 use Rattle.ir_commands.specs.Searching.{RecordsShrunkRun, RefusesFound, RefusesGiven, RefusesSearch, RefusesUntil}
@@ -139,7 +139,7 @@ pub hunt_comes_to : {O E : Type 0} (written : O → Option (List ℕ)) (broken :
     → IfErr r (λ e. TellsNoSeed image plan e (writer_of (written out) (written said) (broken said)) (writer_of (reported faults) (reported told) (fails told))
     ⊎ TellsNoSearch (LacksGuest image plan.record.profile) e (writer_of (reported faults) (reported told) (fails told)))
     → IfErr r (λ e. answered ≡ e) → OnErr r (out' ≡ said) → OnErr r (faults' ≡ told)
-    → (arguments.shrinks ≡ false → OnOk r ((answered ≡ status.Done) × (out' ≡ said)))
+    → (arguments.shrinks ≡ false → OnOk r ((answered ≡ status.Done) × (out' ≡ said) × GoesOn (reported told) (reported faults')))
     → (arguments.shrinks ≡ true → IfOk r (λ given. EndsFound image plan given one answered (writer_of (written said) (written out') (broken out'))
     (writer_of (reported told) (reported faults') (fails faults'))))
     → HuntsFile at stored arguments answered (writer_of (written out) (written out') (broken out')) (writer_of (reported faults) (reported faults') (fails faults'))
@@ -158,6 +158,7 @@ hunt_comes_to written broken reported fails at stored arguments image plan out s
             refl,
             subst (λ o. RecordsHunted image plan x (KeptAsAsked stored (string_bytes arguments.trace) arguments.options.output) (writer_of (written out) (written o) (broken o))
                 (writer_of (reported faults) (reported told) (fails told))) (sym (done no).1) hunted,
+            (done no).2,
           ),
         );
       },

@@ -30,7 +30,7 @@ use Rattle.ir_trace.specs.Encoding.{encoding}
 use Rattle.ir_trace.specs.Recorded.{Recorded, recorded_at}
 use Rattle.ir_commands.specs.Conditions.{AreAboutNothing, AreWritten}
 use Rattle.ir_commands.specs.Exploring.{IsInput, IsPlanOf}
-use Rattle.ir_commands.specs.Files.{IsFileIn, IsImageIn, RefusesGuest, TellsFault}
+use Rattle.ir_commands.specs.Files.{GoesOn, IsFileIn, IsImageIn, RefusesGuest, TellsFault}
 use Rattle.ir_commands.specs.Printing.{Paths}
 use Rattle.ir_commands.specs.Writing.{IsStatusOfNoRecording, KeptAsAsked, Keeping, Storing}
 
@@ -92,13 +92,15 @@ pub record TellsNoSeed (image : List ℕ) (plan : HuntPlan) (answered : ExitStat
   pub lines : Took out (none_lines plan.seeds.first last plan.seeds.last)
   pub told : TellsLeftOut left_out reports (reports.before ≡ reports.after)
 
--- a guest was hunted in: the run that is found was recorded and its trace is at the path of TRACE, or no seed was found
+-- a guest was hunted in: the run that is found was recorded and its trace is at the path of TRACE, and behind the seeds that were left out standard error may
+-- say how its threads ended; or no seed was found
 pub record Hunts (at : Paths) (stored : Storing) (arguments : HuntArguments) (answered : ExitStatus) (out faults : Writer) : Type 0 where
   pub image : List ℕ
   pub plan : HuntPlan
   pub asked : AsksHunt at arguments image plan
   pub ended : ((answered ≡ status.Done) × ((recorded : Recorded) × (reports : Writer) × (reports.before ≡ faults.before)
-      × RecordsHunted image plan recorded (KeptAsAsked stored (string_bytes arguments.trace) arguments.options.output) out reports))
+      × RecordsHunted image plan recorded (KeptAsAsked stored (string_bytes arguments.trace) arguments.options.output) out reports
+      × GoesOn reports.after faults.after))
       ⊎ TellsNoSeed image plan answered out faults
 
 -- ---- `ir explore --until`
@@ -272,7 +274,7 @@ pub record RefusesFound (image : List ℕ) (hunt : HuntPlan) (given : Recorded) 
 -- how the shrinking of a run that was found ended
 abbrev pub EndsFound : List ℕ → HuntPlan → Recorded → Keeping → ExitStatus → Writer → Writer → Type 0
 EndsFound image hunt given is_kept answered out faults =
-    ((is_minimal : Bool) × (answered ≡ shrunk_status is_minimal) × ShrinksFound image hunt given is_minimal is_kept out)
+    ((is_minimal : Bool) × (answered ≡ shrunk_status is_minimal) × ShrinksFound image hunt given is_minimal is_kept out × GoesOn faults.before faults.after)
     ⊎ (RefusesFound image hunt given answered faults ⊎ IsStatusOfNoRecording ⊤ answered)
 
 -- the run of the lowest seed that is found was recorded and its lines were printed, and then it was shrunk

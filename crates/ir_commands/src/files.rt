@@ -3,7 +3,7 @@
 ghost use Rattle.std.specs.Prelude.{◌≡◌, ◌≢◌, ◌⊎◌, OnSome, OnOk, OnErr, IfSome, IfOk, IfErr, Ok, None, true, false};
 ghost use Rattle.ir_files.specs.Writers.{writer_of};
 ghost use Rattle.ir_files.specs.declared.exit_status.ExitStatus.TheVariants as exit;
-ghost use Rattle.ir_commands.specs.Files.{IsImageIn, IsFileIn, IsNoGuest, IsStatusOfNone, TellsFault};
+ghost use Rattle.ir_commands.specs.Files.{GoesOn, IsImageIn, IsFileIn, IsNoGuest, IsStatusOfNone, TellsFault};
 ghost use Rattle.ir_make.specs.Opening.{image_bytes};
 
 use ir_elf::ElfErr;
@@ -16,6 +16,7 @@ use std::alloc::Global;
 pub fn say<E: Sink>(faults: &mut E, name: &str, what: &str, why: &str)
     ensures told { E.broken faults.old ≡ false → TellsFault (writer_of (E.written faults.old) (E.written faults.new) (E.broken faults.new)) }
     ensures kept { E.broken faults.old ≡ true → faults.new ≡ faults.old }
+    ensures grows { GoesOn (E.written faults.old) (E.written faults.new) }
 {
     if !faults.failed() {
         tell_of(faults, "", name, what, why);
@@ -103,7 +104,8 @@ pub fn explain_image<D: Folder, E: Sink>(
     status: ExitStatus,
     faults: &mut E,
 )
-    ensures { status ≢ exit.Refused → faults.new ≡ faults.old }
+    ensures kept { status ≢ exit.Refused → faults.new ≡ faults.old }
+    ensures grows { GoesOn (E.written faults.old) (E.written faults.new) }
 {
     if status != ExitStatus::Refused {
         return;

@@ -6,7 +6,7 @@ ghost use Rattle.std.specs.String.{string_bytes};
 ghost use Rattle.ir_files.specs.Outputs.{TookEach, output_writer_of};
 ghost use Rattle.ir_files.specs.Writers.{writer_of};
 ghost use Rattle.ir_files.specs.declared.exit_status.ExitStatus.TheVariants as exit;
-ghost use Rattle.ir_commands.specs.Files.{LacksGuest};
+ghost use Rattle.ir_commands.specs.Files.{GoesOn, LacksGuest};
 ghost use Rattle.ir_commands.specs.Searching.{EndsFound, HuntsFile, RecordsHunted, RefusesFound, RefusesSearch, ShrinksFound, TellsNoSearch, TellsNoSeed};
 ghost use Rattle.ir_commands.specs.Writing.{KeptAt, storing, texts_of_paths, IsStatusOfNoRecording};
 
@@ -128,6 +128,7 @@ fn shrunk<'a, R: Clock + Eprint + AllocGlobal, D: Folder, G, O: Sink, E: Sink>(
         (writer_of (O.written out.old) (O.written out.new) (O.broken out.new))) }
     ensures stopped { IfErr result (λ answered. RefusesFound hunted.entry.image.now hunted.entry.plan.now found.now answered
         (writer_of (E.written faults.old) (E.written faults.new) (E.broken faults.new)) ⊎ IsStatusOfNoRecording ⊤ answered) }
+    ensures quiet { OnOk result (faults.new ≡ faults.old) }
 {
     let until = hunted.arguments.until.as_slice();
     let Ok(texts) = copied_texts(around.rt.alloc(), until) else {
@@ -195,7 +196,7 @@ where
     ensures stopped { IfErr found (λ status. result ≡ status) }
     ensures quiet { OnErr found (out.new ≡ out.old) }
     ensures kept { OnErr found (faults.new ≡ faults.old) }
-    ensures done { hunted.entry.arguments.now.shrinks ≡ false → OnOk found ((result ≡ exit.Done) × (out.new ≡ out.old)) }
+    ensures done { hunted.entry.arguments.now.shrinks ≡ false → OnOk found ((result ≡ exit.Done) × (out.new ≡ out.old) × GoesOn (E.written faults.old) (E.written faults.new)) }
     ensures shrunk { hunted.entry.arguments.now.shrinks ≡ true → IfOk found (λ given. EndsFound hunted.entry.image.now hunted.entry.plan.now given
         (KeptAt (storing D.known D.known_closed (D.knows around.now.folder.now) (D.was_put around.now.folder.now)) places.entry.trace.now (texts_of_paths places.entry.outputs)) result
         (writer_of (O.written out.old) (O.written out.new) (O.broken out.new)) (writer_of (E.written faults.old) (E.written faults.new) (E.broken faults.new))) }

@@ -6,7 +6,7 @@ ghost use Rattle.std.specs.String.{string_bytes};
 ghost use Rattle.ir_files.specs.Outputs.{TookEach, output_writer_of};
 ghost use Rattle.ir_files.specs.Writers.{writer_of};
 ghost use Rattle.ir_trace.specs.Recorded.{recorded_at};
-ghost use Rattle.ir_commands.specs.Files.{IsFileIn, IsImageIn};
+ghost use Rattle.ir_commands.specs.Files.{GoesOn, IsFileIn, IsImageIn};
 ghost use Rattle.ir_commands.specs.Searching.{IsStatusOfNoShrinking, RecordsShrunkRun, RefusesGiven, ShrinkRefuses, ShrinksFile, ShrinksTo, shrunk_status as shrunk_answer};
 ghost use Rattle.ir_commands.specs.Writing.{KeptAt, storing, texts_of_paths, IsStatusOfNoRecording};
 
@@ -165,6 +165,7 @@ where
         (writer_of (O.written out.old) (O.written out.new) (O.broken out.new))) }
     ensures stopped { IfErr result (λ answered. RefusesGiven given.now.image.now given.now.trace.now plan.now answered
         (writer_of (E.written faults.old) (E.written faults.new) (E.broken faults.new)) ⊎ IsStatusOfNoRecording ⊤ answered) }
+    ensures quiet { OnOk result (faults.new ≡ faults.old) }
     ensures whole { OnOk result (W.whole files.new.trace ≡ true) }
     ensures home { W.home files.new.trace ≡ W.home files.old.trace }
     ensures places { P.home files.new.outputs ≡ P.home files.old.outputs }
@@ -193,6 +194,7 @@ where
         (writer_of (O.written out.old) (O.written out.new) (O.broken out.new))) }
     ensures stopped { IfErr result (λ answered. RefusesGiven given.now.image.now given.now.trace.now plan.now answered
         (writer_of (E.written faults.old) (E.written faults.new) (E.broken faults.new)) ⊎ IsStatusOfNoRecording ⊤ answered) }
+    ensures quiet { OnOk result (faults.new ≡ faults.old) }
 {
     let Surroundings { rt, folder, .. } = *around;
     let mut files = record_files(rt.alloc(), folder, places.trace, places.outputs);
@@ -206,7 +208,8 @@ pub fn shrunk_status<E: Sink>(
     shrunk: &Shrunk,
     faults: &mut E,
 ) -> ExitStatus
-    ensures { result ≡ shrunk_answer shrunk.now.is_minimal }
+    ensures status { result ≡ shrunk_answer shrunk.now.is_minimal }
+    ensures grows { GoesOn (E.written faults.old) (E.written faults.new) }
 {
     if explains {
         tell_ends(alloc, &shrunk.trace, faults);
