@@ -33,9 +33,9 @@ use Rattle.ir_shrink.specs.declared.refusal.Refusal.TheVariants as refused
 use Rattle.ir_trace.specs.Recorded.{Recorded}
 use Rattle.ir_commands.specs.Files.{GoesOn, LacksGuest, TellsFault}
 use Rattle.ir_commands.specs.Printing.{Paths}
-use Rattle.ir_commands.specs.Searching.{AsksHunt, AsksSearch, AsksShrink, EndsFound, HangHasNoOrder, HuntsFile, IsShrinkPlanOfHunt, IsStatusOfNoShrinking, RecordsHang, RecordsHunted}
-use Rattle.ir_commands.specs.Searching.{RecordsShrunkRun, RefusesFound, RefusesGiven, RefusesSearch, RefusesUntil}
-use Rattle.ir_commands.specs.Searching.{SearchFinds, SearchMisses, SearchesFile, ShrinkRefuses, ShrinksFound, TellsNoSearch, TellsNoSeed, TellsVain}
+use Rattle.ir_commands.specs.Searching.{AsksHunt, AsksSearch, AsksShrink, EndsFound, HangHasNoOrder, HuntsFile, IsShrinkPlanOfHunt, RecordsHang, RecordsHunted}
+use Rattle.ir_commands.specs.Searching.{RecordsShrunkRun, RefusesFound, RefusesGiven, RefusesSearch, RefusesShrinking, RefusesUntil}
+use Rattle.ir_commands.specs.Searching.{SearchFinds, SearchMisses, SearchesFile, ShrinksFound, ShrinksNothing, TellsNoSearch, TellsNoSeed, TellsVain}
 use Rattle.ir_commands.specs.Writing.{IsStatusOfNoRecording, KeptAsAsked, Keeping, Storing}
 use Rattle.ir_commands.proofs.Kept.{ends_kept, hunted_kept, shrunk_kept}
 use Rattle.ir_commands.proofs.Refused.{answer_lacks_guest, explore_fault_is, failed_is_not_refused, fault_is_no_recording, hang_lacks_guest, hunt_lacks_guest}
@@ -201,11 +201,16 @@ refusal_is_told refused.Stale plan reports t = (unmet_words (wanted_text plan.st
 -- why a run wasn't shrunk
 pub shrink_stops : {W P O : Type 0} (d : Tellings W P O) (answered : ExitStatus) (image : List ℕ) (plan : ShrinkPlan) (given : Recorded) (old new : Devices W P O)
     (reports : Writer) → StopsShrink d answered image plan given old new reports
-    → RefusesGiven image given plan answered reports ⊎ IsStatusOfNoRecording ⊤ answered
+    → RefusesGiven image given plan answered reports ⊎ TellsNoSearch (LacksGuest image plan.record.profile) answered reports
 shrink_stops d answered image plan given old new reports (inl h) =
     inl (record { refusal = h.0; refuses = h.2.0; status = h.1; told = refusal_is_told h.0 plan reports h.2.4 })
-shrink_stops d answered image plan given old new reports (inr (before, after, list, is_minimal, is, inl f)) = inr (fault_is_no_recording Lines (λ r. tt) f.0)
-shrink_stops d answered image plan given old new reports (inr (before, after, list, is_minimal, is, inr s)) = inr (fault_is_no_recording s.0 (λ r. tt) s.2)
+shrink_stops d answered image plan given old new reports (inr (before, after, list, is_minimal, is, inl f)) =
+    inr (fault_is_no_recording Lines failed_is_not_refused f.0, (record_fault_words Lines, f.4))
+shrink_stops d answered image plan given old new reports (inr (before, after, list, is_minimal, is, inr s)) =
+    inr (
+      fault_is_no_recording s.0 (λ r. spelled_lacks_guest _ is.spelled (stopped_lacks_guest s.0 image list (by_list plan.record list) is.guest _ _ _ _ _ _ is.is refl s.4.1 r)) s.2,
+      reported_is_told s.0 image _ _ _ reports s.4.0,
+    )
 
 -- a guest that an image lacks is refused to a search
 pub until_refuses : {at : Paths} {arguments : UntilArguments} {image : List ℕ} {plan : ExplorePlan} {conditions : List Condition}
@@ -252,16 +257,24 @@ shrunk_at {image} {given} {plan} {is_minimal} {one} {other} {out} {last} to same
 
 -- a run isn't shrunk
 pub shrink_refuses : {at : Paths} {arguments : ShrinkArguments} {image : List ℕ} {given : Recorded} {plan : ShrinkPlan} {told faults : Writer} (answered : ExitStatus)
-    → AsksShrink at arguments image given plan → told ≡ faults → RefusesGiven image given plan answered told ⊎ IsStatusOfNoRecording ⊤ answered
-    → ShrinkRefuses at arguments answered faults ⊎ IsStatusOfNoShrinking answered
-shrink_refuses {at} {arguments} {image} {given} {plan} answered asked same (inl h) = inl (record {
+    (out : Writer) → AsksShrink at arguments image given plan → told ≡ faults
+    → RefusesGiven image given plan answered told ⊎ TellsNoSearch (LacksGuest image plan.record.profile) answered told → ShrinksNothing at arguments answered out faults
+shrink_refuses {at} {arguments} {image} {given} {plan} answered out asked same (inl h) = inl (record {
   image = image;
   given = given;
   plan = plan;
   asked = asked;
   why = subst (λ w. RefusesGiven image given plan answered w) same h;
 })
-shrink_refuses answered asked same (inr h) = inr (inl h)
+shrink_refuses {at} {arguments} {image} {given} {plan} answered out asked same (inr h) =
+    let refuses : LacksGuest image plan.record.profile → RefusesShrinking at arguments = λ lacks. inr (
+      asked.file,
+      given,
+      asked.is_file,
+      asked.is_given,
+      inl (inr (image, asked.is_image, subst (λ (p : Plan). LacksGuest image p.profile) asked.is_plan.how lacks)),
+    ) in
+    inr (inr (refused_since refuses h.0, subst (λ w. TellsFault w) same h.1))
 
 -- a run that was found is shrunk as the hunt looked for it
 pub found_shrinks : {image : List ℕ} {hunt view : HuntPlan} {given : Recorded} {plan : ShrinkPlan} {is_minimal : Bool} {is_kept : Keeping} {out : Writer}
@@ -272,8 +285,8 @@ found_shrinks {image} {hunt} {view} {given} {plan} same is_plan h =
 
 -- or it isn't
 pub found_refuses : {image : List ℕ} {hunt view : HuntPlan} {given : Recorded} {plan : ShrinkPlan} {answered : ExitStatus} {faults : Writer}
-    → view ≡ hunt → IsShrinkPlanOfHunt view given plan → RefusesGiven image given plan answered faults ⊎ IsStatusOfNoRecording ⊤ answered
-    → RefusesFound image hunt given answered faults ⊎ IsStatusOfNoRecording ⊤ answered
+    → view ≡ hunt → IsShrinkPlanOfHunt view given plan → RefusesGiven image given plan answered faults ⊎ TellsNoSearch (LacksGuest image plan.record.profile) answered faults
+    → RefusesFound image hunt given answered faults ⊎ IsStatusOfNoRecording (LacksGuest image given.profile) answered
 found_refuses {image} {hunt} {view} {given} {plan} same is_plan (inl h) =
     inl (record { plan = plan; is_plan = subst (λ z. IsShrinkPlanOfHunt z given plan) same is_plan; why = h })
-found_refuses same is_plan (inr h) = inr h
+found_refuses {image} same is_plan (inr h) = inr (refused_since (λ lacks. subst (λ (p : Plan). LacksGuest image p.profile) is_plan.how lacks) h.0)

@@ -1,5 +1,5 @@
 -- What the commands that look for a run leave, by the bytes that a folder says are at the paths of their arguments.
-use Rattle.std.specs.Prelude.{◌≡◌, ◌⊎◌, ℕ, Bool, true, false, List, ◌++◌, Option, None, Ok, Err, length, map, nat_lt, ⊤}
+use Rattle.std.specs.Prelude.{◌≡◌, ◌⊎◌, ℕ, Bool, true, false, List, ◌++◌, Option, None, Ok, Err, length, map, nat_lt, IfSome}
 use Rattle.std.specs.String.{string_bytes}
 use Rattle.ir_arguments.specs.declared.explore.UntilArguments.{UntilArguments}
 use Rattle.ir_arguments.specs.declared.hunt.HuntArguments.{HuntArguments}
@@ -30,7 +30,8 @@ use Rattle.ir_trace.specs.Encoding.{encoding}
 use Rattle.ir_trace.specs.Recorded.{Recorded, recorded_at}
 use Rattle.ir_commands.specs.Conditions.{AreAboutNothing, AreWritten}
 use Rattle.ir_commands.specs.Exploring.{IsInput, IsPlanOf}
-use Rattle.ir_commands.specs.Files.{GoesOn, IsFileIn, IsImageIn, RefusesGuest, TellsFault}
+use Rattle.ir_opened.specs.Answers.{IsUnfitRefusal}
+use Rattle.ir_commands.specs.Files.{GoesOn, IsFileIn, IsImageIn, IsNoGuest, LacksGuest, RefusesGuest, TellsFault}
 use Rattle.ir_commands.specs.Printing.{Paths}
 use Rattle.ir_commands.specs.Writing.{IsStatusOfNoRecording, KeptAsAsked, Keeping, Storing}
 
@@ -241,14 +242,35 @@ pub record ShrinkRefuses (at : Paths) (arguments : ShrinkArguments) (answered : 
   pub asked : AsksShrink at arguments image given plan
   pub why : RefusesGiven image given plan answered faults
 
--- the exit status where no run is shrunk: as where no recording begins, or no run of the image's guest has the trace
-abbrev pub IsStatusOfNoShrinking : ExitStatus → Type 0
-IsStatusOfNoShrinking answered = IsStatusOfNoRecording ⊤ answered ⊎ (answered ≡ status.NotFit)
+-- bytes aren't an image and a trace that one of its runs has, and the line or the lines that say so were printed
+pub record PrintsUnfit (image trace : List ℕ) (answered : ExitStatus) (out : Writer) : Type 0 where
+  pub text : List ℕ
+  pub refusal : IsUnfitRefusal image trace answered text
+  pub took : Took out text
 
--- what `ir shrink` did: a run was shrunk; or it wasn't; or no such run was had
+-- the same of the two files
+pub record UnfitToShrink (at : Paths) (arguments : ShrinkArguments) (answered : ExitStatus) (out : Writer) : Type 0 where
+  pub image : List ℕ
+  pub trace : List ℕ
+  pub is_image : IsImageIn (at (string_bytes arguments.image)) image
+  pub is_trace : IsFileIn (at (string_bytes arguments.trace)) trace
+  pub unfit : PrintsUnfit image trace answered out
+
+-- shrinking is refused: the image's file is an ELF file that is no guest; or there is a trace, and the guest lacks what it is asked for under the trace's profile
+abbrev pub RefusesShrinking : Paths → ShrinkArguments → Type 0
+RefusesShrinking at arguments = IfSome (at (string_bytes arguments.image)) IsNoGuest
+    ⊎ ((file : List ℕ) × (given : Recorded) × IsFileIn (at (string_bytes arguments.trace)) file × (recorded_at file ≡ Ok given)
+    × RefusesSearch (at (string_bytes arguments.image)) given.profile arguments.until.items)
+
+-- no run was shrunk: the run of the trace isn't as it has to be; or there is no such run; or nothing was searched
+abbrev pub ShrinksNothing : Paths → ShrinkArguments → ExitStatus → Writer → Writer → Type 0
+ShrinksNothing at arguments answered out faults = ShrinkRefuses at arguments answered faults
+    ⊎ (UnfitToShrink at arguments answered out ⊎ TellsNoSearch (RefusesShrinking at arguments) answered faults)
+
+-- what `ir shrink` did: a run was shrunk; or none
 abbrev pub ShrinksFile : Paths → Storing → ShrinkArguments → ExitStatus → Writer → Writer → Type 0
 ShrinksFile at stored arguments answered out faults = ((is_minimal : Bool) × (answered ≡ shrunk_status is_minimal) × ShrinksTo at stored arguments is_minimal out)
-    ⊎ (ShrinkRefuses at arguments answered faults ⊎ IsStatusOfNoShrinking answered)
+    ⊎ ShrinksNothing at arguments answered out faults
 
 -- ---- `ir hunt --shrink`
 
@@ -275,7 +297,7 @@ pub record RefusesFound (image : List ℕ) (hunt : HuntPlan) (given : Recorded) 
 abbrev pub EndsFound : List ℕ → HuntPlan → Recorded → Keeping → ExitStatus → Writer → Writer → Type 0
 EndsFound image hunt given is_kept answered out faults =
     ((is_minimal : Bool) × (answered ≡ shrunk_status is_minimal) × ShrinksFound image hunt given is_minimal is_kept out × GoesOn faults.before faults.after)
-    ⊎ (RefusesFound image hunt given answered faults ⊎ IsStatusOfNoRecording ⊤ answered)
+    ⊎ (RefusesFound image hunt given answered faults ⊎ IsStatusOfNoRecording (LacksGuest image given.profile) answered)
 
 -- the run of the lowest seed that is found was recorded and its lines were printed, and then it was shrunk
 pub record HuntsThenShrinks (image : List ℕ) (plan : HuntPlan) (is_kept : Keeping) (answered : ExitStatus) (out faults : Writer) : Type 0 where

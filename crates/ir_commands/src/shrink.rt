@@ -1,14 +1,15 @@
 //! `ir shrink`: a recorded run is shrunk to one with fewer context switches.
 
-ghost use Rattle.std.specs.Prelude.{◌≡◌, ◌⊎◌, None, Ok, IfErr, IfOk, OnOk, false, true, option_map, ⊤};
+ghost use Rattle.std.specs.Prelude.{◌≡◌, ◌⊎◌, None, Ok, IfErr, IfOk, OnErr, OnOk, false, true, option_map};
 ghost use Rattle.std.specs.Io.KnownBytes.{Appends};
 ghost use Rattle.std.specs.String.{string_bytes};
 ghost use Rattle.ir_files.specs.Outputs.{TookEach, output_writer_of};
 ghost use Rattle.ir_files.specs.Writers.{writer_of};
+ghost use Rattle.ir_files.specs.declared.exit_status.ExitStatus.TheVariants as exit;
 ghost use Rattle.ir_trace.specs.Recorded.{recorded_at};
-ghost use Rattle.ir_commands.specs.Files.{GoesOn, IsFileIn, IsImageIn};
-ghost use Rattle.ir_commands.specs.Searching.{IsStatusOfNoShrinking, RecordsShrunkRun, RefusesGiven, ShrinkRefuses, ShrinksFile, ShrinksTo, shrunk_status as shrunk_answer};
-ghost use Rattle.ir_commands.specs.Writing.{KeptAt, storing, texts_of_paths, IsStatusOfNoRecording};
+ghost use Rattle.ir_commands.specs.Files.{GoesOn, IsFileIn, IsImageIn, IsStatusOfNone, LacksGuest, TellsFault};
+ghost use Rattle.ir_commands.specs.Searching.{PrintsUnfit, RecordsShrunkRun, RefusesGiven, ShrinksFile, ShrinksNothing, ShrinksTo, TellsNoSearch, shrunk_status as shrunk_answer};
+ghost use Rattle.ir_commands.specs.Writing.{KeptAt, storing, texts_of_paths};
 
 use crate::conditions::{conditions_of, copied_texts};
 use crate::ends::tell_ends;
@@ -73,7 +74,8 @@ fn given_by<D: Folder, E: Sink>(
     ensures kept { OnOk result (faults.new ≡ faults.old) }
     ensures image { IfOk result (λ given. IsImageIn (D.bytes_at folder.now (string_bytes arguments.now.image)) given.image.items) }
     ensures trace { IfOk result (λ given. IsFileIn (D.bytes_at folder.now (string_bytes arguments.now.trace)) given.trace.items) }
-    ensures status { IfErr result (IsStatusOfNoRecording ⊤) }
+    ensures status { IfErr result (IsStatusOfNone (D.bytes_at folder.now (string_bytes arguments.now.image))) }
+    ensures told { OnErr result (E.broken faults.old ≡ false → TellsFault (writer_of (E.written faults.old) (E.written faults.new) (E.broken faults.new))) }
 {
     let image = image_in(alloc, folder, faults, arguments.image.as_str())?;
     match bytes_of(
@@ -95,11 +97,13 @@ fn fitting_trace<O: Sink, E: Sink>(
     out: &mut O,
     faults: &mut E,
 ) -> Result<Trace, ExitStatus>
-    requires { O.broken out.old ≡ false }
+    requires writes { O.broken out.old ≡ false }
+    requires reports { E.broken faults.old ≡ false }
     ensures kept { OnOk result (faults.new ≡ faults.old) }
     ensures quiet { OnOk result (out.new ≡ out.old) }
     ensures reads { IfOk result (λ trace. recorded_at given.now.trace.items ≡ Ok trace) }
-    ensures status { IfErr result IsStatusOfNoShrinking }
+    ensures stopped { IfErr result (λ answered. PrintsUnfit given.now.image.items given.now.trace.items answered (writer_of (O.written out.old) (O.written out.new) (O.broken out.new))
+        ⊎ ((answered ≡ exit.Failed) × TellsFault (writer_of (E.written faults.old) (E.written faults.new) (E.broken faults.new)))) }
 {
     let (image, trace) = (given.image.as_slice(), given.trace.as_slice());
     match open_fit(alloc, image, trace) {
@@ -164,7 +168,8 @@ where
         × TookEach (output_writer_of (P.taken files.old.outputs) (P.taken files.new.outputs) (P.broken files.new.outputs)) printed)
         (writer_of (O.written out.old) (O.written out.new) (O.broken out.new))) }
     ensures stopped { IfErr result (λ answered. RefusesGiven given.now.image.now given.now.trace.now plan.now answered
-        (writer_of (E.written faults.old) (E.written faults.new) (E.broken faults.new)) ⊎ IsStatusOfNoRecording ⊤ answered) }
+        (writer_of (E.written faults.old) (E.written faults.new) (E.broken faults.new)) ⊎ TellsNoSearch (LacksGuest given.now.image.now plan.now.record.profile) answered
+        (writer_of (E.written faults.old) (E.written faults.new) (E.broken faults.new))) }
     ensures quiet { OnOk result (faults.new ≡ faults.old) }
     ensures whole { OnOk result (W.whole files.new.trace ≡ true) }
     ensures home { W.home files.new.trace ≡ W.home files.old.trace }
@@ -193,7 +198,8 @@ where
         (KeptAt (storing D.known D.known_closed (D.knows around.now.folder.now) (D.was_put around.now.folder.now)) places.entry.trace.now (texts_of_paths places.entry.outputs))
         (writer_of (O.written out.old) (O.written out.new) (O.broken out.new))) }
     ensures stopped { IfErr result (λ answered. RefusesGiven given.now.image.now given.now.trace.now plan.now answered
-        (writer_of (E.written faults.old) (E.written faults.new) (E.broken faults.new)) ⊎ IsStatusOfNoRecording ⊤ answered) }
+        (writer_of (E.written faults.old) (E.written faults.new) (E.broken faults.new)) ⊎ TellsNoSearch (LacksGuest given.now.image.now plan.now.record.profile) answered
+        (writer_of (E.written faults.old) (E.written faults.new) (E.broken faults.new))) }
     ensures quiet { OnOk result (faults.new ≡ faults.old) }
 {
     let Surroundings { rt, folder, .. } = *around;
@@ -258,8 +264,8 @@ fn shrunk_by<R: Clock + Eprint + AllocGlobal, D: Folder, G, O: Sink, E: Sink>(
     requires reports { E.broken faults.old ≡ false }
     ensures done { IfOk result (λ shrunk. ShrinksTo (D.bytes_at around.now.folder.now) (storing D.known D.known_closed (D.knows around.now.folder.now) (D.was_put around.now.folder.now))
         arguments.now shrunk.is_minimal (writer_of (O.written out.old) (O.written out.new) (O.broken out.new))) }
-    ensures stopped { IfErr result (λ answered. ShrinkRefuses (D.bytes_at around.now.folder.now) arguments.now answered
-        (writer_of (E.written faults.old) (E.written faults.new) (E.broken faults.new)) ⊎ IsStatusOfNoShrinking answered) }
+    ensures stopped { IfErr result (λ answered. ShrinksNothing (D.bytes_at around.now.folder.now) arguments.now answered
+        (writer_of (O.written out.old) (O.written out.new) (O.broken out.new)) (writer_of (E.written faults.old) (E.written faults.new) (E.broken faults.new))) }
 {
     let (alloc, folder) = (around.rt.alloc(), around.folder);
     if loses_given(folder, faults, arguments) {

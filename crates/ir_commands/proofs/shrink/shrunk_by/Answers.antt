@@ -83,7 +83,8 @@ returns-clause-stopped g c =
         seconds = refl;
       };
     } in
+    let out = writer_of (g.O.Sink.written c.args.out.now) (g.O.Sink.written c.shrunk_into.new.out) (g.O.Sink.broken c.shrunk_into.new.out) in
     let kept = c.in_ok-outputs.ensures.kept ∙ c.in_ok-conditions.ensures.kept ∙ c.in_ok-trace.ensures.kept ∙ c.in_ok-given.ensures.kept
     ∙ c.if-loses_given.ensures.kept refl in
-    IfErr-weaker c.shrunk_into.result _ _ (λ answered h. shrink_refuses answered asked (ap (λ f. writer_of (g.E.Sink.written f) (g.E.Sink.written
+    IfErr-weaker c.shrunk_into.result _ _ (λ answered h. shrink_refuses answered out asked (ap (λ f. writer_of (g.E.Sink.written f) (g.E.Sink.written
     c.shrunk_into.new.faults) (g.E.Sink.broken c.shrunk_into.new.faults)) kept) h) c.shrunk_into.ensures.stopped
