@@ -1,6 +1,6 @@
 -- What searches leave that record what they find.
 use Rattle.std.proofs.Common.{◌≡◌, ◌∙◌, ◌⊎◌, List, ℕ, zero, suc, Some, ap, inl, inr, map, refl, subst, sym}
-use Rattle.std.specs.Prelude.{⊤, Bool, Option, None, length, IfErr, IfOk, OnErr, OnOk, Result, Ok, Err, true, false}
+use Rattle.std.specs.Prelude.{Bool, Option, None, length, IfErr, IfOk, OnErr, OnOk, Result, Ok, Err, true, false}
 use Rattle.std.specs.String.{string_bytes}
 use Rattle.ir_explore.specs.Faults.{explore_fault_status, explore_fault_words}
 use Rattle.ir_explore.specs.Hang.{IsHangAnswer, StopsHang, hang_plan}
