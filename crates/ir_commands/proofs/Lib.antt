@@ -2,6 +2,7 @@ pub mod CallerLemmas
 mod Explored
 mod Kept
 mod Listed
+mod Made
 mod Outsides
 mod Refused
 mod Searched

@@ -102,7 +102,7 @@ fn make<R: AllocGlobal, D: Folder, G, E: Sink>(
 ) -> ExitStatus
     requires { E.broken faults.old ≡ false }
     ensures { MakesImage (D.bytes_at around.now.folder.now) (storing D.known D.known_closed (D.knows around.now.folder.now) (D.was_put around.now.folder.now))
-        what.now result }
+        what.now result (writer_of (E.written faults.old) (E.written faults.new) (E.broken faults.new)) }
 {
     let (alloc, folder) = (around.rt.alloc(), around.folder);
     match what {
