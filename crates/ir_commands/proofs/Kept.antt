@@ -104,5 +104,5 @@ run_kept to h = record { printed = h.printed; text = h.text; found = h.found; ke
 pub ends_kept : {image : List ℕ} {plan : HuntPlan} {given : Recorded} {one other : Keeping} {answered : ExitStatus} {out faults : Writer}
     → ((bytes : List ℕ) (printed : List (List ℕ)) → one bytes printed → other bytes printed)
     → EndsFound image plan given one answered out faults → EndsFound image plan given other answered out faults
-ends_kept to (inl h) = inl (h.0, h.1, record { plan = h.2.plan; recorded = h.2.recorded; is_plan = h.2.is_plan; shrunk = run_kept to h.2.shrunk })
+ends_kept to (inl h) = inl (h.0, h.1, record { plan = h.2.plan; recorded = h.2.recorded; is_plan = h.2.is_plan; shrunk = run_kept to h.2.shrunk }, h.3)
 ends_kept to (inr h) = inr h

@@ -1,7 +1,10 @@
+pub mod CallerLemmas
 mod Explored
 mod Kept
 mod Listed
+mod Made
 mod Outsides
+mod Printed
 mod Refused
 mod Searched
 mod Stored

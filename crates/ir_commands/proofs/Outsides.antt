@@ -1,5 +1,5 @@
 -- What a comparison that records leaves where nothing is recorded.
-use Rattle.std.proofs.Common.{◌≡◌, ◌⊎◌, List, ℕ, Option, Some, inl, inr, refl, subst, sym}
+use Rattle.std.proofs.Common.{◌≡◌, ◌∙◌, ◌⊎◌, List, ℕ, Option, Some, inl, inr, refl, subst, sym}
 use Rattle.std.specs.String.{string_bytes}
 use Rattle.ir_arguments.specs.declared.within.Counted.{Counted}
 use Rattle.ir_arguments.specs.declared.within.OutsideArguments.{OutsideArguments}
@@ -16,10 +16,13 @@ use Rattle.ir_within.specs.declared.fault.WithinFault.{WithinFault}
 use Rattle.ir_within.specs.declared.fault.WithinFault.TheVariants as within
 use Rattle.ir_commands.specs.Exploring.{AsksComparison, IsInput, IsPlanOf, IsStatusOfNoComparison, LacksCounted, LacksIn, counted_asked}
 use Rattle.ir_commands.specs.Files.{IsImageIn, LacksGuest, RefusesGuest}
-use Rattle.ir_commands.specs.Outside.{MissesOutside, RefusesEither, TellsNoneOutside}
+use Rattle.ir_commands.specs.Outside.{IsComparisonAnswer, IsComparisonAnswerTo, MissesOutside, RefusesEither, TellsNoneOutside}
 use Rattle.ir_commands.specs.Printing.{Paths}
 use Rattle.ir_commands.specs.Searching.{TellsNoSearch}
+use Rattle.ir_commands.specs.Sought.{PrintsPart}
 use Rattle.ir_commands.specs.Writing.{IsStatusOfNoRecording}
+use Rattle.ir_commands.proofs.Printed.{explore_fault_is_not_bad, fault_is_not_bad, leaves_in_part, none_since}
+use Rattle.ir_commands.proofs.Searched.{nothing_without_guest}
 use Rattle.ir_commands.proofs.Refused.{explore_fault_is, explored_lacks_guest, failed_is_not_refused, fault_is_no_recording, none_is_no_recording, refused_since}
 use Rattle.ir_commands.proofs.Refused.{spelled_lacks_guest, stopped_lacks_guest}
 use Rattle.ir_commands.proofs.Stored.{reported_is_told}
@@ -55,6 +58,20 @@ within_fault_is (within.Image e) why p = explore_fault_is e why p
 within_fault_is (within.Other e) why p = explore_fault_is e why p
 within_fault_is (within.Unwritten e) why p = explore_fault_is e why p
 
+within_fault_is_not_bad : {A : Type 0} (e : WithinFault) → within_fault_status e ≡ status.BadArguments → A
+within_fault_is_not_bad (within.Image e) p = explore_fault_is_not_bad e p
+within_fault_is_not_bad (within.Other e) p = explore_fault_is_not_bad e p
+within_fault_is_not_bad (within.Unwritten e) p = explore_fault_is_not_bad e p
+
+-- what is printed of a comparison that isn't told
+comparison_in_part : (e : WithinFault) (c : Comparison) (w : Writer) → ToldNone e c w → PrintsPart (IsComparisonAnswer c) w
+comparison_in_part (within.Image e) c w h = inl (nothing_without_guest e c.image c.plan w h)
+comparison_in_part (within.Other e) c w h = inl (nothing_without_guest e c.other c.plan w h)
+comparison_in_part (within.Unwritten explore.NoMem) c w h = inl h
+comparison_in_part (within.Unwritten explore.Write) c w h = inr (h.1, inl (h.0, h.2), h.3.0)
+comparison_in_part (within.Unwritten (explore.Image e)) c w h = absurd h
+comparison_in_part (within.Unwritten explore.TooLarge) c w h = absurd h
+
 -- and so is the status where two images aren't had
 pub no_comparison_no_recording : (at : Paths) (arguments : WithinArguments) {answered : ExitStatus} → IsStatusOfNoComparison at arguments answered
     → IsStatusOfNoRecording (RefusesGuest (at (string_bytes arguments.explore.image)) arguments.explore.profile
@@ -67,15 +84,23 @@ no_comparison_no_recording at arguments (inr (inr bad)) = inl bad.0
 pub outside_tells_none : {W P O : Type 0} (d : Tellings W P O) (answered : ExitStatus) (c : Comparison) (old new : Devices W P O) (reports : Writer)
     {same : Type 0} → StopsOutside d answered c old new reports same
     → TellsNoneOutside c answered (lines_between d old new)
-    ⊎ TellsNoSearch (LacksGuest c.image c.plan.profile ⊎ LacksGuest c.other c.plan.profile) answered reports
+    ⊎ TellsNoSearch (LacksGuest c.image c.plan.profile ⊎ LacksGuest c.other c.plan.profile) (IsComparisonAnswer c) answered (lines_between d old new) reports
 outside_tells_none d answered c old new reports (inl h) = inl h.3
-outside_tells_none d answered c old new reports (inr (inl h)) =
-    inr (within_fault_is h.0 (told_lacks_guest h.0 c _ h.4) h.1, (h.5.0, h.5.2))
-outside_tells_none d answered c old new reports (inr (inr h)) = inr (
-  fault_is_no_recording h.0 (λ r. inl (spelled_lacks_guest _ h.5.told.first.leads.spelled
-      (stopped_lacks_guest h.0 c.image h.3 (recording c.plan (Some h.3)) h.5.guest _ _ _ _ _ _ h.5.is.0 refl h.7.1 r))) h.1,
-  reported_is_told h.0 c.image _ _ _ reports h.7.0,
-)
+outside_tells_none d answered c old new reports (inr (inl h)) = inr (record {
+  because = within_fault_is h.0 (told_lacks_guest h.0 c _ h.4) h.1;
+  told = (h.5.0, h.5.2);
+  printed = comparison_in_part h.0 c _ h.4;
+  unprinted = λ bad. within_fault_is_not_bad h.0 (sym h.1 ∙ bad);
+})
+outside_tells_none d answered c old new reports (inr (inr h)) =
+    let part = leaves_in_part d h.0 c.image (recording c.plan (Some h.3)) old new h.4 reports h.2 h.6 h.7 in
+    inr (record {
+      because = fault_is_no_recording h.0 (λ r. inl (spelled_lacks_guest _ h.5.told.first.leads.spelled
+          (stopped_lacks_guest h.0 c.image h.3 (recording c.plan (Some h.3)) h.5.guest _ _ _ _ _ _ h.5.is.0 refl h.7.1 r))) h.1;
+      told = reported_is_told h.0 c.image _ _ _ reports h.7.0;
+      printed = inr (part.0, inr (h.3, h.2, h.5, part.1), part.2);
+      unprinted = λ bad. fault_is_not_bad h.0 (sym h.1 ∙ bad);
+    })
 
 either_refused : (at : Paths) (arguments : OutsideArguments) (c : Comparison) → AsksComparison at arguments.within c
     → LacksGuest c.image c.plan.profile ⊎ LacksGuest c.other c.plan.profile → RefusesEither at arguments
@@ -85,11 +110,13 @@ either_refused at arguments c asked (inr lacks) = inr (inr (c.other, asked.is_ot
 -- no outcome is known to be outside, or nothing was compared
 pub outside_misses : {at : Paths} {arguments : OutsideArguments} {c : Comparison} {told faults : Writer} (answered : ExitStatus) (out : Writer)
     → AsksComparison at arguments.within c → told ≡ faults
-    → TellsNoneOutside c answered out ⊎ TellsNoSearch (LacksGuest c.image c.plan.profile ⊎ LacksGuest c.other c.plan.profile) answered told
-    → MissesOutside at arguments answered out ⊎ TellsNoSearch (RefusesEither at arguments) answered faults
+    → TellsNoneOutside c answered out
+    ⊎ TellsNoSearch (LacksGuest c.image c.plan.profile ⊎ LacksGuest c.other c.plan.profile) (IsComparisonAnswer c) answered out told
+    → MissesOutside at arguments answered out ⊎ TellsNoSearch (RefusesEither at arguments) (IsComparisonAnswerTo at arguments) answered out faults
 outside_misses {at} {arguments} {c} answered out asked same (inl h) = inl (record { comparison = c; asked = asked; vain = h })
 outside_misses {at} {arguments} {c} answered out asked same (inr h) =
-    inr (subst (λ w. TellsNoSearch (RefusesEither at arguments) answered w) same (refused_since (either_refused at arguments c asked) h.0, h.1))
+    inr (subst (λ w. TellsNoSearch (RefusesEither at arguments) (IsComparisonAnswerTo at arguments) answered out w) same
+    (none_since (either_refused at arguments c asked) (λ text x. (c, asked, x)) h))
 
 -- the guest of one of two files lacks an object whose words count
 pub either_lacks : (known others : Option (List ℕ)) {image other first second : List ℕ} (counted : Counted) → IsImageIn known image → IsImageIn others other

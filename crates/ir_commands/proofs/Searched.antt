@@ -1,21 +1,22 @@
 -- What searches leave that record what they find.
 use Rattle.std.proofs.Common.{◌≡◌, ◌∙◌, ◌⊎◌, List, ℕ, zero, suc, Some, ap, inl, inr, map, refl, subst, sym}
-use Rattle.std.specs.Prelude.{⊤, Bool, Option, None, length, IfErr, IfOk, OnErr, OnOk, Result, Ok, Err, true, false}
+use Rattle.std.specs.Prelude.{Bool, Option, None, length, IfErr, IfOk, OnErr, OnOk, Result, Ok, Err, true, false}
 use Rattle.std.specs.String.{string_bytes}
-use Rattle.ir_explore.specs.Faults.{explore_fault_status, explore_fault_words}
-use Rattle.ir_explore.specs.Hang.{IsHangAnswer, IsHangRecorded, StopsHang, hang_plan}
+use Rattle.ir_explore.specs.Faults.{HasNoGuest, explore_fault_status, explore_fault_words}
+use Rattle.ir_explore.specs.Hang.{HasNoHangAnswer, IsHangAnswer, IsHangRecorded, StopsHang, hang_plan}
 use Rattle.ir_explore.specs.Plan.{ExplorePlan}
-use Rattle.ir_explore.specs.Until.{IsOutcomeFinding, StopsUntil, recording}
+use Rattle.ir_explore.specs.Until.{HasNoAnswer, IsOutcomeFinding, StopsUntil, recording}
 use Rattle.ir_explore.specs.declared.fault.ExploreFault.{ExploreFault}
 use Rattle.ir_explore.specs.declared.fault.ExploreFault.TheVariants as fault
 use Rattle.ir_arguments.specs.declared.explore.UntilArguments.{UntilArguments}
 use Rattle.ir_arguments.specs.declared.hunt.HuntArguments.{HuntArguments}
 use Rattle.ir_arguments.specs.declared.shrink.ShrinkArguments.{ShrinkArguments}
-use Rattle.ir_files.specs.Writers.{Writer, writer_of}
+use Rattle.ir_files.specs.Writers.{Writer, Took, writer_of}
 use Rattle.ir_files.specs.declared.exit_status.ExitStatus.{ExitStatus}
 use Rattle.ir_files.specs.declared.exit_status.ExitStatus.TheVariants as status
 use Rattle.ir_explore.specs.declared.hang_order.HangOrder.{HangOrder}
 use Rattle.ir_hunt.specs.Finding.{by_list}
+use Rattle.ir_hunt.specs.Lines.{found_line}
 use Rattle.ir_hunt.specs.Stopping.{StopsHunt, TellsLeftOut}
 use Rattle.ir_hunt.specs.declared.plan.HuntPlan.{HuntPlan}
 use Rattle.ir_record_command.specs.Faults.{fault_status, record_fault_words}
@@ -26,21 +27,25 @@ use Rattle.ir_record_command.specs.declared.record_fault.RecordFault.{RecordFaul
 use Rattle.ir_record_command.specs.declared.record_fault.RecordFault.TheVariants.{Clock, Image, TooLarge, Order, NoMem, Trace, Output, Lines}
 use Rattle.ir_schedule.specs.Conditions.{as_condition}
 use Rattle.ir_schedule.specs.declared.condition.Condition.{Condition}
+use Rattle.ir_shrink.specs.Lines.{shrunk_lines}
 use Rattle.ir_shrink.specs.Stopping.{IsRefusalTold, StopsShrink, other_words, text_at, unmet_words, wanted_text}
 use Rattle.ir_shrink.specs.declared.plan.ShrinkPlan.{ShrinkPlan}
 use Rattle.ir_shrink.specs.declared.refusal.Refusal.{Refusal}
 use Rattle.ir_shrink.specs.declared.refusal.Refusal.TheVariants as refused
 use Rattle.ir_trace.specs.Recorded.{Recorded, recorded_at}
-use Rattle.ir_commands.specs.Files.{IsFileIn, IsImageIn, LacksGuest, TellsFault}
+use Rattle.ir_commands.specs.Files.{GoesOn, IsFileIn, IsImageIn, LacksGuest, TellsFault}
 use Rattle.ir_commands.specs.Printing.{Paths}
 use Rattle.ir_commands.specs.Conditions.{AreWritten}
 use Rattle.ir_commands.specs.Exploring.{IsInput, IsPlanOf}
-use Rattle.ir_commands.specs.Searching.{AsksHunt, AsksSearch, AsksShrink, EndsFound, HangHasNoOrder, HuntsFile, IsRunFound, IsShrinkPlanOfHunt, IsStatusOfNoShrinking, RecordsHunted}
-use Rattle.ir_commands.specs.Searching.{RecordsShrunkRun, RefusesFound, RefusesGiven, RefusesSearch, RefusesUntil, UntilMisses, plan_like}
-use Rattle.ir_commands.specs.Searching.{SearchFinds, SearchMisses, SearchesFile, ShrinkRefuses, ShrinksFound, TellsNoSearch, TellsNoSeed}
-use Rattle.ir_commands.specs.Sought.{RecordsRun}
+use Rattle.ir_commands.specs.Searching.{AsksHunt, AsksSearch, AsksShrink, EndsFound, HangHasNoOrder, HuntsFile, IsHuntAnswer, IsHuntAnswerTo, IsRunFound, IsSearchAnswer}
+use Rattle.ir_commands.specs.Searching.{IsSearchAnswerTo, IsShrinkAnswer, IsShrinkAnswerTo, IsShrinkPlanOfHunt, RecordsHunted, StopsFound}
+use Rattle.ir_commands.specs.Searching.{RecordsShrunkRun, RefusesFound, RefusesGiven, RefusesSearch, RefusesShrinking, RefusesUntil, UntilMisses, plan_like}
+use Rattle.ir_commands.specs.Searching.{SearchFinds, SearchMisses, SearchesFile, ShrinksFound, ShrinksNothing, TellsNoSearch, TellsNoSeed}
+use Rattle.ir_commands.specs.Sought.{PrintsPart, RecordsRun}
 use Rattle.ir_commands.specs.Writing.{IsStatusOfNoRecording, KeptAsAsked, Keeping, Storing}
+use Rattle.ir_commands.proofs.CallerLemmas.{told_goes_on, unchanged_goes_on}
 use Rattle.ir_commands.proofs.Kept.{ends_kept, run_kept}
+use Rattle.ir_commands.proofs.Printed.{explore_fault_is_not_bad, fault_is_not_bad, leaves_in_part, none_since, nothing_searched, part_since, same_is_nothing}
 use Rattle.ir_commands.proofs.Refused.{answer_lacks_guest, explore_fault_is, failed_is_not_refused, fault_is_no_recording, hang_lacks_guest, hunt_lacks_guest}
 use Rattle.ir_commands.proofs.Refused.{refused_since, spelled_lacks_guest, stopped_lacks_guest}
 use Rattle.ir_commands.proofs.Stored.{reported_is_told}
@@ -65,32 +70,70 @@ left_out_is_told (suc n) reports to told = told
 -- what a hunt tells that records nothing
 pub hunt_tells_none : {W P O : Type 0} (d : Tellings W P O) (answered : ExitStatus) (image : List ℕ) (plan : HuntPlan) (old new : Devices W P O) (reports : Writer)
     {same : Type 0} → (same → reports.after ≡ reports.before) → StopsHunt d answered image plan old new reports same
-    → TellsNoSeed image plan answered (lines_between d old new) reports ⊎ TellsNoSearch (LacksGuest image plan.record.profile) answered reports
+    → TellsNoSeed image plan answered (lines_between d old new) reports
+    ⊎ TellsNoSearch (LacksGuest image plan.record.profile) (IsHuntAnswer image plan) answered (lines_between d old new) reports
 hunt_tells_none d answered image plan old new reports to (inl h) =
     inl (record { last = h.0; left_out = h.1; none = h.3; status = h.2; lines = h.6; told = left_out_is_told h.1 reports to h.7 })
 hunt_tells_none d answered image plan old new reports to (inr (e, is, inl t)) =
-    inr (fault_is_no_recording e (hunt_lacks_guest e image plan.record t.0) is, (record_fault_words e, t.4))
-hunt_tells_none d answered image plan old new reports to (inr (e, is, inr (inl t))) =
-    inr (fault_is_no_recording Lines failed_is_not_refused (is ∙ ap fault_status t.1), (record_fault_words e, t.6))
+    inr (nothing_searched (fault_is_no_recording e (hunt_lacks_guest e image plan.record t.0) is) (record_fault_words e, t.4)
+    (same_is_nothing d.took old.lines new.lines t.3))
+hunt_tells_none d answered image plan old new reports to (inr (e, is, inr (inl t))) = inr (record {
+  because = fault_is_no_recording Lines failed_is_not_refused (is ∙ ap fault_status t.1);
+  told = (record_fault_words e, t.6);
+  printed = inr (t.0, inl t.2, t.3.0);
+  unprinted = λ bad. fault_is_not_bad e (sym is ∙ bad);
+})
 hunt_tells_none d answered image plan old new reports to (inr (e, is, inr (inr t))) =
-    inr (
-      fault_is_no_recording e (λ r. spelled_lacks_guest _ t.4.lowest.found.spelled (stopped_lacks_guest e image t.2 (by_list plan.record t.2) t.4.guest _ _ _ _ _ _ t.4.is refl t.6.1 r)) is,
-      reported_is_told e image _ _ _ reports t.6.0,
-    )
+    let part = leaves_in_part d e image (by_list plan.record t.2) old new t.3 reports (found_line t.1 t.2) t.5 t.6 in
+    inr (record {
+      because = fault_is_no_recording e (λ r. spelled_lacks_guest _ t.4.lowest.found.spelled (stopped_lacks_guest e image t.2 (by_list plan.record t.2)
+          t.4.guest _ _ _ _ _ _ t.4.is refl t.6.1 r)) is;
+      told = reported_is_told e image _ _ _ reports t.6.0;
+      printed = inr (part.0, inr (t.0, t.1, t.2, t.4, part.1), part.2);
+      unprinted = λ bad. fault_is_not_bad e (sym is ∙ bad);
+    })
+
+-- what is printed where a guest isn't explored
+pub nothing_without_guest : (e : ExploreFault) (image : List ℕ) (plan : ExplorePlan) (w : Writer) → HasNoGuest e image plan w → Took w []
+nothing_without_guest (fault.Image e) image plan w h = h.1
+nothing_without_guest fault.TooLarge image plan w h = h.1
+nothing_without_guest fault.NoMem image plan w h = h
+nothing_without_guest fault.Write image plan w h = absurd h
+
+answer_in_part : (e : ExploreFault) (image : List ℕ) (plan : ExplorePlan) (conditions : List Condition) (w : Writer)
+    → HasNoAnswer e image plan (map as_condition conditions) w → PrintsPart (IsSearchAnswer false image plan conditions) w
+answer_in_part (fault.Image e) image plan conditions w h = inl (nothing_without_guest (fault.Image e) image plan w h)
+answer_in_part fault.TooLarge image plan conditions w h = inl (nothing_without_guest fault.TooLarge image plan w h)
+answer_in_part fault.NoMem image plan conditions w h = inl (nothing_without_guest fault.NoMem image plan w h)
+answer_in_part fault.Write image plan conditions w h = inr (h.1, inl (h.0, h.2), h.3.0)
+
+hang_in_part : (e : ExploreFault) (image : List ℕ) (plan : ExplorePlan) (conditions : List Condition) (w : Writer) → HasNoHangAnswer e image plan w
+    → PrintsPart (IsSearchAnswer true image plan conditions) w
+hang_in_part (fault.Image e) image plan conditions w h = inl (nothing_without_guest (fault.Image e) image plan w h)
+hang_in_part fault.TooLarge image plan conditions w h = inl (nothing_without_guest fault.TooLarge image plan w h)
+hang_in_part fault.NoMem image plan conditions w h = inl (nothing_without_guest fault.NoMem image plan w h)
+hang_in_part fault.Write image plan conditions w h = inr (h.1, inl (h.0, h.2), h.3.0)
 
 -- what a search for an outcome tells that records nothing
 pub search_tells_none : {W P O : Type 0} (d : Tellings W P O) (answered : ExitStatus) (image : List ℕ) (plan : ExplorePlan) (conditions : List Condition)
     (old new : Devices W P O) (reports : Writer) {same : Type 0} → StopsUntil d answered image plan (map as_condition conditions) old new reports same
     → UntilMisses false image plan conditions answered (lines_between d old new) reports
 search_tells_none d answered image plan conditions old new reports (inl h) = inl h.3
-search_tells_none d answered image plan conditions old new reports (inr (inl h)) =
-    inr (explore_fault_is h.0 (λ r. inl (answer_lacks_guest h.0 image plan (map as_condition conditions) _ h.4 r)) h.1, (explore_fault_words h.0, h.5))
+search_tells_none d answered image plan conditions old new reports (inr (inl h)) = inr (record {
+  because = explore_fault_is h.0 (λ r. inl (answer_lacks_guest h.0 image plan (map as_condition conditions) _ h.4 r)) h.1;
+  told = (explore_fault_words h.0, h.5);
+  printed = answer_in_part h.0 image plan conditions _ h.4;
+  unprinted = λ bad. explore_fault_is_not_bad h.0 (sym h.1 ∙ bad);
+})
 search_tells_none d answered image plan conditions old new reports (inr (inr h)) =
-    inr (
-      fault_is_no_recording h.0 (λ r. inl (spelled_lacks_guest _ h.5.says.hit.spelled
-          (stopped_lacks_guest h.0 image h.3 (recording plan (Some h.3)) h.5.guest _ _ _ _ _ _ h.5.is refl h.7.1 r))) h.1,
-      reported_is_told h.0 image _ _ _ reports h.7.0,
-    )
+    let part = leaves_in_part d h.0 image (recording plan (Some h.3)) old new h.4 reports h.2 h.6 h.7 in
+    inr (record {
+      because = fault_is_no_recording h.0 (λ r. inl (spelled_lacks_guest _ h.5.says.hit.spelled
+          (stopped_lacks_guest h.0 image h.3 (recording plan (Some h.3)) h.5.guest _ _ _ _ _ _ h.5.is refl h.7.1 r))) h.1;
+      told = reported_is_told h.0 image _ _ _ reports h.7.0;
+      printed = inr (part.0, inr (h.3, h.2, h.5, part.1), part.2);
+      unprinted = λ bad. fault_is_not_bad h.0 (sym h.1 ∙ bad);
+    })
 
 hang_or_guest : (image : List ℕ) (plan : ExplorePlan) (order : HangOrder) (text : List ℕ) (told : IsHangAnswer image plan (Ok order) text)
     → LacksGuest image plan.profile ⊎ (order_of (length told.guest.entries) (string_bytes order.list) ≡ None) → LacksGuest image plan.profile ⊎ HangHasNoOrder image plan
@@ -103,14 +146,21 @@ pub hang_tells_none : {W P O : Type 0} (d : Tellings W P O) (answered : ExitStat
     (old new : Devices W P O) (reports : Writer) {same : Type 0} → StopsHang d answered image plan old new reports same
     → UntilMisses true image plan conditions answered (lines_between d old new) reports
 hang_tells_none d answered image plan conditions old new reports (inl h) = inl h.3
-hang_tells_none d answered image plan conditions old new reports (inr (inl h)) =
-    inr (explore_fault_is h.0 (λ r. inl (hang_lacks_guest h.0 image plan _ h.4 r)) h.1, (explore_fault_words h.0, h.5))
+hang_tells_none d answered image plan conditions old new reports (inr (inl h)) = inr (record {
+  because = explore_fault_is h.0 (λ r. inl (hang_lacks_guest h.0 image plan _ h.4 r)) h.1;
+  told = (explore_fault_words h.0, h.5);
+  printed = hang_in_part h.0 image plan conditions _ h.4;
+  unprinted = λ bad. explore_fault_is_not_bad h.0 (sym h.1 ∙ bad);
+})
 hang_tells_none d answered image plan conditions old new reports (inr (inr h)) =
-    inr (
-      fault_is_no_recording h.0 (λ r. hang_or_guest image plan h.2 h.3 h.5
-          (stopped_lacks_guest h.0 image (string_bytes h.2.list) (hang_plan plan h.2) h.5.guest _ _ _ _ _ _ h.5.is refl h.7.1 r)) h.1,
-      reported_is_told h.0 image _ _ _ reports h.7.0,
-    )
+    let part = leaves_in_part d h.0 image (hang_plan plan h.2) old new h.4 reports h.3 h.6 h.7 in
+    inr (record {
+      because = fault_is_no_recording h.0 (λ r. hang_or_guest image plan h.2 h.3 h.5
+          (stopped_lacks_guest h.0 image (string_bytes h.2.list) (hang_plan plan h.2) h.5.guest _ _ _ _ _ _ h.5.is refl h.7.1 r)) h.1;
+      told = reported_is_told h.0 image _ _ _ reports h.7.0;
+      printed = inr (part.0, inr (h.2, h.3, h.5, part.1), part.2);
+      unprinted = λ bad. fault_is_not_bad h.0 (sym h.1 ∙ bad);
+    })
 
 -- the run that is looked for is found: it hangs, which is known by a plan that is the same
 pub hang_is_found : {hang : Bool} {image : List ℕ} {one plan : ExplorePlan} {recorded : Recorded} (conditions : List Condition) (order : HangOrder) (text : List ℕ)
@@ -142,9 +192,10 @@ pub hunt_comes_to : {O E : Type 0} (written : O → Option (List ℕ)) (broken :
     → KeptAsAsked stored (string_bytes arguments.trace) arguments.options.output bytes printed)
     → IfOk r (λ recorded. RecordsHunted image plan recorded one (writer_of (written out) (written said) (broken said)) (writer_of (reported faults) (reported told) (fails told)))
     → IfErr r (λ e. TellsNoSeed image plan e (writer_of (written out) (written said) (broken said)) (writer_of (reported faults) (reported told) (fails told))
-    ⊎ TellsNoSearch (LacksGuest image plan.record.profile) e (writer_of (reported faults) (reported told) (fails told)))
+    ⊎ TellsNoSearch (LacksGuest image plan.record.profile) (IsHuntAnswer image plan) e (writer_of (written out) (written said) (broken said))
+    (writer_of (reported faults) (reported told) (fails told)))
     → IfErr r (λ e. answered ≡ e) → OnErr r (out' ≡ said) → OnErr r (faults' ≡ told)
-    → (arguments.shrinks ≡ false → OnOk r ((answered ≡ status.Done) × (out' ≡ said)))
+    → (arguments.shrinks ≡ false → OnOk r ((answered ≡ status.Done) × (out' ≡ said) × GoesOn (reported told) (reported faults')))
     → (arguments.shrinks ≡ true → IfOk r (λ given. EndsFound image plan given one answered (writer_of (written said) (written out') (broken out'))
     (writer_of (reported told) (reported faults') (fails faults'))))
     → HuntsFile at stored arguments answered (writer_of (written out) (written out') (broken out')) (writer_of (reported faults) (reported faults') (fails faults'))
@@ -163,6 +214,7 @@ hunt_comes_to written broken reported fails at stored arguments image plan out s
             refl,
             subst (λ o. RecordsHunted image plan x (KeptAsAsked stored (string_bytes arguments.trace) arguments.options.output) (writer_of (written out) (written o) (broken o))
                 (writer_of (reported faults) (reported told) (fails told))) (sym (done no).1) hunted,
+            (done no).2,
           ),
         );
       },
@@ -193,8 +245,12 @@ hunt_comes_to written broken reported fails at stored arguments image plan out s
       asked.is_image,
       subst (λ (p : Plan). LacksGuest image p.profile) asked.is_plan.how lacks,
     )) in
-    inr (subst (λ a. TellsNoSearch refuses a (writer_of (reported faults) (reported faults') (fails faults'))) (sym stopped)
-    (subst (λ f. TellsNoSearch refuses e (writer_of (reported faults) (reported f) (fails f))) (sym kept) (refused_since why none.0, none.1)))
+    let is_answer = IsHuntAnswerTo at arguments in
+    inr (subst (λ a. TellsNoSearch refuses is_answer a (writer_of (written out) (written out') (broken out')) (writer_of (reported faults) (reported faults') (fails faults')))
+    (sym stopped)
+    (subst (λ f. TellsNoSearch refuses is_answer e (writer_of (written out) (written out') (broken out')) (writer_of (reported faults) (reported f) (fails f))) (sym kept)
+    (subst (λ o. TellsNoSearch refuses is_answer e (writer_of (written out) (written o) (broken o)) (writer_of (reported faults) (reported told) (fails told))) (sym quiet)
+    (none_since why (λ text h. (image, plan, asked, h)) none))))
 
 refusal_is_told : (e : Refusal) (plan : ShrinkPlan) (reports : Writer) → IsRefusalTold e plan reports → TellsFault reports
 refusal_is_told (refused.Fault e) plan reports t = (record_fault_words e, t)
@@ -205,11 +261,30 @@ refusal_is_told refused.Stale plan reports t = (unmet_words (wanted_text plan.st
 -- why a run wasn't shrunk
 pub shrink_stops : {W P O : Type 0} (d : Tellings W P O) (answered : ExitStatus) (image : List ℕ) (plan : ShrinkPlan) (given : Recorded) (old new : Devices W P O)
     (reports : Writer) → StopsShrink d answered image plan given old new reports
-    → RefusesGiven image given plan answered reports ⊎ IsStatusOfNoRecording ⊤ answered
-shrink_stops d answered image plan given old new reports (inl h) =
-    inl (record { refusal = h.0; refuses = h.2.0; status = h.1; told = refusal_is_told h.0 plan reports h.2.4 })
-shrink_stops d answered image plan given old new reports (inr (before, after, list, is_minimal, is, inl f)) = inr (fault_is_no_recording Lines (λ r. tt) f.0)
-shrink_stops d answered image plan given old new reports (inr (before, after, list, is_minimal, is, inr s)) = inr (fault_is_no_recording s.0 (λ r. tt) s.2)
+    → RefusesGiven image given plan answered (lines_between d old new) reports
+    ⊎ TellsNoSearch (LacksGuest image plan.record.profile) (IsShrinkAnswer image given plan) answered (lines_between d old new) reports
+shrink_stops d answered image plan given old new reports (inl h) = inl (record {
+  refusal = h.0;
+  refuses = h.2.0;
+  status = h.1;
+  told = refusal_is_told h.0 plan reports h.2.4;
+  unprinted = same_is_nothing d.took old.lines new.lines h.2.3;
+})
+shrink_stops d answered image plan given old new reports (inr (before, after, list, is_minimal, is, inl f)) = inr (record {
+  because = fault_is_no_recording Lines failed_is_not_refused f.0;
+  told = (record_fault_words Lines, f.4);
+  printed = inr (shrunk_lines before after list is_minimal, (before, after, list, is_minimal, is, inl refl), f.1.0);
+  unprinted = λ bad. fault_is_not_bad Lines (sym f.0 ∙ bad);
+})
+shrink_stops d answered image plan given old new reports (inr (before, after, list, is_minimal, is, inr s)) =
+    let part = leaves_in_part d s.0 image (by_list plan.record list) old new s.1 reports (shrunk_lines before after list is_minimal) s.3 s.4 in
+    inr (record {
+      because = fault_is_no_recording s.0 (λ r. spelled_lacks_guest _ is.spelled (stopped_lacks_guest s.0 image list (by_list plan.record list)
+          is.guest _ _ _ _ _ _ is.is refl s.4.1 r)) s.2;
+      told = reported_is_told s.0 image _ _ _ reports s.4.0;
+      printed = inr (part.0, (before, after, list, is_minimal, is, part.1), part.2);
+      unprinted = λ bad. fault_is_not_bad s.0 (sym s.2 ∙ bad);
+    })
 
 -- what is looked for, by what was read
 pub search_asked : {at : Paths} {arguments : UntilArguments} {image bytes place input read : List ℕ} {plan : ExplorePlan} {conditions texts : List Condition}
@@ -233,22 +308,24 @@ until_refuses {at} {arguments} {image} {plan} {conditions} asked (inr none) = in
 pub search_misses : {at : Paths} {arguments : UntilArguments} {image : List ℕ} {plan : ExplorePlan} {conditions : List Condition} {told faults : Writer}
     (answered : ExitStatus) (out : Writer) → AsksSearch at arguments image plan conditions → told ≡ faults
     → UntilMisses arguments.hang image plan conditions answered out told
-    → SearchMisses at arguments answered out ⊎ TellsNoSearch (RefusesUntil at arguments) answered faults
+    → SearchMisses at arguments answered out ⊎ TellsNoSearch (RefusesUntil at arguments) (IsSearchAnswerTo at arguments) answered out faults
 search_misses {at} {arguments} {image} {plan} {conditions} answered out asked same (inl h) =
     inl (record { image = image; plan = plan; conditions = conditions; asked = asked; vain = h })
-search_misses {at} {arguments} answered out asked same (inr h) =
-    inr (subst (λ w. TellsNoSearch (RefusesUntil at arguments) answered w) same (refused_since (until_refuses asked) h.0, h.1))
+search_misses {at} {arguments} {image} {plan} {conditions} answered out asked same (inr h) =
+    inr (subst (λ w. TellsNoSearch (RefusesUntil at arguments) (IsSearchAnswerTo at arguments) answered out w) same
+    (none_since (until_refuses asked) (λ text x. (image, plan, conditions, asked, x)) h))
 
 -- what a search comes to, by what it found
 pub search_comes_to : {T : Type 0} (at : Paths) (stored : Storing) (arguments : UntilArguments) (answered : ExitStatus) (out told faults : Writer)
-    (r : Result T ExitStatus) → OnOk r (SearchFinds at stored arguments out) → IfErr r (λ e. SearchMisses at arguments e out ⊎ TellsNoSearch (RefusesUntil at arguments) e told)
+    (r : Result T ExitStatus) → OnOk r (SearchFinds at stored arguments out) → IfErr r (λ e. SearchMisses at arguments e out
+    ⊎ TellsNoSearch (RefusesUntil at arguments) (IsSearchAnswerTo at arguments) e out told)
     → OnOk r (answered ≡ status.Done) → IfErr r (λ e. answered ≡ e) → OnErr r (told ≡ faults) → SearchesFile at stored arguments answered out faults
 search_comes_to at stored arguments answered out told faults (Ok x) found none done stopped kept = inl (done, found)
 search_comes_to at stored arguments answered out told faults (Err e) found (inl none) done stopped kept =
     inr (inl (subst (λ a. SearchMisses at arguments a out) (sym stopped) none))
 search_comes_to at stored arguments answered out told faults (Err e) found (inr none) done stopped kept =
-    inr (inr (subst (λ a. TellsNoSearch (RefusesUntil at arguments) a faults) (sym stopped)
-    (subst (λ w. TellsNoSearch (RefusesUntil at arguments) e w) kept none)))
+    inr (inr (subst (λ a. TellsNoSearch (RefusesUntil at arguments) (IsSearchAnswerTo at arguments) a out faults) (sym stopped)
+    (subst (λ w. TellsNoSearch (RefusesUntil at arguments) (IsSearchAnswerTo at arguments) e out w) kept none)))
 
 -- which run is shrunk, by what was read
 pub shrink_asked : {at : Paths} {arguments : ShrinkArguments} {image bytes file input read : List ℕ} {given : Recorded} {plan : ShrinkPlan} {texts : List Condition}
@@ -277,17 +354,28 @@ pub run_kept_at : {recorded : Recorded} {is_found : List (List ℕ) → List ℕ
 run_kept_at {recorded} {is_found} {one} {other} to same h = subst (λ w. RecordsRun recorded is_found other w) same (run_kept to h)
 
 -- a run isn't shrunk
-pub shrink_refuses : {at : Paths} {arguments : ShrinkArguments} {image : List ℕ} {given : Recorded} {plan : ShrinkPlan} {told faults : Writer} (answered : ExitStatus)
-    → AsksShrink at arguments image given plan → told ≡ faults → RefusesGiven image given plan answered told ⊎ IsStatusOfNoRecording ⊤ answered
-    → ShrinkRefuses at arguments answered faults ⊎ IsStatusOfNoShrinking answered
-shrink_refuses {at} {arguments} {image} {given} {plan} answered asked same (inl h) = inl (record {
+pub shrink_refuses : {at : Paths} {arguments : ShrinkArguments} {image : List ℕ} {given : Recorded} {plan : ShrinkPlan} {said out told faults : Writer}
+    (answered : ExitStatus) → AsksShrink at arguments image given plan → said ≡ out → told ≡ faults
+    → RefusesGiven image given plan answered said told ⊎ TellsNoSearch (LacksGuest image plan.record.profile) (IsShrinkAnswer image given plan) answered said told
+    → ShrinksNothing at arguments answered out faults
+shrink_refuses {at} {arguments} {image} {given} {plan} {said} {out} {told} {faults} answered asked printed same (inl h) = inl (record {
   image = image;
   given = given;
   plan = plan;
   asked = asked;
-  why = subst (λ w. RefusesGiven image given plan answered w) same h;
+  why = subst (λ w. RefusesGiven image given plan answered out w) same (subst (λ w. RefusesGiven image given plan answered w told) printed h);
 })
-shrink_refuses answered asked same (inr h) = inr (inl h)
+shrink_refuses {at} {arguments} {image} {given} {plan} {said} {out} {told} {faults} answered asked printed same (inr h) =
+    let refuses : LacksGuest image plan.record.profile → RefusesShrinking at arguments = λ lacks. inr (
+      asked.file,
+      given,
+      asked.is_file,
+      asked.is_given,
+      inl (inr (image, asked.is_image, subst (λ (p : Plan). LacksGuest image p.profile) asked.is_plan.how lacks)),
+    ) in
+    let none = none_since {b = IsShrinkAnswerTo at arguments} refuses (λ text x. inl (image, given, plan, asked, x)) h in
+    inr (inr (subst (λ w. TellsNoSearch (RefusesShrinking at arguments) (IsShrinkAnswerTo at arguments) answered out w) same
+    (subst (λ w. TellsNoSearch (RefusesShrinking at arguments) (IsShrinkAnswerTo at arguments) answered w told) printed none)))
 
 -- a run that was found is shrunk as the hunt looked for it
 pub found_shrinks : {image : List ℕ} {hunt view : HuntPlan} {given recorded : Recorded} {plan : ShrinkPlan} {is_minimal : Bool} {is_kept : Keeping} {out : Writer}
@@ -297,9 +385,20 @@ found_shrinks {image} {hunt} {view} {given} {recorded} {plan} same is_plan h =
     record { plan = plan; recorded = recorded; is_plan = subst (λ z. IsShrinkPlanOfHunt z given plan) same is_plan; shrunk = h }
 
 -- or it isn't
-pub found_refuses : {image : List ℕ} {hunt view : HuntPlan} {given : Recorded} {plan : ShrinkPlan} {answered : ExitStatus} {faults : Writer}
-    → view ≡ hunt → IsShrinkPlanOfHunt view given plan → RefusesGiven image given plan answered faults ⊎ IsStatusOfNoRecording ⊤ answered
-    → RefusesFound image hunt given answered faults ⊎ IsStatusOfNoRecording ⊤ answered
+pub found_refuses : {image : List ℕ} {hunt view : HuntPlan} {given : Recorded} {plan : ShrinkPlan} {answered : ExitStatus} {out faults : Writer}
+    → view ≡ hunt → IsShrinkPlanOfHunt view given plan
+    → RefusesGiven image given plan answered out faults
+    ⊎ TellsNoSearch (LacksGuest image plan.record.profile) (IsShrinkAnswer image given plan) answered out faults
+    → RefusesFound image hunt given answered out faults ⊎ StopsFound image hunt given answered out
 found_refuses {image} {hunt} {view} {given} {plan} same is_plan (inl h) =
     inl (record { plan = plan; is_plan = subst (λ z. IsShrinkPlanOfHunt z given plan) same is_plan; why = h })
-found_refuses same is_plan (inr h) = inr h
+found_refuses {image} {hunt} {view} {given} {plan} {answered} {out} same is_plan (inr h) = inr (
+  refused_since (λ lacks. subst (λ (p : Plan). LacksGuest image p.profile) is_plan.how lacks) h.because,
+  part_since out (λ text x. (plan, subst (λ z. IsShrinkPlanOfHunt z given plan) same is_plan, x)) h.printed,
+)
+
+-- what a writer holds goes on where it was told how many seeds were left out
+pub left_out_goes_on : (left_out : ℕ) (reports : Writer) {same : Type 0} → (same → reports.after ≡ reports.before) → TellsLeftOut left_out reports same
+    → GoesOn reports.before reports.after
+left_out_goes_on zero reports to told = subst (λ z. GoesOn reports.before z) (sym (to told)) (unchanged_goes_on reports.before)
+left_out_goes_on (suc n) reports to told = told_goes_on told

@@ -1,5 +1,6 @@
 -- What commands read of files, by the bytes that a folder says are at their paths.
-use Rattle.std.specs.Prelude.{◌≡◌, ◌⊎◌, ℕ, List, [], Option, IfSome, IsSomeAnd, MatchOption, Ok, Err, String, if◌then◌else◌}
+use Rattle.std.specs.Prelude.{◌≡◌, ◌⊎◌, ℕ, List, [], Option, IfSome, IsSomeAnd, MatchOption, Ok, Err, String, true, if◌then◌else◌}
+use Rattle.std.specs.Io.KnownBytes.{Appends}
 use Rattle.std.specs.String.{string_bytes}
 use Rattle.ir_elf.specs.declared.refusal.Refusal.{Refusal}
 use Rattle.ir_files.specs.declared.exit_status.ExitStatus.{ExitStatus}
@@ -67,6 +68,14 @@ IsStatusOfNoNames at map answered =
 -- a line tells a fault, in words that are left open
 abbrev pub TellsFault : Writer → Type 0
 TellsFault faults = (words : List ℕ) × Reports faults (fault_text words)
+
+-- that, or faults can't be written any more
+abbrev pub IsTold : Writer → Type 0
+IsTold faults = TellsFault faults ⊎ (faults.failed ≡ true)
+
+-- a writer only took more: what it held before stands, and some bytes follow
+abbrev pub GoesOn : Option (List ℕ) → Option (List ℕ) → Type 0
+GoesOn before after = (more : List ℕ) × Appends before after more
 
 -- a trace was read of its file, and this holds of its bytes
 pub record OfTrace (known : Option (List ℕ)) (P : List ℕ → Type 0) : Type 0 where

@@ -1,7 +1,9 @@
--- What a run that is looked for leaves where it is recorded.
-use Rattle.std.specs.Prelude.{List, ℕ, ◌++◌}
+-- What a run that is looked for leaves where it is recorded, and what may be printed where it isn't.
+use Rattle.std.specs.Prelude.{◌≡◌, ◌⊎◌, List, [], ℕ, ◌++◌}
 use Rattle.ir_files.specs.Writers.{Took, Writer}
-use Rattle.ir_record_command.specs.Recording.{recording_lines}
+use Rattle.ir_record_command.specs.Plan.{Plan}
+use Rattle.ir_record_command.specs.Recording.{IsRecordedOf, recording_lines}
+use Rattle.ir_stream.specs.Answers.{AppendsPrefix}
 use Rattle.ir_trace.specs.Encoding.{encoding}
 use Rattle.ir_trace.specs.Recorded.{Recorded}
 use Rattle.ir_commands.specs.Writing.{Keeping}
@@ -14,3 +16,12 @@ pub record RecordsRun (recorded : Recorded) (is_found : List (List ℕ) → List
   pub found : is_found printed text
   pub kept : is_kept (encoding recorded) printed
   pub lines : Took out (text ++ recording_lines recorded)
+
+-- a text alone, or with the lines of a recording by a plan after it
+abbrev pub IsWithLines : List ℕ → Plan → List ℕ → List ℕ → Type 0
+IsWithLines image plan text whole = (whole ≡ text)
+    ⊎ ((recorded : Recorded) × (printed : List (List ℕ)) × IsRecordedOf image plan recorded printed × (whole ≡ text ++ recording_lines recorded))
+
+-- nothing was printed, or the beginning of such an answer
+abbrev pub PrintsPart : (List ℕ → Type 0) → Writer → Type 0
+PrintsPart is_answer out = Took out [] ⊎ ((text : List ℕ) × is_answer text × AppendsPrefix out.before out.after text)

@@ -17,8 +17,8 @@ use Rattle.ir_files.specs.Writers.{Writer, Took}
 use Rattle.ir_files.specs.declared.exit_status.ExitStatus.{ExitStatus}
 use Rattle.ir_files.specs.declared.exit_status.ExitStatus.TheVariants as status
 use Rattle.ir_hunt.specs.Finding.{IsOrderOfSeed}
-use Rattle.ir_make.specs.Assembling.{image_bytes, masked}
-use Rattle.ir_make.specs.Converting.{elf_image_bytes}
+use Rattle.ir_make.specs.Assembling.{image_bytes, masked, report}
+use Rattle.ir_make.specs.Converting.{elf_image_bytes, refusal_report}
 use Rattle.ir_make.specs.Mapping.{label_symbols}
 use Rattle.ir_record_command.specs.Faults.{RefusesRecord, fault_status}
 use Rattle.ir_record_command.specs.Plan.{Plan}
@@ -32,7 +32,7 @@ use Rattle.ir_symbols.specs.Tables.{IsSortOf}
 use Rattle.ir_trace.specs.Encoding.{encoding}
 use Rattle.ir_trace.specs.Recorded.{Recorded}
 use Rattle.ir_commands.specs.Exploring.{IsInput}
-use Rattle.ir_commands.specs.Files.{IsFileIn, IsImageIn, RefusesGuest, TellsFault}
+use Rattle.ir_commands.specs.Files.{IsFileIn, IsImageIn, IsTold, RefusesGuest, TellsFault}
 use Rattle.ir_commands.specs.Printing.{Paths, LeavesUnread}
 
 -- what is said of files that are written: whether it is known what they are given, that one which was made whole is at a path with these bytes, and the
@@ -55,18 +55,21 @@ pub record Converts (at : Paths) (stored : Storing) (arguments : ElfArguments) :
   pub is_image : elf_image_bytes file ≡ Ok image
   pub stored_image : stored.whole (string_bytes arguments.image) image
 
--- the ELF file is no guest
-pub record RefusesElf (at : Paths) (arguments : ElfArguments) : Type 0 where
+-- the ELF file is no guest, which was reported
+pub record RefusesElf (at : Paths) (arguments : ElfArguments) (faults : Writer) : Type 0 where
   pub file : List ℕ
   pub refusal : Refusal
   pub is_file : IsFileIn (at (string_bytes arguments.elf)) file
   pub is_none : elf_image_bytes file ≡ Err refusal
+  pub explained : Option (List ℕ)
+  pub told : Took faults (refusal_report explained refusal)
 
--- an image was made, or refused, or a fault stopped it, or a file that is read would be lost
-pub record Makes (done refused : Type 0) (answered : ExitStatus) : Type 0 where
+-- an image was made, or refused, or a fault stopped it, or a file that is read would be lost, and a line tells that
+pub record Makes (done refused : Type 0) (answered : ExitStatus) (faults : Writer) : Type 0 where
   pub one : (answered ≡ status.Done) ⊎ ((answered ≡ status.Refused) ⊎ ((answered ≡ status.Failed) ⊎ (answered ≡ status.BadArguments)))
   pub made : answered ≡ status.Done → done
   pub unmade : answered ≡ status.Refused → refused
+  pub told : (answered ≡ status.Failed) ⊎ (answered ≡ status.BadArguments) → IsTold faults
 
 -- the labels of a source are at the path of MAP, where it is given
 abbrev pub StoresLabels : {Z : Type 0} → Storing → Option (String Z) → List ℕ → Type 0
@@ -82,12 +85,14 @@ pub record Assembles (at : Paths) (stored : Storing) (arguments : AssembleArgume
   pub stored_image : stored.whole (string_bytes arguments.image) image
   pub stored_labels : StoresLabels stored arguments.map source
 
--- the source has a fault
-pub record RefusesSource (at : Paths) (arguments : AssembleArguments) : Type 0 where
+-- the source has a fault, which was reported
+pub record RefusesSource (at : Paths) (arguments : AssembleArguments) (faults : Writer) : Type 0 where
   pub source : List ℕ
   pub fault : Fault
   pub is_source : IsFileIn (at (string_bytes arguments.source)) source
   pub is_none : image_bytes source ≡ Err fault
+  pub explained : Option (List ℕ)
+  pub told : Took faults (report explained (map masked source) fault)
 
 -- ---- what a recording leaves
 

@@ -1,6 +1,6 @@
 //! `ir asm`: a source in a file is assembled into another.
 
-ghost use Rattle.std.specs.Prelude.{◌≡◌, ◌⊎◌, List, true, false};
+ghost use Rattle.std.specs.Prelude.{◌≡◌, ◌≢◌, ◌⊎◌, List, true, false};
 ghost use Rattle.ir_files.specs.declared.exit_status.ExitStatus.TheVariants as exit;
 ghost use Rattle.ir_make.specs.Mapping.{label_symbols};
 ghost use Rattle.ir_symbols.specs.Maps.{map_text};
@@ -9,6 +9,8 @@ ghost use Rattle.ir_symbols.specs.Tables.{IsSortOf};
 ghost use Rattle.std.specs.List.{All};
 ghost use Rattle.ir_files.specs.Given.{IsStored};
 ghost use Rattle.ir_make.specs.Mapping.{IsNamed};
+ghost use Rattle.ir_files.specs.Writers.{writer_of};
+ghost use Rattle.ir_commands.specs.Files.{IsTold, TellsFault};
 ghost use Rattle.ir_commands.specs.Writing.{Assembles, Makes, RefusesSource, storing};
 
 use crate::files::{bytes_of, is_lost, shown_path, told_of_file};
@@ -23,6 +25,7 @@ use std::alloc::Global;
 // Whether a file would be written over one that is read, or over another that is written, which is reported.
 fn loses_file<D: Folder, E: Sink>(folder: &D, faults: &mut E, arguments: &AssembleArguments) -> bool
     ensures kept { result ≡ false → faults.new ≡ faults.old }
+    ensures told { result ≡ true → E.broken faults.old ≡ false → TellsFault (writer_of (E.written faults.old) (E.written faults.new) (E.broken faults.new)) }
 {
     let source = arguments.source.as_str();
     let image = arguments.image.as_str();
@@ -51,8 +54,10 @@ fn put_labels<D: Folder, E: Sink>(
     map: &str,
     faults: &mut E,
 ) -> ExitStatus
-    requires { All IsNamed labels.now }
+    requires names { All IsNamed labels.now }
+    requires reports { E.broken faults.old ≡ false }
     ensures status { (result ≡ exit.Done) ⊎ ((result ≡ exit.Failed) ⊎ (result ≡ exit.BadArguments)) }
+    ensures told { result ≢ exit.Done → IsTold (writer_of (E.written faults.old) (E.written faults.new) (E.broken faults.new)) }
     ensures done { result ≡ exit.Done → (table : List Symbol) × IsSortOf (label_symbols labels.now) table × IsStored D.known (D.knows folder.now) (D.was_put folder.now) map.now (map_text table) }
 {
     let would = "MAP would be written over IMAGE";
@@ -72,7 +77,8 @@ pub fn assemble_file<D: Folder, E: Sink>(
 ) -> ExitStatus
     requires reports { E.broken faults.old ≡ false }
     ensures { Makes (Assembles (D.bytes_at folder.now) (storing D.known D.known_closed (D.knows folder.now) (D.was_put folder.now)) arguments.now)
-        (RefusesSource (D.bytes_at folder.now) arguments.now) result }
+        (RefusesSource (D.bytes_at folder.now) arguments.now (writer_of (E.written faults.old) (E.written faults.new) (E.broken faults.new))) result
+        (writer_of (E.written faults.old) (E.written faults.new) (E.broken faults.new)) }
 {
     if loses_file(folder, faults, arguments) {
         return ExitStatus::BadArguments;

@@ -84,6 +84,7 @@ pub fn texts_of<E: Sink>(
 ) -> Result<Vec<String>, ExitStatus>
     ensures kept { OnOk result (faults.new ≡ faults.old) }
     ensures status { IfErr result (λ answered. answered ≡ exit.Failed) }
+    ensures told { OnErr result (E.broken faults.old ≡ false → TellsFault (writer_of (E.written faults.old) (E.written faults.new) (E.broken faults.new))) }
 {
     match copied_texts(alloc, texts) {
         Ok(copies) => Ok(copies),

@@ -1,6 +1,8 @@
 //! `ir elf`: a program in an ELF file is made the image of a guest in another.
 
-ghost use Rattle.std.specs.Prelude.{◌≡◌, false};
+ghost use Rattle.std.specs.Prelude.{◌≡◌, ◌≢◌, false};
+ghost use Rattle.ir_files.specs.Writers.{writer_of};
+ghost use Rattle.ir_files.specs.declared.exit_status.ExitStatus.TheVariants as exit;
 ghost use Rattle.ir_commands.specs.Writing.{Converts, Makes, RefusesElf, storing};
 
 use crate::files::{bytes_of, is_lost, say, shown_path, told_of_file};
@@ -11,8 +13,20 @@ use ir_make::elf_run;
 use ir_stream::Sink;
 use std::alloc::Global;
 
-// Reports how many bytes of variables each thread has for itself, if it has any.
-fn tell_own_bytes<E: Sink>(alloc: Global, elf: &str, file: &[u8], faults: &mut E) {
+// Reports how many bytes of variables each thread of a guest has for itself, if it has any.
+fn tell_own_bytes<E: Sink>(
+    alloc: Global,
+    elf: &str,
+    file: &[u8],
+    status: ExitStatus,
+    explains: bool,
+    faults: &mut E,
+)
+    ensures { status ≢ exit.Done → faults.new ≡ faults.old }
+{
+    if status != ExitStatus::Done || !explains {
+        return;
+    }
     if let Ok(count) = own_bytes(alloc, file)
         && count > 0
         && let Ok(what) = format!(in alloc;
@@ -33,7 +47,8 @@ pub fn convert_file<D: Folder, E: Sink>(
 ) -> ExitStatus
     requires reports { E.broken faults.old ≡ false }
     ensures { Makes (Converts (D.bytes_at folder.now) (storing D.known D.known_closed (D.knows folder.now) (D.was_put folder.now)) arguments.now)
-        (RefusesElf (D.bytes_at folder.now) arguments.now) result }
+        (RefusesElf (D.bytes_at folder.now) arguments.now (writer_of (E.written faults.old) (E.written faults.new) (E.broken faults.new))) result
+        (writer_of (E.written faults.old) (E.written faults.new) (E.broken faults.new)) }
 {
     let elf = arguments.elf.as_str();
     let image = arguments.image.as_str();
@@ -53,8 +68,7 @@ pub fn convert_file<D: Folder, E: Sink>(
     let explained = (explains || arguments.explain).then_some(shown_path(elf, "ELF"));
     let status = elf_run(alloc, bytes.as_slice(), explained, &mut file, faults);
     let status = told_of_file(&file, status, elf, faults);
-    if status == ExitStatus::Done && explained.is_some() {
-        tell_own_bytes(alloc, elf, bytes.as_slice(), faults);
-    }
+    let file = bytes.as_slice();
+    tell_own_bytes(alloc, elf, file, status, explained.is_some(), faults);
     status
 }

@@ -3,6 +3,7 @@
 ghost use Rattle.std.specs.Prelude.{◌≡◌, IfErr, OnErr, OnOk, Some};
 ghost use Rattle.std.specs.List.{list_all};
 ghost use Rattle.ir_schedule.specs.Conditions.{exits_with};
+ghost use Rattle.ir_commands.specs.Files.{GoesOn};
 ghost use Rattle.ir_files.specs.declared.exit_status.ExitStatus.TheVariants as status;
 
 use crate::files::say;
@@ -68,8 +69,10 @@ fn has_unknown_call(trace: &Trace) -> bool {
             .any(|thread| thread.end() == End::UnknownCall)
 }
 
-/// Reports each other end, in a line each. If a call was unknown that the second profile may have, that is said.
-pub fn tell_ends<E: Sink>(alloc: Global, trace: &Trace, faults: &mut E) {
+// Reports each other end, in a line each.
+fn tell_each<E: Sink>(alloc: Global, trace: &Trace, faults: &mut E)
+    ensures { GoesOn (E.written faults.old) (E.written faults.new) }
+{
     for (number, thread) in trace.threads().iter().enumerate() {
         if thread.end() != End::Exit(0) {
             if let Ok(line) = line(alloc, number, thread.end()) {
@@ -77,6 +80,13 @@ pub fn tell_ends<E: Sink>(alloc: Global, trace: &Trace, faults: &mut E) {
             }
         }
     }
+}
+
+/// Reports each other end, in a line each. If a call was unknown that the second profile may have, that is said.
+pub fn tell_ends<E: Sink>(alloc: Global, trace: &Trace, faults: &mut E)
+    ensures { GoesOn (E.written faults.old) (E.written faults.new) }
+{
+    tell_each(alloc, trace, faults);
     if has_unknown_call(trace) {
         say(faults, "TRY_WRITE is a call with --profile 2 only", "", "");
     }
@@ -92,6 +102,7 @@ pub fn recorded_status<E: Sink>(
     ensures done { OnOk recorded (result ≡ status.Done) }
     ensures stopped { IfErr recorded (λ status. result ≡ status) }
     ensures kept { OnErr recorded (faults.new ≡ faults.old) }
+    ensures grows { GoesOn (E.written faults.old) (E.written faults.new) }
 {
     match recorded {
         Ok(recorded) => {

@@ -3,7 +3,7 @@
 ghost use Rattle.std.specs.Prelude.{◌≡◌, ◌≢◌, ◌⊎◌, OnSome, OnOk, OnErr, IfSome, IfOk, IfErr, Ok, None, true, false};
 ghost use Rattle.ir_files.specs.Writers.{writer_of};
 ghost use Rattle.ir_files.specs.declared.exit_status.ExitStatus.TheVariants as exit;
-ghost use Rattle.ir_commands.specs.Files.{IsImageIn, IsFileIn, IsNoGuest, IsStatusOfNone, TellsFault};
+ghost use Rattle.ir_commands.specs.Files.{GoesOn, IsImageIn, IsFileIn, IsNoGuest, IsStatusOfNone, IsTold, TellsFault};
 ghost use Rattle.ir_make.specs.Opening.{image_bytes};
 
 use ir_elf::ElfErr;
@@ -16,6 +16,8 @@ use std::alloc::Global;
 pub fn say<E: Sink>(faults: &mut E, name: &str, what: &str, why: &str)
     ensures told { E.broken faults.old ≡ false → TellsFault (writer_of (E.written faults.old) (E.written faults.new) (E.broken faults.new)) }
     ensures kept { E.broken faults.old ≡ true → faults.new ≡ faults.old }
+    ensures says { IsTold (writer_of (E.written faults.old) (E.written faults.new) (E.broken faults.new)) }
+    ensures grows { GoesOn (E.written faults.old) (E.written faults.new) }
 {
     if !faults.failed() {
         tell_of(faults, "", name, what, why);
@@ -103,7 +105,8 @@ pub fn explain_image<D: Folder, E: Sink>(
     status: ExitStatus,
     faults: &mut E,
 )
-    ensures { status ≢ exit.Refused → faults.new ≡ faults.old }
+    ensures kept { status ≢ exit.Refused → faults.new ≡ faults.old }
+    ensures grows { GoesOn (E.written faults.old) (E.written faults.new) }
 {
     if status != ExitStatus::Refused {
         return;
@@ -158,6 +161,10 @@ pub fn told_of_file<W: WholeSink, E: Sink>(
     ensures status { (result ≡ status) ⊎ (result ≡ exit.Failed) }
     ensures done { result ≡ exit.Done → status ≡ exit.Done }
     ensures refused { result ≡ exit.Refused → status ≡ exit.Refused }
+    ensures failed { result ≡ exit.Failed → status ≢ exit.Failed → W.broken file.now ≡ true }
+    ensures told { result ≡ exit.Failed → IsTold (writer_of (E.written faults.old) (E.written faults.new) (E.broken faults.new)) }
+    ensures kept { result ≢ exit.Failed → faults.new ≡ faults.old }
+    ensures stays { E.broken faults.old ≡ true → E.broken faults.new ≡ true }
 {
     if file.failed() {
         say(faults, file.name(), " can't be written: ", file.why());

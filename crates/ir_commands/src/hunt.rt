@@ -1,12 +1,12 @@
 //! `ir hunt`: the first of many seeds whose run fulfils conditions is recorded.
 
-ghost use Rattle.std.specs.Prelude.{◌≡◌, ◌⊎◌, IfErr, IfOk, OnErr, OnOk, false, true, option_map, ⊤};
+ghost use Rattle.std.specs.Prelude.{◌≡◌, ◌⊎◌, IfErr, IfOk, OnErr, OnOk, false, true, option_map};
 ghost use Rattle.std.specs.String.{string_bytes};
 ghost use Rattle.ir_files.specs.Writers.{writer_of};
 ghost use Rattle.ir_files.specs.declared.exit_status.ExitStatus.TheVariants as exit;
-ghost use Rattle.ir_commands.specs.Files.{LacksGuest};
-ghost use Rattle.ir_commands.specs.Searching.{EndsFound, HuntsFile, IsSeedFound, RefusesFound, RefusesSearch, ShrinksFound, TellsNoSearch, TellsNoSeed};
-ghost use Rattle.ir_commands.specs.Writing.{KeptAt, storing, texts_of_paths, IsStatusOfNoRecording};
+ghost use Rattle.ir_commands.specs.Files.{GoesOn, LacksGuest};
+ghost use Rattle.ir_commands.specs.Searching.{EndsFound, HuntsFile, IsHuntAnswer, IsHuntAnswerTo, IsSeedFound, RefusesFound, RefusesSearch, ShrinksFound, StopsFound, TellsNoSearch, TellsNoSeed};
+ghost use Rattle.ir_commands.specs.Writing.{KeptAt, storing, texts_of_paths};
 
 use crate::conditions::texts_of;
 use crate::ends::recorded_status;
@@ -59,7 +59,7 @@ impl<R: Threads + Sync + Clock + Eprint + AllocGlobal> RunSought for Hunted<'_, 
     ghost is_found = { λ hunted recorded. IsSeedFound hunted.image.now hunted.plan.now recorded };
 
     ghost is_missed = { λ hunted answered out reports. TellsNoSeed hunted.image.now hunted.plan.now answered out reports
-        ⊎ TellsNoSearch (LacksGuest hunted.image.now hunted.plan.now.record.profile) answered reports };
+        ⊎ TellsNoSearch (LacksGuest hunted.image.now hunted.plan.now.record.profile) (IsHuntAnswer hunted.image.now hunted.plan.now) answered out reports };
 
     fn recorded<W: WholeSink, P: OutputSink, O: Sink, E: Sink>(
         &self,
@@ -86,7 +86,9 @@ fn shrunk<'a, R: Clock + Eprint + AllocGlobal, D: Folder, G, O: Sink, E: Sink>(
         (KeptAt (storing D.known D.known_closed (D.knows around.now.folder.now) (D.was_put around.now.folder.now)) places.entry.trace.now (texts_of_paths places.entry.outputs))
         (writer_of (O.written out.old) (O.written out.new) (O.broken out.new))) }
     ensures stopped { IfErr result (λ answered. RefusesFound hunted.entry.image.now hunted.entry.plan.now found.now answered
-        (writer_of (E.written faults.old) (E.written faults.new) (E.broken faults.new)) ⊎ IsStatusOfNoRecording ⊤ answered) }
+        (writer_of (O.written out.old) (O.written out.new) (O.broken out.new)) (writer_of (E.written faults.old) (E.written faults.new) (E.broken faults.new))
+        ⊎ StopsFound hunted.entry.image.now hunted.entry.plan.now found.now answered (writer_of (O.written out.old) (O.written out.new) (O.broken out.new))) }
+    ensures grows { OnOk result (GoesOn (E.written faults.old) (E.written faults.new)) }
 {
     let until = hunted.arguments.until.as_slice();
     let texts = texts_of(around.rt.alloc(), faults, until)?;
@@ -153,7 +155,7 @@ where
     ensures stopped { IfErr found (λ status. result ≡ status) }
     ensures quiet { OnErr found (out.new ≡ out.old) }
     ensures kept { OnErr found (faults.new ≡ faults.old) }
-    ensures done { hunted.entry.arguments.now.shrinks ≡ false → OnOk found ((result ≡ exit.Done) × (out.new ≡ out.old)) }
+    ensures done { hunted.entry.arguments.now.shrinks ≡ false → OnOk found ((result ≡ exit.Done) × (out.new ≡ out.old) × GoesOn (E.written faults.old) (E.written faults.new)) }
     ensures shrunk { hunted.entry.arguments.now.shrinks ≡ true → IfOk found (λ given. EndsFound hunted.entry.image.now hunted.entry.plan.now given
         (KeptAt (storing D.known D.known_closed (D.knows around.now.folder.now) (D.was_put around.now.folder.now)) places.entry.trace.now (texts_of_paths places.entry.outputs)) result
         (writer_of (O.written out.old) (O.written out.new) (O.broken out.new)) (writer_of (E.written faults.old) (E.written faults.new) (E.broken faults.new))) }
@@ -185,7 +187,8 @@ fn hunted_by<R: Threads + Sync + Clock + Eprint + AllocGlobal, D: Folder, G, O: 
         (storing D.known D.known_closed (D.knows around.now.folder.now) (D.was_put around.now.folder.now))
         arguments.now answered (writer_of (O.written out.old) (O.written out.new) (O.broken out.new)) (writer_of (E.written faults.old) (E.written faults.new) (E.broken faults.new))) }
     ensures stopped { IfErr result (λ answered. TellsNoSearch (RefusesSearch (D.bytes_at around.now.folder.now (string_bytes arguments.now.image)) arguments.now.options.profile
-        arguments.now.until.items) answered (writer_of (E.written faults.old) (E.written faults.new) (E.broken faults.new))) }
+        arguments.now.until.items) (IsHuntAnswerTo (D.bytes_at around.now.folder.now) arguments.now) answered (writer_of (O.written out.old) (O.written out.new) (O.broken out.new))
+        (writer_of (E.written faults.old) (E.written faults.new) (E.broken faults.new))) }
 {
     let paths = paths(arguments);
     let image = image_of(around, faults, &paths)?;

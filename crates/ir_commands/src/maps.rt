@@ -11,7 +11,7 @@ ghost use Rattle.ir_symbols.specs.Symbols.{Symbol};
 ghost use Rattle.ir_make.specs.Opening.{is_elf};
 ghost use Rattle.ir_files.specs.Writers.{writer_of};
 ghost use Rattle.ir_files.specs.declared.exit_status.ExitStatus.TheVariants as exit;
-ghost use Rattle.ir_commands.specs.Files.{AreNames, IsStatusOfNoNames, map_status, TellsFault};
+ghost use Rattle.ir_commands.specs.Files.{AreNames, IsStatusOfNoNames, IsTold, map_status, TellsFault};
 
 use crate::files::{bytes_of, say, told_of_file};
 use ir_asm::Labels;
@@ -96,6 +96,7 @@ pub fn labels_into<D: Folder, E: Sink>(
 ) -> ExitStatus
     requires { All IsNamed labels.now }
     ensures status { (result ≡ exit.Done) ⊎ (result ≡ exit.Failed) }
+    ensures told { result ≡ exit.Failed → IsTold (writer_of (E.written faults.old) (E.written faults.new) (E.broken faults.new)) }
     ensures done { result ≡ exit.Done → (table : List Symbol) × IsSortOf (label_symbols labels.now) table × IsStored D.known (D.knows folder.now) (D.was_put folder.now) path.now (map_text table) }
 {
     let mut file = WholeFile::new(alloc, folder, path);

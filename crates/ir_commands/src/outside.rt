@@ -5,7 +5,7 @@ ghost use Rattle.std.specs.String.{string_bytes};
 ghost use Rattle.ir_files.specs.Writers.{writer_of};
 ghost use Rattle.ir_within.specs.Plans.{comparison_of};
 ghost use Rattle.ir_commands.specs.Files.{LacksGuest};
-ghost use Rattle.ir_commands.specs.Outside.{FindsOutside, IsOutsideFound, MissesOutside, OutsideFile, RefusesEither, TellsNoneOutside};
+ghost use Rattle.ir_commands.specs.Outside.{FindsOutside, IsComparisonAnswer, IsComparisonAnswerTo, IsOutsideFound, MissesOutside, OutsideFile, RefusesEither, TellsNoneOutside};
 ghost use Rattle.ir_commands.specs.Searching.{TellsNoSearch};
 ghost use Rattle.ir_commands.specs.Writing.{storing};
 
@@ -56,7 +56,7 @@ impl<R: Clock + AllocGlobal, G: Observer> RunSought for Outside<'_, R, G> {
 
     ghost is_missed = { λ sought answered out reports. TellsNoneOutside (comparison_of sought.plan.now) answered out ⊎ TellsNoSearch
         (LacksGuest (comparison_of sought.plan.now).image sought.plan.now.explore.profile ⊎ LacksGuest (comparison_of sought.plan.now).other sought.plan.now.explore.profile)
-        answered reports };
+        (IsComparisonAnswer (comparison_of sought.plan.now)) answered out reports };
 
     fn recorded<W: WholeSink, P: OutputSink, O: Sink, E: Sink>(
         &self,
@@ -81,7 +81,8 @@ fn outside_by<R: Clock + AllocGlobal, D: Folder, G: Observer, O: Sink, E: Sink>(
         (storing D.known D.known_closed (D.knows around.now.folder.now) (D.was_put around.now.folder.now)) arguments.now
         (writer_of (O.written out.old) (O.written out.new) (O.broken out.new))) }
     ensures none { IfErr result (λ answered. MissesOutside (D.bytes_at around.now.folder.now) arguments.now answered
-        (writer_of (O.written out.old) (O.written out.new) (O.broken out.new)) ⊎ TellsNoSearch (RefusesEither (D.bytes_at around.now.folder.now) arguments.now) answered
+        (writer_of (O.written out.old) (O.written out.new) (O.broken out.new)) ⊎ TellsNoSearch (RefusesEither (D.bytes_at around.now.folder.now) arguments.now)
+        (IsComparisonAnswerTo (D.bytes_at around.now.folder.now) arguments.now) answered (writer_of (O.written out.old) (O.written out.new) (O.broken out.new))
         (writer_of (E.written faults.old) (E.written faults.new) (E.broken faults.new))) }
 {
     let (alloc, folder, within) = (around.rt.alloc(), around.folder, &arguments.within);

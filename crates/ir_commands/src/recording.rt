@@ -94,6 +94,7 @@ pub fn recorded_into<R: AllocGlobal, D: Folder, G, S: RunSought, O: Sink, E: Sin
     ensures found { IfOk result (λ run. RecordsRun (S.trace_of run) (S.is_found sought.now run (writer_of (E.written faults.old) (E.written faults.new) (E.broken faults.new)))
         (KeptAt (storing D.known D.known_closed (D.knows around.now.folder.now) (D.was_put around.now.folder.now)) places.entry.trace.now (texts_of_paths places.entry.outputs))
         (writer_of (O.written out.old) (O.written out.new) (O.broken out.new))) }
+    ensures grows { OnOk result (GoesOn (E.written faults.old) (E.written faults.new)) }
     ensures none { IfErr result (λ answered. S.is_missed sought.now answered (writer_of (O.written out.old) (O.written out.new) (O.broken out.new))
         (writer_of (E.written faults.old) (E.written faults.new) (E.broken faults.new))) }
 {

@@ -1,11 +1,15 @@
 //! `ir shrink`: a recorded run is shrunk to one with fewer context switches.
 
-ghost use Rattle.std.specs.Prelude.{◌≡◌, ◌⊎◌, None, Ok, IfErr, IfOk, OnOk, false, option_map, ⊤};
+ghost use Rattle.std.specs.Prelude.{◌≡◌, ◌⊎◌, None, Ok, IfErr, IfOk, IfSome, OnErr, OnOk, false, true, option_map};
 ghost use Rattle.std.specs.String.{string_bytes};
 ghost use Rattle.ir_files.specs.Writers.{writer_of};
+ghost use Rattle.ir_files.specs.declared.exit_status.ExitStatus.TheVariants as exit;
 ghost use Rattle.ir_trace.specs.Recorded.{recorded_at};
-ghost use Rattle.ir_commands.specs.Files.{IsFileIn, IsImageIn};
-ghost use Rattle.ir_commands.specs.Searching.{IsRunShrunk, IsStatusOfNoShrinking, RefusesGiven, ShrinkRefuses, ShrinksFile, ShrinksTo, shrunk_status as shrunk_answer};
+ghost use Rattle.ir_opened.specs.Answers.{IsUnfitRefusal};
+ghost use Rattle.ir_files.specs.declared.exit_status.ExitStatus.{ExitStatus};
+ghost use Rattle.ir_commands.specs.Files.{GoesOn, IsFileIn, IsImageIn, IsNoGuest, LacksGuest, TellsFault};
+ghost use Rattle.ir_commands.specs.Searching.{IsRunShrunk, IsShrinkAnswer, PrintsUnfit, RefusesGiven, ShrinksFile, ShrinksNothing, ShrinksTo, TellsNoSearch, shrunk_status as shrunk_answer};
+ghost use Rattle.ir_commands.specs.Sought.{PrintsPart};
 ghost use Rattle.ir_commands.specs.Writing.{storing, IsStatusOfNoRecording};
 
 use crate::conditions::texts_of;
@@ -45,6 +49,7 @@ fn paths(arguments: &ShrinkArguments) -> RecordingPaths<'_>
 // Whether a file that is read would be lost by what is written, which is reported.
 fn loses_given<D: Folder, E: Sink>(folder: &D, faults: &mut E, arguments: &ShrinkArguments) -> bool
     ensures kept { result ≡ false → faults.new ≡ faults.old }
+    ensures told { result ≡ true → E.broken faults.old ≡ false → TellsFault (writer_of (E.written faults.old) (E.written faults.new) (E.broken faults.new)) }
 {
     let (trace, out) = (arguments.trace.as_str(), arguments.out.as_str());
     is_lost(
@@ -72,7 +77,8 @@ fn given_by<R: AllocGlobal, D: Folder, G, E: Sink>(
     ensures kept { OnOk result (faults.new ≡ faults.old) }
     ensures image { IfOk result (λ given. IsImageIn (D.bytes_at around.now.folder.now (string_bytes arguments.now.image)) given.image.items) }
     ensures trace { IfOk result (λ given. IsFileIn (D.bytes_at around.now.folder.now (string_bytes arguments.now.trace)) given.trace.items) }
-    ensures status { IfErr result (IsStatusOfNoRecording ⊤) }
+    ensures status { IfErr result (IsStatusOfNoRecording (IfSome (D.bytes_at around.now.folder.now (string_bytes arguments.now.image)) IsNoGuest)) }
+    ensures told { OnErr result (E.broken faults.old ≡ false → TellsFault (writer_of (E.written faults.old) (E.written faults.new) (E.broken faults.new))) }
 {
     let (alloc, folder) = (around.rt.alloc(), around.folder);
     if loses_given(folder, faults, arguments) {
@@ -93,11 +99,15 @@ fn fitting_trace<O: Sink, E: Sink>(
     out: &mut O,
     faults: &mut E,
 ) -> Result<Trace, ExitStatus>
-    requires { O.broken out.old ≡ false }
+    requires writes { O.broken out.old ≡ false }
+    requires reports { E.broken faults.old ≡ false }
     ensures kept { OnOk result (faults.new ≡ faults.old) }
     ensures quiet { OnOk result (out.new ≡ out.old) }
     ensures reads { IfOk result (λ trace. recorded_at given.now.trace.items ≡ Ok trace) }
-    ensures status { IfErr result IsStatusOfNoShrinking }
+    ensures stopped { IfErr result (λ answered. PrintsUnfit given.now.image.items given.now.trace.items answered (writer_of (O.written out.old) (O.written out.new) (O.broken out.new))
+        ⊎ ((answered ≡ exit.Failed) × TellsFault (writer_of (E.written faults.old) (E.written faults.new) (E.broken faults.new))
+        × PrintsPart (λ text. (status : ExitStatus) × IsUnfitRefusal given.now.image.items given.now.trace.items status text)
+        (writer_of (O.written out.old) (O.written out.new) (O.broken out.new)))) }
 {
     let (image, trace) = (given.image.as_slice(), given.trace.as_slice());
     match open_fit(alloc, image, trace) {
@@ -158,8 +168,8 @@ impl<R: Clock + Eprint + AllocGlobal> RunSought for Shrinking<'_, R> {
 
     ghost is_found = { λ sought shrunk reports. IsRunShrunk sought.image.now sought.trace.now sought.plan.now shrunk.is_minimal shrunk.trace };
 
-    ghost is_missed = { λ sought answered out reports.
-        RefusesGiven sought.image.now sought.trace.now sought.plan.now answered reports ⊎ IsStatusOfNoRecording ⊤ answered };
+    ghost is_missed = { λ sought answered out reports. RefusesGiven sought.image.now sought.trace.now sought.plan.now answered out reports
+        ⊎ TellsNoSearch (LacksGuest sought.image.now sought.plan.now.record.profile) (IsShrinkAnswer sought.image.now sought.trace.now sought.plan.now) answered out reports };
 
     fn recorded<W: WholeSink, P: OutputSink, O: Sink, E: Sink>(
         &self,
@@ -182,7 +192,8 @@ pub fn shrunk_status<E: Sink>(
     shrunk: &Shrunk,
     faults: &mut E,
 ) -> ExitStatus
-    ensures { result ≡ shrunk_answer shrunk.now.is_minimal }
+    ensures status { result ≡ shrunk_answer shrunk.now.is_minimal }
+    ensures grows { GoesOn (E.written faults.old) (E.written faults.new) }
 {
     if explains {
         tell_ends(alloc, &shrunk.trace, faults);
@@ -231,8 +242,8 @@ fn shrunk_by<R: Clock + Eprint + AllocGlobal, D: Folder, G, O: Sink, E: Sink>(
     requires reports { E.broken faults.old ≡ false }
     ensures done { IfOk result (λ shrunk. ShrinksTo (D.bytes_at around.now.folder.now) (storing D.known D.known_closed (D.knows around.now.folder.now) (D.was_put around.now.folder.now))
         arguments.now shrunk.is_minimal (writer_of (O.written out.old) (O.written out.new) (O.broken out.new))) }
-    ensures stopped { IfErr result (λ answered. ShrinkRefuses (D.bytes_at around.now.folder.now) arguments.now answered
-        (writer_of (E.written faults.old) (E.written faults.new) (E.broken faults.new)) ⊎ IsStatusOfNoShrinking answered) }
+    ensures stopped { IfErr result (λ answered. ShrinksNothing (D.bytes_at around.now.folder.now) arguments.now answered
+        (writer_of (O.written out.old) (O.written out.new) (O.broken out.new)) (writer_of (E.written faults.old) (E.written faults.new) (E.broken faults.new))) }
 {
     let alloc = around.rt.alloc();
     let given = given_by(around, faults, arguments)?;

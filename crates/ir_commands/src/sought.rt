@@ -6,6 +6,7 @@ ghost use Rattle.ir_files.specs.Outputs.{TookEach, output_writer_of};
 ghost use Rattle.ir_files.specs.Writers.{Writer, writer_of};
 ghost use Rattle.ir_files.specs.declared.exit_status.ExitStatus.{ExitStatus};
 ghost use Rattle.ir_trace.specs.Recorded.{Recorded};
+ghost use Rattle.ir_commands.specs.Files.{GoesOn};
 ghost use Rattle.ir_commands.specs.Sought.{RecordsRun};
 
 use ir_files::{ExitStatus, OutputSink, WholeSink};
@@ -46,6 +47,7 @@ pub trait RunSought {
             (writer_of (O.written out.old) (O.written out.new) (O.broken out.new))) }
         ensures none { IfErr result (λ answered. is_missed self.now answered (writer_of (O.written out.old) (O.written out.new) (O.broken out.new))
             (writer_of (E.written faults.old) (E.written faults.new) (E.broken faults.new))) }
+        ensures grows { OnOk result (GoesOn (E.written faults.old) (E.written faults.new)) }
         ensures whole { OnOk result (W.whole files.new.trace ≡ true) }
         ensures home { W.home files.new.trace ≡ W.home files.old.trace }
         ensures places { P.home files.new.outputs ≡ P.home files.old.outputs };

@@ -3,7 +3,7 @@
 ghost use Rattle.std.specs.Prelude.{◌≡◌, ◌⊎◌, IfErr, OnOk, false, option_map};
 ghost use Rattle.std.specs.String.{string_bytes};
 ghost use Rattle.ir_files.specs.Writers.{writer_of};
-ghost use Rattle.ir_commands.specs.Searching.{IsRunFound, RefusesUntil, SearchFinds, SearchesFile, SearchMisses, TellsNoSearch, UntilMisses};
+ghost use Rattle.ir_commands.specs.Searching.{IsRunFound, IsSearchAnswerTo, RefusesUntil, SearchFinds, SearchesFile, SearchMisses, TellsNoSearch, UntilMisses};
 ghost use Rattle.ir_commands.specs.Writing.{storing};
 
 use crate::ends::recorded_status;
@@ -88,7 +88,8 @@ fn found_by<R: Clock + AllocGlobal, D: Folder, G: Observer, O: Sink, E: Sink>(
         (storing D.known D.known_closed (D.knows around.now.folder.now) (D.was_put around.now.folder.now)) arguments.now
         (writer_of (O.written out.old) (O.written out.new) (O.broken out.new))) }
     ensures none { IfErr result (λ answered. SearchMisses (D.bytes_at around.now.folder.now) arguments.now answered
-        (writer_of (O.written out.old) (O.written out.new) (O.broken out.new)) ⊎ TellsNoSearch (RefusesUntil (D.bytes_at around.now.folder.now) arguments.now) answered
+        (writer_of (O.written out.old) (O.written out.new) (O.broken out.new)) ⊎ TellsNoSearch (RefusesUntil (D.bytes_at around.now.folder.now) arguments.now)
+        (IsSearchAnswerTo (D.bytes_at around.now.folder.now) arguments.now) answered (writer_of (O.written out.old) (O.written out.new) (O.broken out.new))
         (writer_of (E.written faults.old) (E.written faults.new) (E.broken faults.new))) }
 {
     let paths = paths(arguments);

@@ -96,15 +96,15 @@ abbrev pub TellsWhyNot : ExitStatus → ExitStatus → Writer → Type 0 → Typ
 TellsWhyNot of_it answered faults unprinted = (answered ≡ of_it) × unprinted × TellsFault faults
 
 -- an image was made of another file
-abbrev pub MakesImage : Paths → Storing → Make → ExitStatus → Type 0
-MakesImage at stored (made.Source a) answered = Makes (Assembles at stored a) (RefusesSource at a) answered
-MakesImage at stored (made.Elf a) answered = Makes (Converts at stored a) (RefusesElf at a) answered
+abbrev pub MakesImage : Paths → Storing → Make → ExitStatus → Writer → Type 0
+MakesImage at stored (made.Source a) answered faults = Makes (Assembles at stored a) (RefusesSource at a faults) answered faults
+MakesImage at stored (made.Elf a) answered faults = Makes (Converts at stored a) (RefusesElf at a faults) answered faults
 
 -- What the program did for a request: it ended with this status, had this input left before, and these took what it wrote.
 abbrev pub Does : Paths → Storing → Asked → ExitStatus → Option (List ℕ) → Writer → Writer → Type 0 → Type 0
 Does at stored asked.Session answered input out faults unprinted =
     (reader : TakenReader) × (reader.before ≡ input) × HeldBundle answered reader out unprinted
-Does at stored (asked.Make what) answered input out faults unprinted = MakesImage at stored what answered
+Does at stored (asked.Make what) answered input out faults unprinted = MakesImage at stored what answered faults × unprinted
 Does at stored (asked.Record a) answered input out faults unprinted = RecordsFile at stored a answered out faults unprinted
 Does at stored (asked.Debug a) answered input out faults unprinted = HoldsSession at a answered input out faults unprinted
 Does at stored (asked.Gdb a) answered input out faults unprinted = HoldsConnection at a answered input out faults unprinted

@@ -3,6 +3,7 @@ use Rattle.std.specs.Prelude.{◌≡◌, ◌≢◌, ℕ, List, Option}
 use Rattle.ir_arguments.specs.Parsing.{IsAskedBy}
 use Rattle.ir_arguments.specs.Views.{request_view}
 use Rattle.ir_arguments.specs.declared.asked.Asked.{Asked}
+use Rattle.ir_commands.specs.Files.{GoesOn}
 use Rattle.ir_commands.specs.Printing.{Paths}
 use Rattle.ir_commands.specs.Writing.{Storing}
 use Rattle.ir_files.specs.Writers.{Writer}
@@ -17,5 +18,7 @@ pub record ServesWords (at : Paths) (stored : Storing) (words : List (List ℕ))
   pub asked : Asked
   pub is_asked : IsAskedBy words (request_view asked)
   pub told : Writer
+  pub begins : told.before ≡ faults.before
   pub done : Does at stored asked answered input out told unprinted
+  pub goes_on : GoesOn told.after faults.after
   pub no_more : answered ≢ Refused → told ≡ faults

@@ -4,7 +4,7 @@ ghost use Rattle.std.specs.Prelude.{◌≡◌, ◌≢◌, false, map};
 ghost use Rattle.std.specs.String.{string_bytes};
 ghost use Rattle.ir_files.specs.Writers.{writer_of};
 ghost use Rattle.ir_files.specs.declared.exit_status.ExitStatus.TheVariants as exit;
-ghost use Rattle.ir_commands.specs.Files.{TellsFault};
+ghost use Rattle.ir_commands.specs.Files.{GoesOn, TellsFault};
 ghost use Rattle.ir_commands.specs.Writing.{storing};
 ghost use Rattle.ir_program.specs.Doing.{Does, HeldBundle, HoldsSession, HoldsConnection, MakesImage, Prints, PrintsOutcomes, Shows};
 ghost use Rattle.ir_program.specs.Serving.{ServesWords};
@@ -102,7 +102,7 @@ fn make<R: AllocGlobal, D: Folder, G, E: Sink>(
 ) -> ExitStatus
     requires { E.broken faults.old ≡ false }
     ensures { MakesImage (D.bytes_at around.now.folder.now) (storing D.known D.known_closed (D.knows around.now.folder.now) (D.was_put around.now.folder.now))
-        what.now result }
+        what.now result (writer_of (E.written faults.old) (E.written faults.new) (E.broken faults.new)) }
 {
     let (alloc, folder) = (around.rt.alloc(), around.folder);
     match what {
@@ -250,7 +250,23 @@ fn other_of(asked: &Asked) -> Option<&str> {
     Some(within.other.as_str())
 }
 
-// Where an image was refused, it is reported what it is; and the same of the guest that it is compared with.
+// Where an image was refused, it is reported what it is.
+fn explain_if<D: Folder, E: Sink>(
+    alloc: Global,
+    folder: &D,
+    image: Option<&str>,
+    status: ExitStatus,
+    faults: &mut E,
+)
+    ensures kept { status ≢ exit.Refused → faults.new ≡ faults.old }
+    ensures grows { GoesOn (E.written faults.old) (E.written faults.new) }
+{
+    if let Some(image) = image {
+        explain_image(alloc, folder, image, status, faults);
+    }
+}
+
+// The same of the image of a request, and of the guest that it is compared with.
 fn explain<D: Folder, E: Sink>(
     alloc: Global,
     folder: &D,
@@ -258,14 +274,11 @@ fn explain<D: Folder, E: Sink>(
     status: ExitStatus,
     faults: &mut E,
 )
-    ensures { status ≢ exit.Refused → faults.new ≡ faults.old }
+    ensures kept { status ≢ exit.Refused → faults.new ≡ faults.old }
+    ensures grows { GoesOn (E.written faults.old) (E.written faults.new) }
 {
-    if let Some(image) = image_of(asked) {
-        explain_image(alloc, folder, image, status, faults);
-    }
-    if let Some(other) = other_of(asked) {
-        explain_image(alloc, folder, other, status, faults);
-    }
+    explain_if(alloc, folder, image_of(asked), status, faults);
+    explain_if(alloc, folder, other_of(asked), status, faults);
 }
 
 // Does what is asked, and gives the exit status.

@@ -56,5 +56,6 @@ returns-clause-stopped g c =
     c.as_slice-4.ensures.value c.plan_like.ensures c.as_slice-5.ensures.value
     (subst (λ t. AreWritten t files.conditions.items) c.as_slice-until.ensures.value c.in_ok-files.ensures.read) refl refl in
     let kept = c.in_ok-texts.ensures.kept ∙ c.in_ok-files.ensures.kept ∙ c.in_ok-trace.ensures.kept ∙ c.in_ok-given.ensures.kept in
-    IfErr-weaker c.recorded_into.result _ _ (λ answered h. shrink_refuses answered asked (ap (λ f. writer_of (g.E.Sink.written f) (g.E.Sink.written
+    IfErr-weaker c.recorded_into.result _ _ (λ answered h. shrink_refuses answered asked (ap (λ o. writer_of (g.O.Sink.written o) (g.O.Sink.written
+    c.recorded_into.new.out) (g.O.Sink.broken c.recorded_into.new.out)) c.in_ok-trace.ensures.quiet) (ap (λ f. writer_of (g.E.Sink.written f) (g.E.Sink.written
     c.recorded_into.new.faults) (g.E.Sink.broken c.recorded_into.new.faults)) kept) h) c.recorded_into.ensures.none

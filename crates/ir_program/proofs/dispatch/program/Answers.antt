@@ -1,4 +1,4 @@
-use Rattle.std.proofs.Common.{ap, sym}
+use Rattle.std.proofs.Common.{ap, refl, sym}
 use Rattle.ir_files.specs.Writers.{writer_of}
 use Rattle.ir_program.proofs.dispatch.program.Goals as goal
 
@@ -8,5 +8,7 @@ returns g c = record {
   is_asked = c.parsed-asked.ensures;
   told = writer_of (g.E.Sink.written c.args.faults.now) (g.E.Sink.written c.serve-status.new.faults) (g.E.Sink.broken c.serve-status.new.faults);
   done = c.serve-status.ensures;
-  no_more = λ other. ap (λ w. writer_of (g.E.Sink.written c.args.faults.now) (g.E.Sink.written w) (g.E.Sink.broken w)) (sym (c.explain.ensures other));
+  begins = refl;
+  goes_on = c.explain.ensures.grows;
+  no_more = λ other. ap (λ w. writer_of (g.E.Sink.written c.args.faults.now) (g.E.Sink.written w) (g.E.Sink.broken w)) (sym (c.explain.ensures.kept other));
 }

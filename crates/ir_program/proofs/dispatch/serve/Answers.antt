@@ -1,4 +1,4 @@
-use Rattle.std.proofs.Common.{◌≡◌, subst, sym}
+use Rattle.std.proofs.Common.{◌≡◌, refl, subst, sym}
 use Rattle.ir_commands.specs.Writing.{storing}
 use Rattle.ir_files.specs.Writers.{writer_of}
 use Rattle.ir_program.specs.Doing.{Does}
@@ -30,3 +30,12 @@ returns-in-Shrink g c =
     let faults = writer_of (g.E.Sink.written c.args.faults.now) (g.E.Sink.written c.shrink_file.new.faults) (g.E.Sink.broken c.shrink_file.new.faults) in
     subst (λ what. Does (g.D.Folder.bytes_at folder) stored what c.shrink_file.result (g.I.Source.left c.args.input) out faults
     (c.shrink_file.new.out ≡ c.args.out.now)) (sym c.in-Shrink.is) c.shrink_file.ensures
+
+pub returns-in-Make : goal.returns-in-Make
+returns-in-Make g c =
+    let folder = c.args.around.now.folder.now in
+    let stored = storing g.D.Folder.known g.D.Folder.known_closed (g.D.Folder.knows folder) (g.D.Folder.was_put folder) in
+    let out = writer_of (g.O.Sink.written c.args.out.now) (g.O.Sink.written c.args.out.now) (g.O.Sink.broken c.args.out.now) in
+    let faults = writer_of (g.E.Sink.written c.args.faults.now) (g.E.Sink.written c.make.new.faults) (g.E.Sink.broken c.make.new.faults) in
+    subst (λ what. Does (g.D.Folder.bytes_at folder) stored what c.make.result (g.I.Source.left c.args.input) out faults
+    (c.args.out.now ≡ c.args.out.now)) (sym c.in-Make.is) (c.make.ensures, refl)

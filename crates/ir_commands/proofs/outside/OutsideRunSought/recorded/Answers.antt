@@ -2,6 +2,7 @@ use Rattle.std.proofs.lemmas.Result.{IfErr-weaker, IfOk-weaker}
 use Rattle.ir_files.specs.Writers.{writer_of}
 use Rattle.ir_record_command.specs.Stopping.{devices, telling, tellings}
 use Rattle.ir_within.specs.Plans.{comparison_of}
+use Rattle.ir_commands.proofs.CallerLemmas.{quiet_goes_on}
 use Rattle.ir_commands.proofs.Outsides.{outside_tells_none}
 use Rattle.ir_commands.proofs.outside.OutsideRunSought.recorded.Goals as goal
 
@@ -23,3 +24,6 @@ returns-clause-none g c =
     (tellings (telling g.W.Sink.written g.W.Sink.broken g.W.WholeSink.called g.W.WholeSink.cause)
     (telling g.P.OutputSink.taken g.P.OutputSink.broken g.P.OutputSink.called g.P.OutputSink.cause) g.O.Sink.written g.O.Sink.broken)
     answered (comparison_of c.args.self.now.plan.now) old new reports h) c.outside_run.ensures.stopped
+
+pub returns-clause-grows : goal.returns-clause-grows
+returns-clause-grows g c = quiet_goes_on g.E.Sink.written c.outside_run.result c.args.faults.now c.outside_run.new.faults c.outside_run.ensures.quiet

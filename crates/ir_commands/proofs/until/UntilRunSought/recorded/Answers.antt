@@ -2,6 +2,7 @@ use Rattle.std.proofs.Common.{◌∙◌, ap, refl}
 use Rattle.std.proofs.lemmas.Result.{IfErr-weaker, IfOk-weaker}
 use Rattle.ir_files.specs.Writers.{writer_of}
 use Rattle.ir_record_command.specs.Stopping.{devices, lines_between, telling, tellings}
+use Rattle.ir_commands.proofs.CallerLemmas.{quiet_goes_on}
 use Rattle.ir_commands.proofs.Searched.{hang_is_found, hang_tells_none, outcome_is_found, search_tells_none, until_missed}
 use Rattle.ir_commands.proofs.until.UntilRunSought.recorded.Goals as goal
 
@@ -48,3 +49,11 @@ returns-clause-none g c =
     (telling g.P.OutputSink.taken g.P.OutputSink.broken g.P.OutputSink.called g.P.OutputSink.cause) g.O.Sink.written g.O.Sink.broken in
     IfErr-weaker c.explore_until.result _ _ (λ answered h. until_missed answered (lines_between devices old new) reports c.if-self.false refl
     (search_tells_none devices answered plan.image.now plan.explore plan.conditions.now old new reports h)) c.explore_until.ensures.stopped
+
+pub returns-then-self-clause-grows : goal.returns-then-self-clause-grows
+returns-then-self-clause-grows g c =
+    quiet_goes_on g.E.Sink.written c.explore_hang.result c.args.faults.now c.explore_hang.new.faults c.explore_hang.ensures.quiet
+
+pub returns-clause-grows : goal.returns-clause-grows
+returns-clause-grows g c =
+    quiet_goes_on g.E.Sink.written c.explore_until.result c.args.faults.now c.explore_until.new.faults c.explore_until.ensures.quiet
