@@ -3,5 +3,5 @@ use Rattle.std.proofs.lemmas.Result.{IfOk-weaker}
 use Rattle.ir_hunt.proofs.stale.rests_in_trace.Goals as goal
 
 pub returns-in-Ok : goal.returns-in-Ok
-returns-in-Ok g c = IfOk-weaker c.has_rests.result _ _
+returns-in-Ok c = IfOk-weaker c.has_rests.result _ _
     (λ has h. (c.in-Ok.fitted, c.in-Ok.ensures.fits.0 ∙ c.in_ok-copy_of.ensures, c.in-Ok.ensures.fits.1, c.in-Ok.ensures.run, h)) c.has_rests.ensures
