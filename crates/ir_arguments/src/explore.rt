@@ -12,7 +12,7 @@ use crate::bonds::{Bond, Named};
 use crate::condition_text::ConditionText;
 use crate::forms::{option_arg, option_or_arg, place_arg, repeated_arg, with_arg};
 use crate::recording::{OUTPUT, input_arg, output_arg, profile_arg, random_arg};
-use crate::seconds::{seconds_arg, seconds_by};
+use crate::seconds::{SECONDS, seconds_by};
 use crate::subcommands::Row;
 use crate::values::{TRACE, UNTIL, given, image_arg, text_for};
 use crate::within::{ONLY, WITHIN, only_arg, within_arg};
@@ -99,9 +99,6 @@ const STATES: &str = "states";
 const SWITCHES: &str = "switches";
 
 const PRIVATE: &str = "private";
-
-const SECONDS_HELP: &str =
-    "The seconds after which the search stops, from 1 to 1000000; without it the search goes on to its end";
 
 const MAX: &str = "max";
 
@@ -206,6 +203,17 @@ fn private_arg<'a>(alloc: Global) -> Arg<'a>
     )
 }
 
+fn seconds_arg<'a>(alloc: Global) -> Arg<'a>
+    ensures { IsArgument result (option (codes "seconds")) }
+{
+    option_arg(
+        alloc,
+        SECONDS,
+        "N",
+        "The seconds after which the search stops, from 1 to 1000000; without it the search goes on to its end",
+    )
+}
+
 fn max_arg<'a>(alloc: Global) -> Arg<'a>
     ensures { IsArgument result (option (codes "max")) }
 {
@@ -263,7 +271,7 @@ pub fn with_arguments<'a>(alloc: Global, command: Command<'a>) -> Result<Command
     let command = with_arg(command, states_arg(alloc))?;
     let command = with_arg(command, switches_arg(alloc))?;
     let command = with_arg(command, private_arg(alloc))?;
-    let command = with_arg(command, seconds_arg(alloc, SECONDS_HELP))?;
+    let command = with_arg(command, seconds_arg(alloc))?;
     let command = with_arg(command, max_arg(alloc))?;
     let command = with_arg(command, random_arg(alloc))?;
     let command = with_arg(command, profile_arg(alloc))?;

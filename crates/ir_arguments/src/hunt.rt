@@ -14,7 +14,7 @@ use crate::conditions::{until_arg, wanted_by};
 use crate::forms::{flag_arg, option_arg, option_or_arg, with_arg};
 use crate::options::options_of;
 use crate::recording::{RecordingOptions, with_options};
-use crate::seconds::{seconds_arg, seconds_by};
+use crate::seconds::{SECONDS, seconds_by};
 use crate::seeds::{by_arg, seeds_by, way_by};
 use crate::subcommands::Row;
 use crate::values::{IMAGE, TRACE, file_arg, given, has_flag, image_arg, text_for, text_of};
@@ -29,9 +29,6 @@ const JOBS: &str = "jobs";
 
 // The most threads that can be asked for.
 const MOST_JOBS: u64 = 64;
-
-const SECONDS_HELP: &str =
-    "The seconds after which no further seeds are begun, from 1 to 1000000; without it all seeds are tried";
 
 const SHRINK: &str = "shrink";
 
@@ -126,6 +123,17 @@ fn jobs_arg<'a>(alloc: Global) -> Arg<'a>
     )
 }
 
+fn seconds_arg<'a>(alloc: Global) -> Arg<'a>
+    ensures { IsArgument result (option (codes "seconds")) }
+{
+    option_arg(
+        alloc,
+        SECONDS,
+        "N",
+        "The seconds after which no further seeds are begun, from 1 to 1000000; without it all seeds are tried",
+    )
+}
+
 fn shrink_arg<'a>(alloc: Global) -> Arg<'a>
     ensures { IsArgument result (flag (codes "shrink")) }
 {
@@ -149,7 +157,7 @@ pub fn with_arguments<'a>(alloc: Global, command: Command<'a>) -> Result<Command
     let command = with_arg(command, until_arg(alloc))?;
     let command = with_arg(command, by_arg(alloc))?;
     let command = with_arg(command, jobs_arg(alloc))?;
-    let command = with_arg(command, seconds_arg(alloc, SECONDS_HELP))?;
+    let command = with_arg(command, seconds_arg(alloc))?;
     let command = with_arg(command, shrink_arg(alloc))?;
     with_options(alloc, command)
 }

@@ -1,28 +1,20 @@
 //! How long a search may take.
 
-ghost use Rattle.std.specs.Prelude.{◌≡◌, IfOk, codes};
+ghost use Rattle.std.specs.Prelude.{◌≡◌, IfOk};
 ghost use Rattle.std.specs.Result.{result_ok};
 ghost use Rattle.ir_arguments.specs.Asking.{seconds_in};
-ghost use Rattle.ir_arguments.specs.Parser.{IsArgument, option};
 ghost use Rattle.ir_arguments.specs.Values.{rows_of_matches};
 
-use crate::forms::option_arg;
 use crate::values::given;
-use clap::{Arg, ArgMatches};
+use clap::ArgMatches;
 use ir_record_command::number_within;
 use std::alloc::{AllocError, Global};
 
-const SECONDS: &str = "seconds";
+/// The option that bounds a search in time.
+pub const SECONDS: &str = "seconds";
 
 // The most seconds that can be asked for.
 const MOST_SECONDS: u64 = 1_000_000;
-
-/// The option that bounds a search in time, with its help.
-pub fn seconds_arg<'a>(alloc: Global, help: &'a str) -> Arg<'a>
-    ensures { IsArgument result (option (codes "seconds")) }
-{
-    option_arg(alloc, SECONDS, "N", help)
-}
 
 /// The most seconds that are asked for, if they are, or what is wrong with their number.
 pub fn seconds_by(

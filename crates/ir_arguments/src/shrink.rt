@@ -4,25 +4,22 @@ ghost use Rattle.std.specs.Prelude.{◌≡◌, IfOk, codes};
 ghost use Rattle.ir_arguments.specs.Asking.{shrinking_asked};
 ghost use Rattle.ir_arguments.specs.Values.{rows_of_matches};
 ghost use Rattle.ir_arguments.specs.Views.{request_view};
-ghost use Rattle.ir_arguments.specs.Parser.{and_rules, app_in, rules_of};
+ghost use Rattle.ir_arguments.specs.Parser.{IsArgument, and_rules, app_in, option, rules_of};
 ghost use Rattle.ir_arguments.specs.declared.subcommands.Subcommand.TheVariants as sub;
 
 use crate::asked::Asked;
 use crate::condition_text::ConditionText;
 use crate::conditions::{until_arg, wanted_by};
-use crate::forms::with_arg;
+use crate::forms::{option_arg, with_arg};
 use crate::options::random_in;
 use crate::recording::{INPUT, OUTPUT, input_arg, output_arg, random_arg};
-use crate::seconds::{seconds_arg, seconds_by};
+use crate::seconds::{SECONDS, seconds_by};
 use crate::subcommands::Row;
 use crate::values::{IMAGE, TRACE, file_arg, given_text, image_arg, text_of};
-use clap::{ArgMatches, Command};
+use clap::{Arg, ArgMatches, Command};
 use std::alloc::{AllocError, Global};
 
 const OUT: &str = "OUT";
-
-const SECONDS_HELP: &str =
-    "The seconds after which no further run is begun, from 1 to 1000000; without it the search goes on to its end";
 
 /// What follows the help of `ir shrink`.
 pub const SHRINK_AFTER: &str =
@@ -80,6 +77,17 @@ pub struct ShrinkArguments {
     pub output: Option<String>,
 }
 
+fn seconds_arg<'a>(alloc: Global) -> Arg<'a>
+    ensures { IsArgument result (option (codes "seconds")) }
+{
+    option_arg(
+        alloc,
+        SECONDS,
+        "N",
+        "The seconds after which no further run is begun, from 1 to 1000000; without it the search goes on to its end",
+    )
+}
+
 /// The command with its arguments.
 pub fn with_arguments<'a>(alloc: Global, command: Command<'a>) -> Result<Command<'a>, AllocError>
     ensures { IfOk result (λ c. app_in c ≡ and_rules (app_in command.entry) (rules_of sub.Shrink)) }
@@ -95,7 +103,7 @@ pub fn with_arguments<'a>(alloc: Global, command: Command<'a>) -> Result<Command
         ),
     )?;
     let command = with_arg(command, until_arg(alloc))?;
-    let command = with_arg(command, seconds_arg(alloc, SECONDS_HELP))?;
+    let command = with_arg(command, seconds_arg(alloc))?;
     let command = with_arg(command, random_arg(alloc))?;
     let command = with_arg(command, input_arg(alloc))?;
     with_arg(command, output_arg(alloc))

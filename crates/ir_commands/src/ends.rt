@@ -69,16 +69,24 @@ fn has_unknown_call(trace: &Trace) -> bool {
             .any(|thread| thread.end() == End::UnknownCall)
 }
 
+// Reports the end of a thread, unless it is END with code 0.
+fn tell_end<E: Sink>(alloc: Global, number: usize, end: End, faults: &mut E)
+    ensures { GoesOn (E.written faults.old) (E.written faults.new) }
+{
+    if end == End::Exit(0) {
+        return;
+    }
+    if let Ok(line) = line(alloc, number, end) {
+        say(faults, line.as_str(), "", "");
+    }
+}
+
 // Reports each other end, in a line each.
 fn tell_each<E: Sink>(alloc: Global, trace: &Trace, faults: &mut E)
     ensures { GoesOn (E.written faults.old) (E.written faults.new) }
 {
     for (number, thread) in trace.threads().iter().enumerate() {
-        if thread.end() != End::Exit(0) {
-            if let Ok(line) = line(alloc, number, thread.end()) {
-                say(faults, line.as_str(), "", "");
-            }
-        }
+        tell_end(alloc, number, thread.end(), faults);
     }
 }
 

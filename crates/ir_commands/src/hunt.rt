@@ -44,14 +44,13 @@ fn paths(arguments: &HuntArguments) -> RecordingPaths<'_>
 
 // What is hunted, and as which arguments say.
 #[derive(Clone, Copy)]
-struct Hunted<'a, R> {
-    rt: &'a R,
+struct Hunted<'a> {
     image: &'a ParsedImage<'a>,
     plan: &'a HuntPlan<'a>,
     arguments: &'a HuntArguments,
 }
 
-impl<R: Threads + Sync + Clock + Eprint + AllocGlobal> RunSought for Hunted<'_, R> {
+impl RunSought for Hunted<'_> {
     type Run = Trace;
 
     ghost trace_of = { λ recorded. recorded };
@@ -61,21 +60,29 @@ impl<R: Threads + Sync + Clock + Eprint + AllocGlobal> RunSought for Hunted<'_, 
     ghost is_missed = { λ hunted answered out reports. TellsNoSeed hunted.image.now hunted.plan.now answered out reports
         ⊎ TellsNoSearch (LacksGuest hunted.image.now hunted.plan.now.record.profile) (IsHuntAnswer hunted.image.now hunted.plan.now) answered out reports };
 
-    fn recorded<W: WholeSink, P: OutputSink, O: Sink, E: Sink>(
+    fn recorded<R, W, P, O, E>(
         &self,
+        rt: &R,
         files: &mut RecordFiles<W, P>,
         out: &mut O,
         faults: &mut E,
-    ) -> Result<Trace, ExitStatus> {
-        hunt_run(self.rt, self.image, self.plan, files, out, faults)
+    ) -> Result<Trace, ExitStatus>
+    where
+        R: Threads + Sync + Clock + Eprint + AllocGlobal,
+        W: WholeSink,
+        P: OutputSink,
+        O: Sink,
+        E: Sink,
+    {
+        hunt_run(rt, self.image, self.plan, files, out, faults)
     }
 }
 
 // Shrinks a run that was found, whose trace and outputs go into files at these paths, over what was found.
-fn shrunk<'a, R: Clock + Eprint + AllocGlobal, D: Folder, G, O: Sink, E: Sink>(
+fn shrunk<'a, R: Threads + Sync + Clock + Eprint + AllocGlobal, D: Folder, G, O: Sink, E: Sink>(
     around: &Surroundings<'_, R, D, G>,
     places: Places<'_, '_>,
-    hunted: Hunted<'a, R>,
+    hunted: Hunted<'a>,
     found: &'a Trace,
     out: &mut O,
     faults: &mut E,
@@ -102,7 +109,6 @@ fn shrunk<'a, R: Clock + Eprint + AllocGlobal, D: Folder, G, O: Sink, E: Sink>(
         is_shown: plan.is_shown,
     };
     let sought = Shrinking {
-        rt: around.rt,
         image: hunted.image,
         trace: found,
         plan: &shrinking,
@@ -114,13 +120,13 @@ fn shrunk<'a, R: Clock + Eprint + AllocGlobal, D: Folder, G, O: Sink, E: Sink>(
 fn shrunk_found<'a, R, D, G, O, E>(
     around: &Surroundings<'_, R, D, G>,
     places: Places<'_, '_>,
-    hunted: Hunted<'a, R>,
+    hunted: Hunted<'a>,
     found: &'a Trace,
     out: &mut O,
     faults: &mut E,
 ) -> ExitStatus
 where
-    R: Clock + Eprint + AllocGlobal,
+    R: Threads + Sync + Clock + Eprint + AllocGlobal,
     D: Folder,
     O: Sink,
     E: Sink,
@@ -142,13 +148,13 @@ where
 fn ended<R, D, G, O, E>(
     around: &Surroundings<'_, R, D, G>,
     places: Places<'_, '_>,
-    hunted: Hunted<'_, R>,
+    hunted: Hunted<'_>,
     found: Result<Trace, ExitStatus>,
     out: &mut O,
     faults: &mut E,
 ) -> ExitStatus
 where
-    R: Clock + Eprint + AllocGlobal,
+    R: Threads + Sync + Clock + Eprint + AllocGlobal,
     D: Folder,
     O: Sink,
     E: Sink,
@@ -205,7 +211,6 @@ fn hunted_by<R: Threads + Sync + Clock + Eprint + AllocGlobal, D: Folder, G, O: 
         is_shown: explains,
     };
     let hunted = Hunted {
-        rt: around.rt,
         image: &image,
         plan: &plan,
         arguments,

@@ -22,6 +22,7 @@ use ir_search::Observer;
 use ir_stream::Sink;
 use ir_trace::Trace;
 use ir_within::{WithinPlan, outside_run};
+use std::thread::Threads;
 use std::time::Clock;
 
 // The files of the recording.
@@ -42,12 +43,11 @@ fn paths(arguments: &OutsideArguments) -> RecordingPaths<'_>
 
 // A run of a guest that is looked for: its outcome is the first that another guest doesn't have.
 #[derive(Clone, Copy)]
-struct Outside<'a, R, G> {
-    rt: &'a R,
+struct Outside<'a, G> {
     plan: &'a WithinPlan<'a, 'a, 'a, G>,
 }
 
-impl<R: Clock + AllocGlobal, G: Observer> RunSought for Outside<'_, R, G> {
+impl<G: Observer> RunSought for Outside<'_, G> {
     type Run = Trace;
 
     ghost trace_of = { λ recorded. recorded };
@@ -58,18 +58,26 @@ impl<R: Clock + AllocGlobal, G: Observer> RunSought for Outside<'_, R, G> {
         (LacksGuest (comparison_of sought.plan.now).image sought.plan.now.explore.profile ⊎ LacksGuest (comparison_of sought.plan.now).other sought.plan.now.explore.profile)
         (IsComparisonAnswer (comparison_of sought.plan.now)) answered out reports };
 
-    fn recorded<W: WholeSink, P: OutputSink, O: Sink, E: Sink>(
+    fn recorded<R, W, P, O, E>(
         &self,
+        rt: &R,
         files: &mut RecordFiles<W, P>,
         out: &mut O,
         faults: &mut E,
-    ) -> Result<Trace, ExitStatus> {
-        outside_run(self.rt, self.plan, files, out, faults)
+    ) -> Result<Trace, ExitStatus>
+    where
+        R: Threads + Sync + Clock + Eprint + AllocGlobal,
+        W: WholeSink,
+        P: OutputSink,
+        O: Sink,
+        E: Sink,
+    {
+        outside_run(rt, self.plan, files, out, faults)
     }
 }
 
 // The trace of a run with the first outcome that is outside; its files are written. If none is known to be, the exit status.
-fn outside_by<R: Clock + AllocGlobal, D: Folder, G: Observer, O: Sink, E: Sink>(
+fn outside_by<R: Threads + Sync + Clock + Eprint + AllocGlobal, D: Folder, G: Observer, O: Sink, E: Sink>(
     around: &Surroundings<'_, R, D, G>,
     arguments: &OutsideArguments,
     out: &mut O,
@@ -104,16 +112,13 @@ fn outside_by<R: Clock + AllocGlobal, D: Folder, G: Observer, O: Sink, E: Sink>(
     }
     let outputs = output_places(alloc, folder, faults, &paths, &both.0)?;
     let places = Places::new(paths.trace, &outputs);
-    let sought = Outside {
-        rt: around.rt,
-        plan: &plan,
-    };
+    let sought = Outside { plan: &plan };
     recorded_into(around, places, &sought, out, faults)
 }
 
 // Compares the outcomes of the guests in two files, and records a run with the first that is outside into a third, and what its threads print into others
 // where they are asked for.
-pub fn outside_file<R: Clock + AllocGlobal, D: Folder, G: Observer, O: Sink, E: Sink>(
+pub fn outside_file<R: Threads + Sync + Clock + Eprint + AllocGlobal, D: Folder, G: Observer, O: Sink, E: Sink>(
     around: &Surroundings<'_, R, D, G>,
     arguments: &OutsideArguments,
     explains: bool,

@@ -5,7 +5,7 @@ ghost use Rattle.std.specs.String.{string_bytes};
 ghost use Rattle.ir_files.specs.Given.{fresh, given_bytes};
 ghost use Rattle.ir_files.specs.Writers.{writer_of};
 ghost use Rattle.ir_commands.specs.Exploring.{IsInput};
-ghost use Rattle.ir_commands.specs.Files.{TellsFault};
+ghost use Rattle.ir_commands.specs.Files.{GoesOn, TellsFault};
 ghost use Rattle.ir_commands.specs.Sought.{RecordsRun};
 ghost use Rattle.ir_commands.specs.Writing.{AreOutputPaths, IsStatusOfNoRecording, KeptAt, storing, texts_of_paths};
 
@@ -16,6 +16,8 @@ use ir_files::{ExitStatus, Folder, MOST_GUEST_INPUT, OutputFiles, WholeFile, out
 use ir_record_command::{ParsedImage, RecordFiles};
 use ir_stream::Sink;
 use std::alloc::{AllocError, Global};
+use std::thread::Threads;
+use std::time::Clock;
 
 /// What a recording reads and writes.
 #[derive(Clone, Copy)]
@@ -82,13 +84,19 @@ pub fn record_files<'a, D: Folder>(
 ///
 /// # Errors
 /// The exit status: there is none, or a fault stopped the recording.
-pub fn recorded_into<R: AllocGlobal, D: Folder, G, S: RunSought, O: Sink, E: Sink>(
+pub fn recorded_into<R, D, G, S, O, E>(
     around: &Surroundings<'_, R, D, G>,
     places: Places<'_, '_>,
     sought: &S,
     out: &mut O,
     faults: &mut E,
 ) -> Result<S::Run, ExitStatus>
+where
+    R: Threads + Sync + Clock + Eprint + AllocGlobal,
+    D: Folder,
+    S: RunSought,
+    O: Sink,
+    E: Sink,
     requires writes { O.broken out.old ≡ false }
     requires reports { E.broken faults.old ≡ false }
     ensures found { IfOk result (λ run. RecordsRun (S.trace_of run) (S.is_found sought.now run (writer_of (E.written faults.old) (E.written faults.new) (E.broken faults.new)))
@@ -100,7 +108,7 @@ pub fn recorded_into<R: AllocGlobal, D: Folder, G, S: RunSought, O: Sink, E: Sin
 {
     let Surroundings { rt, folder, .. } = *around;
     let mut files = record_files(rt.alloc(), folder, places.trace, places.outputs);
-    sought.recorded(&mut files, out, faults)
+    sought.recorded(rt, &mut files, out, faults)
 }
 
 /// The bytes that guests read, none without a file.

@@ -29,6 +29,7 @@ use ir_shrink::{GivenRun, ShrinkPlan, Shrunk, shrink_run};
 use ir_stream::Sink;
 use ir_trace::{Trace, read_trace};
 use std::alloc::Global;
+use std::thread::Threads;
 use std::time::Clock;
 
 // The files of the recording.
@@ -150,9 +151,7 @@ pub fn plan_like<'a>(trace: &Trace, random: u64, input: &'a [u8]) -> RecordPlan<
 
 /// A run of a guest that is looked for: what the given run is shrunk to.
 #[derive(Clone, Copy)]
-pub struct Shrinking<'a, R> {
-    /// Memory and the clock.
-    pub rt: &'a R,
+pub struct Shrinking<'a> {
     /// The image of the guest.
     pub image: &'a ParsedImage<'a>,
     /// The trace of the given run.
@@ -161,7 +160,7 @@ pub struct Shrinking<'a, R> {
     pub plan: &'a ShrinkPlan<'a>,
 }
 
-impl<R: Clock + Eprint + AllocGlobal> RunSought for Shrinking<'_, R> {
+impl RunSought for Shrinking<'_> {
     type Run = Shrunk;
 
     ghost trace_of = { λ shrunk. shrunk.trace };
@@ -171,17 +170,25 @@ impl<R: Clock + Eprint + AllocGlobal> RunSought for Shrinking<'_, R> {
     ghost is_missed = { λ sought answered out reports. RefusesGiven sought.image.now sought.trace.now sought.plan.now answered out reports
         ⊎ TellsNoSearch (LacksGuest sought.image.now sought.plan.now.record.profile) (IsShrinkAnswer sought.image.now sought.trace.now sought.plan.now) answered out reports };
 
-    fn recorded<W: WholeSink, P: OutputSink, O: Sink, E: Sink>(
+    fn recorded<R, W, P, O, E>(
         &self,
+        rt: &R,
         files: &mut RecordFiles<W, P>,
         out: &mut O,
         faults: &mut E,
-    ) -> Result<Shrunk, ExitStatus> {
+    ) -> Result<Shrunk, ExitStatus>
+    where
+        R: Threads + Sync + Clock + Eprint + AllocGlobal,
+        W: WholeSink,
+        P: OutputSink,
+        O: Sink,
+        E: Sink,
+    {
         let given = GivenRun {
             image: self.image,
             trace: self.trace,
         };
-        shrink_run(self.rt, &given, self.plan, files, out, faults)
+        shrink_run(rt, &given, self.plan, files, out, faults)
     }
 }
 
@@ -215,7 +222,7 @@ pub fn shrink_file<R, D, G, O, E>(
     faults: &mut E,
 ) -> ExitStatus
 where
-    R: Clock + Eprint + AllocGlobal,
+    R: Threads + Sync + Clock + Eprint + AllocGlobal,
     D: Folder,
     O: Sink,
     E: Sink,
@@ -231,7 +238,7 @@ where
 }
 
 // The same; what it is shrunk to, or the exit status.
-fn shrunk_by<R: Clock + Eprint + AllocGlobal, D: Folder, G, O: Sink, E: Sink>(
+fn shrunk_by<R: Threads + Sync + Clock + Eprint + AllocGlobal, D: Folder, G, O: Sink, E: Sink>(
     around: &Surroundings<'_, R, D, G>,
     arguments: &ShrinkArguments,
     explains: bool,
@@ -261,7 +268,6 @@ fn shrunk_by<R: Clock + Eprint + AllocGlobal, D: Folder, G, O: Sink, E: Sink>(
         is_shown: explains,
     };
     let sought = Shrinking {
-        rt: around.rt,
         image: &image,
         trace: &trace,
         plan: &plan,

@@ -19,6 +19,7 @@ use ir_record_command::{ParsedImage, RecordFiles};
 use ir_search::Observer;
 use ir_stream::Sink;
 use ir_trace::Trace;
+use std::thread::Threads;
 use std::time::Clock;
 
 // The files of the recording.
@@ -40,13 +41,12 @@ fn paths(arguments: &UntilArguments) -> RecordingPaths<'_>
 
 // A run of a guest that is looked for: it hangs, or has an outcome that fulfils conditions.
 #[derive(Clone, Copy)]
-struct Until<'a, R, G> {
-    rt: &'a R,
+struct Until<'a, G> {
     plan: &'a UntilPlan<'a, 'a, 'a, G>,
     hang: bool,
 }
 
-impl<R: Clock + AllocGlobal, G: Observer> RunSought for Until<'_, R, G> {
+impl<G: Observer> RunSought for Until<'_, G> {
     type Run = Trace;
 
     ghost trace_of = { λ recorded. recorded };
@@ -55,12 +55,20 @@ impl<R: Clock + AllocGlobal, G: Observer> RunSought for Until<'_, R, G> {
 
     ghost is_missed = { λ sought answered out reports. UntilMisses sought.hang sought.plan.now.image.now sought.plan.now.explore sought.plan.now.conditions.now answered out reports };
 
-    fn recorded<W: WholeSink, P: OutputSink, O: Sink, E: Sink>(
+    fn recorded<R, W, P, O, E>(
         &self,
+        rt: &R,
         files: &mut RecordFiles<W, P>,
         out: &mut O,
         faults: &mut E,
-    ) -> Result<Trace, ExitStatus> {
+    ) -> Result<Trace, ExitStatus>
+    where
+        R: Threads + Sync + Clock + Eprint + AllocGlobal,
+        W: WholeSink,
+        P: OutputSink,
+        O: Sink,
+        E: Sink,
+    {
         if self.hang {
             let plan = self.plan;
             let hang = HangPlan {
@@ -68,15 +76,15 @@ impl<R: Clock + AllocGlobal, G: Observer> RunSought for Until<'_, R, G> {
                 explore: plan.explore.within(plan.explore.most()),
                 observer: plan.observer,
             };
-            explore_hang(self.rt, &hang, files, out, faults)
+            explore_hang(rt, &hang, files, out, faults)
         } else {
-            explore_until(self.rt, self.plan, files, out, faults)
+            explore_until(rt, self.plan, files, out, faults)
         }
     }
 }
 
 // The trace of a run with the outcome that is looked for, or of one that hangs; its files are written. If there is none, the exit status.
-fn found_by<R: Clock + AllocGlobal, D: Folder, G: Observer, O: Sink, E: Sink>(
+fn found_by<R: Threads + Sync + Clock + Eprint + AllocGlobal, D: Folder, G: Observer, O: Sink, E: Sink>(
     around: &Surroundings<'_, R, D, G>,
     arguments: &UntilArguments,
     out: &mut O,
@@ -103,7 +111,6 @@ fn found_by<R: Clock + AllocGlobal, D: Folder, G: Observer, O: Sink, E: Sink>(
         observer: around.gate,
     };
     let sought = Until {
-        rt: around.rt,
         plan: &plan,
         hang: arguments.hang,
     };
@@ -113,7 +120,7 @@ fn found_by<R: Clock + AllocGlobal, D: Folder, G: Observer, O: Sink, E: Sink>(
 
 // Looks for an outcome of a guest, or a run that hangs, and records such a run into a file, and what its threads print into others where they are asked
 // for.
-pub fn until_file<R: Clock + AllocGlobal, D: Folder, G: Observer, O: Sink, E: Sink>(
+pub fn until_file<R: Threads + Sync + Clock + Eprint + AllocGlobal, D: Folder, G: Observer, O: Sink, E: Sink>(
     around: &Surroundings<'_, R, D, G>,
     arguments: &UntilArguments,
     explains: bool,

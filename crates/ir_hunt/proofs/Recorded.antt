@@ -15,7 +15,8 @@ use Rattle.ir_record_command.specs.Plan.{Plan}
 use Rattle.ir_world.specs.Sources.{origin_of, IsAnsweredFrom}
 use Rattle.ir_order.proofs.CallerLemmas.{recording_is_of_run}
 use Rattle.ir_order.specs.Recording.{IsOfRun}
-use Rattle.ir_hunt.specs.Stale.{HasStale, HasStaleBy, IsTraceBy, RestsInTrace}
+use Rattle.ir_hunt.specs.Rests.{RestsInTrace}
+use Rattle.ir_hunt.specs.Stale.{HasStale, HasStaleBy, IsTraceBy}
 
 -- the trace of a run has that run
 trace_of_run_has_run : (guest : Guest) (budget : ℕ) (profile : Profile) (run : List Step) (trace : Recorded) → IsTraceOf guest budget profile run trace

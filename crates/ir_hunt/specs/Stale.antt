@@ -8,10 +8,6 @@ use Rattle.ir_record_command.specs.Plan.{Plan}
 use Rattle.ir_order.specs.Recording.{IsPlanned, IsOfRun}
 use Rattle.ir_stale_run.specs.Stale.{HasRests}
 
--- whether one does, by the guest and its trace, by which the guest's run is known
-abbrev pub RestsInTrace : Guest → Recorded → Bool → Type 0
-RestsInTrace guest trace has = (fitted : FittedTrace) × (fitted.guest ≡ guest) × (fitted.recorded ≡ trace) × HasRun fitted × HasRests fitted has
-
 -- whether one does, by the guest and the run's trace
 pub record HasStale (guest : Guest) (plan : Plan) (run : List Step) (has : Bool) : Type 0 where
   pub trace : Recorded

@@ -2,7 +2,8 @@
 
 ghost use Rattle.std.specs.Prelude.{◌≡◌, List, IfOk};
 ghost use Rattle.ir_fit.specs.Fit.{IsRunOf};
-ghost use Rattle.ir_hunt.specs.Stale.{HasStaleBy, IsTraceBy, IsWanted, RestsInTrace};
+ghost use Rattle.ir_hunt.specs.Rests.{RestsInTrace};
+ghost use Rattle.ir_hunt.specs.Stale.{HasStaleBy, IsTraceBy, IsWanted};
 ghost use Rattle.ir_record.specs.Recording.{order_of_turns};
 ghost use Rattle.ir_runs.specs.Run.{Step};
 ghost use Rattle.ir_thread.specs.State.{IsAllowed};

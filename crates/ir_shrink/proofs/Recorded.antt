@@ -5,7 +5,8 @@ use Rattle.std.proofs.lemmas.List.{get_or-replicate}
 use Rattle.std.proofs.lemmas.Option.{get_or_from_slice_get}
 use Rattle.ir_fit.specs.Fit.{IsRunOf}
 use Rattle.ir_flat.specs.Flat.{Flat, start_flat, tables, machine}
-use Rattle.ir_hunt.specs.Stale.{FailsStale, FulfilsStale, RestsInTrace}
+use Rattle.ir_hunt.specs.Rests.{RestsInTrace}
+use Rattle.ir_hunt.specs.Stale.{FailsStale, FulfilsStale}
 use Rattle.ir_hunt.proofs.CallerLemmas.{run_has_stale}
 use Rattle.ir_image.specs.Guest.{Guest}
 use Rattle.ir_order.specs.OneRun.{AreSameRuns}
