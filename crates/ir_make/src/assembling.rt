@@ -115,8 +115,7 @@ pub fn asm_run<W: WholeSink, E: Sink>(
             status => Err(status),
         },
         Err(AsmErr::At { line, cause }) => {
-            let status = tell_place(alloc, explained, text.as_str(), line, cause, faults);
-            Err(status)
+            Err(tell_place(alloc, explained, text.as_str(), line, cause, faults))
         }
         Err(AsmErr::NoMem) => Err(ExitStatus::Failed),
     }
