@@ -4,3 +4,4 @@ mod Recorded
 mod Restarting
 mod Seeking
 mod Stopping
+pub mod CallerLemmas

@@ -5,7 +5,7 @@ use Rattle.ir_image.specs.Guest.{Guest}
 use Rattle.ir_flat.specs.Flat.{start_flat, tables, machine}
 use Rattle.ir_runs.specs.Run.{Step, IsWhole}
 use Rattle.ir_trace.specs.Recorded.{Recorded, trace_of}
-use Rattle.ir_fit.specs.Fit.{IsRunOf, FittedTrace, HasRun}
+use Rattle.ir_fit.specs.Fit.{IsRunOf}
 use Rattle.ir_thread.specs.declared.profile.Profile.{Profile}
 use Rattle.ir_record.specs.Recording.{IsTraceOf}
 use Rattle.ir_record.specs.Recordings.{IsRecordingByTurns}
@@ -14,8 +14,9 @@ use Rattle.ir_record.specs.Worlds.{AnsweredCall}
 use Rattle.ir_record_command.specs.Plan.{Plan}
 use Rattle.ir_world.specs.Sources.{origin_of, IsAnsweredFrom}
 use Rattle.ir_order.proofs.CallerLemmas.{recording_is_of_run}
-use Rattle.ir_stale_run.specs.Stale.{HasRests}
-use Rattle.ir_hunt.specs.Stale.{HasStaleBy, IsTraceBy}
+use Rattle.ir_order.specs.Recording.{IsOfRun}
+use Rattle.ir_hunt.specs.Rests.{RestsInTrace}
+use Rattle.ir_hunt.specs.Stale.{HasStale, HasStaleBy, IsTraceBy}
 
 -- the trace of a run has that run
 trace_of_run_has_run : (guest : Guest) (budget : ℕ) (profile : Profile) (run : List Step) (trace : Recorded) → IsTraceOf guest budget profile run trace
@@ -48,22 +49,22 @@ fresh_trace_by_order guest plan entries order before trace outputs answers same 
           (fresh ∙ ap (λ (n : ℕ). replicate n []) long) r) (λ t l. answered t (subst (λ n. t < n) (sym long) l)),
     )
 
--- whether a stale write of the trace rests is whether one of each run by the order does
-rests_are_stale_by_order : (guest : Guest) (plan : Plan) (order : List ℕ) (trace : Recorded) (f : FittedTrace) (has : Bool) → IsTraceBy guest plan order trace
-    → f.guest ≡ guest → f.recorded ≡ trace → HasRun f → HasRests f has → HasStaleBy guest plan order has
-rests_are_stale_by_order guest plan order trace f has by of_guest of_trace fits rests run planned = let r = by run planned in record {
+-- whether a stale write of the trace rests is whether one of its run does
+pub run_has_stale : {guest : Guest} {plan : Plan} {run : List Step} {trace : Recorded} {has : Bool}
+    → (outputs : List (List ℕ)) × IsOfRun guest plan.budget plan.profile run trace outputs → RestsInTrace guest trace has → HasStale guest plan run has
+run_has_stale {trace = trace} of h = record {
   trace = trace;
-  outputs = r.0;
-  of_run = r.1;
-  fitted = f;
-  of_guest = of_guest;
-  of_trace = of_trace;
-  fits = fits;
-  rests = rests;
+  outputs = of.0;
+  of_run = of.1;
+  fitted = h.0;
+  of_guest = h.1;
+  of_trace = h.2;
+  fits = h.3;
+  rests = h.4;
 }
 
--- the same, where that was found out
-pub ok_stale_by_order : {E : Type 0} (guest : Guest) (plan : Plan) (order : List ℕ) (trace : Recorded) (f : FittedTrace) (r : Result Bool E)
-    → IsTraceBy guest plan order trace → f.guest ≡ guest → f.recorded ≡ trace → HasRun f → IfOk r (HasRests f) → IfOk r (HasStaleBy guest plan order)
-ok_stale_by_order guest plan order trace f (Ok has) by of_guest of_trace fits rests = rests_are_stale_by_order guest plan order trace f has by of_guest of_trace fits rests
-ok_stale_by_order guest plan order trace f (Err e) by of_guest of_trace fits rests = tt
+-- whether one does of each run by the order
+pub ok_stale_by_order : {E : Type 0} (guest : Guest) (plan : Plan) (order : List ℕ) (trace : Recorded) (r : Result Bool E)
+    → IsTraceBy guest plan order trace → IfOk r (RestsInTrace guest trace) → IfOk r (HasStaleBy guest plan order)
+ok_stale_by_order guest plan order trace (Ok has) by h = λ run planned. run_has_stale (by run planned) h
+ok_stale_by_order guest plan order trace (Err e) by h = tt

@@ -3,6 +3,7 @@ pub mod Hunt
 pub mod Hunted
 pub mod Lines
 pub mod Parts
+pub mod Rests
 pub mod Seeking
 pub mod Stale
 pub mod Stopping

@@ -167,8 +167,8 @@ fn none_status(is_over: bool, words: &Option<String>) -> ExitStatus
     }
 }
 
-// How a guest is recorded by a list.
-fn by_list<'a>(how: &RecordPlan<'a>, list: &'a str) -> RecordPlan<'a>
+/// How a guest is recorded by a list.
+pub fn by_list<'a>(how: &RecordPlan<'a>, list: &'a str) -> RecordPlan<'a>
     ensures { result ≡ by_list how.now list.now }
 {
     RecordPlan {

@@ -13,7 +13,10 @@ mod stale;
 mod stretches;
 mod tries;
 mod worker;
+mod worlds;
 
-pub use hunting::{hunt_run, order_of_seed};
+pub use hunting::{by_list, hunt_run, order_of_seed};
 pub use plan::HuntPlan;
 pub use shown::{ERASED, ROW, ROW_END};
+pub use stale::rests_in_trace;
+pub use worlds::counted_worlds;

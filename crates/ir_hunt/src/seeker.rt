@@ -18,12 +18,13 @@ ghost use Rattle.ir_hunt.specs.Tried.{Fails};
 
 use crate::plan::HuntPlan;
 use crate::stale::is_wanted;
+use crate::worlds::counted_worlds;
 use ir_flat::Flat;
 use ir_image::{Image, MOST_THREADS};
 use ir_order::list_of;
 use ir_schedule::{Choices, Chooser, Runner, Stop};
 use ir_thread::Profile;
-use ir_world::{ProgramWorld, Time, worlds};
+use ir_world::ProgramWorld;
 use std::alloc::{AllocError, Global};
 use std::time::Clock;
 
@@ -100,16 +101,8 @@ impl<'a, C: Clock> Seeker<'a, C> {
         ensures plan { IfOk result (λ s. s.plan.now ≡ plan.now) }
     {
         let record = &plan.record;
-        let threads = image.entries().len();
         let flat = Flat::start(alloc, image, record.budget, record.profile)?;
-        let worlds = worlds(
-            alloc,
-            clock,
-            Time::Counted,
-            threads,
-            record.random,
-            record.input,
-        )?;
+        let worlds = counted_worlds(alloc, clock, image, record)?;
         let turns = Vec::with_capacity(alloc, MOST_NOTED_TURNS)?;
         Ok(Seeker {
             alloc,

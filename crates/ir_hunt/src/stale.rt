@@ -2,11 +2,13 @@
 
 ghost use Rattle.std.specs.Prelude.{◌≡◌, List, IfOk};
 ghost use Rattle.ir_fit.specs.Fit.{IsRunOf};
+ghost use Rattle.ir_hunt.specs.Rests.{RestsInTrace};
 ghost use Rattle.ir_hunt.specs.Stale.{HasStaleBy, IsTraceBy, IsWanted};
 ghost use Rattle.ir_record.specs.Recording.{order_of_turns};
 ghost use Rattle.ir_runs.specs.Run.{Step};
 ghost use Rattle.ir_thread.specs.State.{IsAllowed};
 
+use crate::worlds::counted_worlds;
 use ir_fit::{FitErr, fit};
 use ir_image::{Code, Image};
 use ir_object::OpenGate;
@@ -14,7 +16,6 @@ use ir_record::{Turns, record_in_turns};
 use ir_record_command::RecordPlan;
 use ir_stale_run::has_rests;
 use ir_trace::Trace;
-use ir_world::{Time, worlds};
 use std::alloc::{AllocError, Global};
 use std::time::Clock;
 
@@ -29,6 +30,22 @@ fn copy_of(alloc: Global, image: &Image) -> Result<Image, AllocError>
     Ok(Image::new(image.form(), entries, code, bytes, words))
 }
 
+/// Whether a stale write of a run rests on what was read, by its trace.
+///
+/// # Errors
+/// Out of memory.
+pub fn rests_in_trace(alloc: Global, image: &Image, trace: Trace) -> Result<bool, AllocError>
+    requires { (run : List Step) × IsRunOf image.now trace run }
+    ensures { IfOk result (RestsInTrace image.now trace) }
+{
+    match fit(alloc, copy_of(alloc, image)?, trace, &OpenGate) {
+        Ok(fitted) => has_rests(alloc, &fitted),
+        Err(FitErr::NoMem) => Err(AllocError),
+        // It is the trace of a run.
+        Err(FitErr::Refused(_)) => unreachable!(),
+    }
+}
+
 // The trace of the run by these turns, of a guest that is recorded so but for its order.
 fn trace_of<C: Clock>(
     alloc: Global,
@@ -41,15 +58,7 @@ fn trace_of<C: Clock>(
     ensures by { IfOk result (IsTraceBy image.now plan.now (order_of_turns turns.now)) }
     ensures run { IfOk result (λ trace. (run : List Step) × IsRunOf image.now trace run) }
 {
-    let threads = image.entries().len();
-    let worlds = worlds(
-        alloc,
-        clock,
-        Time::Counted,
-        threads,
-        plan.random,
-        plan.input,
-    )?;
+    let worlds = counted_worlds(alloc, clock, image, plan)?;
     match record_in_turns(alloc, image, turns, worlds, plan.budget, plan.profile) {
         Ok((trace, _)) => Ok(trace),
         // A world that counts its time fails only where it has no room for more answers.
@@ -69,12 +78,7 @@ fn has_stale<C: Clock>(
     ensures { IfOk result (HasStaleBy image.now plan.now (order_of_turns turns.now)) }
 {
     let trace = trace_of(alloc, clock, image, plan, turns)?;
-    match fit(alloc, copy_of(alloc, image)?, trace, &OpenGate) {
-        Ok(fitted) => has_rests(alloc, &fitted),
-        Err(FitErr::NoMem) => Err(AllocError),
-        // It is the trace of a run.
-        Err(FitErr::Refused(_)) => unreachable!(),
-    }
+    rests_in_trace(alloc, image, trace)
 }
 
 /// Whether the run by these turns has what is wanted of its stale writes that rest on what was read, if anything is: one, or none.

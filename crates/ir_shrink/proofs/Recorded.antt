@@ -3,9 +3,11 @@ use Rattle.std.proofs.Common.{◌≡◌, ◌<◌, ℕ, true, false, Bool, List, 
 use Rattle.std.specs.Prelude.{replicate, Option, None, Result, Ok, Err, IfOk}
 use Rattle.std.proofs.lemmas.List.{get_or-replicate}
 use Rattle.std.proofs.lemmas.Option.{get_or_from_slice_get}
-use Rattle.ir_fit.specs.Fit.{IsRunOf, FittedTrace, HasRun}
+use Rattle.ir_fit.specs.Fit.{IsRunOf}
 use Rattle.ir_flat.specs.Flat.{Flat, start_flat, tables, machine}
-use Rattle.ir_hunt.specs.Stale.{FulfilsStale, FailsStale}
+use Rattle.ir_hunt.specs.Rests.{RestsInTrace}
+use Rattle.ir_hunt.specs.Stale.{FailsStale, FulfilsStale}
+use Rattle.ir_hunt.proofs.CallerLemmas.{run_has_stale}
 use Rattle.ir_image.specs.Guest.{Guest}
 use Rattle.ir_order.specs.OneRun.{AreSameRuns}
 use Rattle.ir_order.specs.Recording.{IsPlannedInTurns, IsOfRun}
@@ -17,7 +19,6 @@ use Rattle.ir_record.proofs.CallerLemmas.{is_run_if_in_turns}
 use Rattle.ir_record_command.specs.Plan.{Plan}
 use Rattle.ir_runs.specs.Run.{Step, IsWhole, events, log}
 use Rattle.ir_shrink.specs.Stale.{HasStaleInTurns, IsTraceInTurns, IsWantedInTurns}
-use Rattle.ir_stale_run.specs.Stale.{HasRests}
 use Rattle.ir_thread.specs.declared.profile.Profile.{Profile}
 use Rattle.ir_trace.specs.Recorded.{Recorded, trace_of}
 use Rattle.ir_world.specs.Sources.{origin_of, IsAnsweredFrom}
@@ -105,19 +106,10 @@ fresh_trace_in_turns guest plan turns entries before trace outputs answers same 
     )
 
 -- whether a stale write of the trace rests is whether one of each run by the turns does
-pub ok_stale_in_turns : {E : Type 0} (guest : Guest) (plan : Plan) (turns : List Turn) (trace : Recorded) (f : FittedTrace) (r : Result Bool E)
-    → IsTraceInTurns guest plan turns trace → f.guest ≡ guest → f.recorded ≡ trace → HasRun f → IfOk r (HasRests f) → IfOk r (HasStaleInTurns guest plan turns)
-ok_stale_in_turns guest plan turns trace f (Ok has) by of_guest of_trace fits rests = λ run planned. let r = by run planned in record {
-  trace = trace;
-  outputs = r.0;
-  of_run = r.1;
-  fitted = f;
-  of_guest = of_guest;
-  of_trace = of_trace;
-  fits = fits;
-  rests = rests;
-}
-ok_stale_in_turns guest plan turns trace f (Err e) by of_guest of_trace fits rests = tt
+pub ok_stale_in_turns : {E : Type 0} (guest : Guest) (plan : Plan) (turns : List Turn) (trace : Recorded) (r : Result Bool E)
+    → IsTraceInTurns guest plan turns trace → IfOk r (RestsInTrace guest trace) → IfOk r (HasStaleInTurns guest plan turns)
+ok_stale_in_turns guest plan turns trace (Ok has) by h = λ run planned. run_has_stale (by run planned) h
+ok_stale_in_turns guest plan turns trace (Err e) by h = tt
 
 -- a run by turns whose runs have what is wanted of them has it
 pub wanted_turns_fulfil : (guest : Guest) (plan : Plan) (turns : List Turn) (wanted : Option Bool) (run : List Step)

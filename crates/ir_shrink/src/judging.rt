@@ -11,7 +11,6 @@ ghost use Rattle.ir_thread.specs.State.{IsAllowed};
 
 use crate::plan::ShrinkPlan;
 use crate::playing::{Played, play};
-use crate::stale::is_wanted;
 use crate::switches::switches;
 use ir_flat::Flat;
 use ir_image::Image;
@@ -75,14 +74,7 @@ impl<C: Clock> Judge<'_, C> {
         ensures { IfOk result (λ verdict. (items : List Item) → (p : IsPlayed self.now.image.now self.now.plan.now.record items played.now.items.items played.now.flat)
             → IsVerdict (goal_of self.now.image.now self.now.plan.now) p.run verdict) }
     {
-        let is_good = is_wanted(
-            self.alloc,
-            self.clock,
-            self.image,
-            &self.plan.record,
-            played.items.as_slice(),
-            self.plan.stale,
-        )?;
+        let is_good = self.is_wanted(played.items.as_slice())?;
         if is_good {
             return Ok(Verdict::Good);
         }

@@ -10,10 +10,11 @@ ghost use Rattle.ir_world.specs.Sources.{made_with, origins};
 
 use crate::mover::Mover;
 use ir_flat::Flat;
+use ir_hunt::counted_worlds;
 use ir_image::Image;
 use ir_record::Item;
 use ir_record_command::RecordPlan;
-use ir_world::{ProgramWorld, Time, worlds};
+use ir_world::ProgramWorld;
 use std::alloc::{AllocError, Global};
 use std::time::Clock;
 
@@ -47,16 +48,8 @@ fn start<'a, C: Clock>(
     ensures none { IfOk result (λ mover. mover.items.items ≡ []) }
     ensures works { IfOk result (λ mover. NoneFailed (map (λ w. w.failed) mover.worlds.items)) }
 {
-    let threads = image.entries().len();
     let flat = Flat::start(alloc, image, plan.budget, plan.profile)?;
-    let worlds = worlds(
-        alloc,
-        clock,
-        Time::Counted,
-        threads,
-        plan.random,
-        plan.input,
-    )?;
+    let worlds = counted_worlds(alloc, clock, image, plan)?;
     Ok(Mover {
         flat,
         worlds,

@@ -3,7 +3,6 @@
 ghost use Rattle.std.specs.Prelude.{◌≡◌, ◌≢◌, false, true, map, IfOk, IfErr, OnOk};
 ghost use Rattle.std.specs.String.{string_bytes};
 ghost use Rattle.ir_files.specs.Writers.{writer_of};
-ghost use Rattle.ir_hunt.specs.Finding.{by_list};
 ghost use Rattle.ir_record_command.specs.Stopping.{telling, tellings, devices};
 ghost use Rattle.ir_record_command.specs.declared.record_fault.RecordFault.{RecordFault};
 ghost use Rattle.ir_record_command.specs.declared.record_fault.RecordFault.TheVariants.{NoMem};
@@ -20,13 +19,11 @@ use crate::plan::ShrinkPlan;
 use crate::playing::{Played, play};
 use crate::refusal::Refusal;
 use crate::report::shrunk_lines;
-use crate::stale::trace_of;
 use crate::switches::switches;
 use ir_files::{ExitStatus, OutputSink, WholeSink, tell, tell_of};
+use ir_hunt::by_list;
 use ir_order::list_of_items;
-use ir_record_command::{
-    ParsedImage, RecordFault, RecordFiles, RecordPlan, Recording, record_by_list,
-};
+use ir_record_command::{ParsedImage, RecordFault, RecordFiles, Recording, record_by_list};
 use ir_stream::{Sink, write_all};
 use ir_trace::{Trace, encoding_is_read, write_trace};
 use std::alloc::{AllocError, Global};
@@ -85,13 +82,7 @@ impl<C: Clock> Judge<'_, C> {
         let plan = &self.plan.record;
         let order = order_of(self.alloc, self.image, plan, trace)?;
         let played = play(self.alloc, self.clock, self.image, plan, order.as_slice())?;
-        let own = trace_of(
-            self.alloc,
-            self.clock,
-            self.image,
-            plan,
-            played.items.as_slice(),
-        )?;
+        let own = self.trace_of(played.items.as_slice())?;
         let is_same = are_same(self.alloc, &own, trace)?;
         if !is_same {
             return Err(Refusal::Other);
@@ -194,19 +185,6 @@ fn refused<E: Sink>(faults: &mut E, why: &Refusal, plan: &ShrinkPlan<'_>) -> Exi
     why.status()
 }
 
-// How a guest is recorded by a list.
-fn by_list<'a>(how: &RecordPlan<'a>, list: &'a str) -> RecordPlan<'a>
-    ensures { result ≡ by_list how.now list.now }
-{
-    RecordPlan {
-        order: Some(list),
-        budget: how.budget,
-        random: how.random,
-        input: how.input,
-        profile: how.profile,
-    }
-}
-
 /// Shrinks the run of a guest with a trace to one with fewer switches that fulfils each condition of the plan too, and records it. First a line
 /// `shrunk S0 to S1 order LIST` is written, and `minimal` if no turn boundary can be taken from LIST, or `stopped seconds` if the time was over
 /// before that was known. All that `record_by_list` writes of the recording by LIST follows.
@@ -243,8 +221,7 @@ pub fn shrink_run<R: Clock + Eprint + AllocGlobal, W: WholeSink, P: OutputSink, 
         Err(why) => return Err(refused(faults, &why, plan)),
     };
     if write_all(out, found.lines.as_bytes()).is_err() {
-        let why = Refusal::Fault(RecordFault::Lines);
-        return Err(refused(faults, &why, plan));
+        return Err(refused(faults, &Refusal::Fault(RecordFault::Lines), plan));
     }
     let list = found.list.as_str();
     let how = &by_list(&plan.record, list);

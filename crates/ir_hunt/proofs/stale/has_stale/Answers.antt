@@ -1,9 +1,7 @@
-use Rattle.std.proofs.Common.{◌∙◌}
 use Rattle.ir_record.specs.Recording.{order_of_turns}
 use Rattle.ir_hunt.proofs.Recorded.{ok_stale_by_order}
 use Rattle.ir_hunt.proofs.stale.has_stale.Goals as goal
 
-pub returns-in-Ok : goal.returns-in-Ok
-returns-in-Ok g c = ok_stale_by_order c.args.image.now c.args.plan.now (order_of_turns c.args.turns.now) c.in_ok-trace.trace c.in-Ok.fitted
-    c.has_rests.result c.in_ok-trace.ensures.by (c.in-Ok.ensures.fits.0 ∙ c.in_ok-copy_of.ensures) c.in-Ok.ensures.fits.1 c.in-Ok.ensures.run
-    c.has_rests.ensures
+pub returns : goal.returns
+returns g c = ok_stale_by_order c.args.image.now c.args.plan.now (order_of_turns c.args.turns.now) c.in_ok-trace.trace c.rests_in_trace.result
+    c.in_ok-trace.ensures.by c.rests_in_trace.ensures

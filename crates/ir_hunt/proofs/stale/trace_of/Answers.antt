@@ -1,8 +1,8 @@
-use Rattle.std.proofs.Common.{length, map, true, ◌∙◌, subst}
+use Rattle.std.proofs.Common.{ap, length, map, refl, sym, true, ◌∙◌, subst}
 use Rattle.std.specs.Prelude.{option_map}
 use Rattle.ir_record.specs.Recording.{order_of_turns}
 use Rattle.ir_record_command.specs.Plan.{Plan}
-use Rattle.ir_world.specs.Sources.{made_with}
+use Rattle.ir_world.specs.Sources.{made_with, origins}
 use Rattle.ir_world.proofs.CallerLemmas.{answered_by_own_origin}
 use Rattle.ir_hunt.specs.Stale.{IsTraceBy}
 use Rattle.ir_hunt.proofs.Recorded.{fresh_trace_by_order}
@@ -19,9 +19,10 @@ returns-in-Ok-clause-by g c =
       profile = c.plan.inside.profile;
     } in
     subst (λ (p : Plan). IsTraceBy c.args.image.now p (order_of_turns c.args.turns.now) c.in-Ok.trace) c.plan.view_is
-    (fresh_trace_by_order c.args.image.now inside c.entries-threads.result.now (order_of_turns c.args.turns.now)
+    (fresh_trace_by_order c.args.image.now inside c.args.image.now.entries (order_of_turns c.args.turns.now)
     (map (λ w. w.answers.items) c.in_ok-worlds.worlds.items) c.in-Ok.trace (map (λ o. o.bytes.items) each) (map (λ o. o.world.answers.items) each)
-    c.entries-threads.ensures.value c.in_ok-worlds.ensures.fresh c.in-Ok.ensures.recorded
+    refl c.in_ok-worlds.ensures.fresh c.in-Ok.ensures.recorded
     (answered_by_own_origin (λ o. made_with o.world.time o.world.seed o.world.file.now) (λ o. o.world.answers.items) (λ o. (o.world.sources, o.world.gave))
-    true c.plan.inside.random c.plan.inside.input.now each (length c.entries-threads.result.now)
-    (c.in-Ok.ensures.origins ∙ c.in_ok-worlds.ensures.origins)))
+    true inside.random inside.input each (length c.args.image.now.entries)
+    (c.in-Ok.ensures.origins ∙ c.in_ok-worlds.ensures.origins
+    ∙ ap (λ (p : Plan). origins true p.random p.input (length c.args.image.now.entries)) (sym c.plan.view_is))))
