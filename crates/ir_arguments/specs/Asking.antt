@@ -214,16 +214,15 @@ hunt_asked rows = or_nothing (option_map (λ what. HuntFor what) (hunt_in rows))
 -- `ir shrink IMAGE TRACE OUT`
 unfoldable pub shrinking_in : Rows → Option Shrinking
 shrinking_in rows = do
-  until ← conditions_given (texts_for rows (codes "until"))
-  stale ← stale_wanted (texts_for rows (codes "until"))
+  wanted ← wanted_in rows
   seconds ← seconds_in rows
   random ← random_in rows
   Some (record {
     image = text_for rows (codes "IMAGE");
     trace = text_for rows (codes "TRACE");
     out = text_for rows (codes "OUT");
-    until = until;
-    stale = stale;
+    until = wanted.0;
+    stale = wanted.1;
     seconds = seconds;
     random = random;
     input = first_given rows (codes "input");

@@ -164,7 +164,7 @@ fn excluded_line(
     }
 }
 
-// The argument that another needs, if it isn't given, or both of which it needs one.
+// The argument that a rule asks for and that isn't given, as messages show it; where either of two arguments will do, both.
 fn needed(
     alloc: Global,
     matches: &ArgMatches<'_>,

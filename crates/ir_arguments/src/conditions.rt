@@ -7,16 +7,31 @@ ghost use Rattle.std.specs.Option.{is_none};
 ghost use Rattle.std.specs.Str.{bytes_eq};
 ghost use Rattle.ir_schedule.specs.Conditions.{as_condition, as_fact};
 ghost use Rattle.ir_schedule.specs.Spelling.{marks};
+ghost use Rattle.ir_arguments.specs.Asking.{wanted_in};
 ghost use Rattle.ir_arguments.specs.Conditions.{asked_also, conditions_given, stale_after, stale_named, stale_wanted};
 ghost use Rattle.ir_arguments.specs.Exploring.{asks_for_budget, hang_wanted, is_budget, is_of_outcome, conditions_on_outcome};
+ghost use Rattle.ir_arguments.specs.Parser.{IsArgument, needed_repeated};
 ghost use Rattle.ir_arguments.specs.Values.{rows_of_matches, texts_for};
 
 use crate::condition_text::ConditionText;
+use crate::forms::needed_repeated_arg;
 use crate::values::{UNTIL, texts_for};
 use crate::wrong_condition::why_no_condition;
-use clap::ArgMatches;
+use clap::{Arg, ArgMatches};
 use ir_schedule::{Condition, Fact, Literal, condition_of};
 use std::alloc::{AllocError, Global};
+
+/// The option for a condition on a run, which is given once or more often.
+pub fn until_arg<'a>(alloc: Global) -> Arg<'a>
+    ensures { IsArgument result (needed_repeated (codes "until")) }
+{
+    needed_repeated_arg(
+        alloc,
+        UNTIL,
+        "COND",
+        "What has to hold of a run; given more than once, all of it",
+    )
+}
 
 // What comes after the mark at the start of a text, if it begins with one.
 fn after_mark(text: &str) -> Option<&str>
@@ -137,6 +152,23 @@ pub fn conditions_of(
     ensures { IfOk result (λ read. option_map (λ v. v.items) (result_ok read) ≡ conditions_given (texts_for (rows_of_matches matches.now) (codes "until"))) }
 {
     conditions_in(alloc, texts_for(matches, UNTIL))
+}
+
+/// The conditions on what a run comes to, and what is asked of its stale writes, or what is wrong with one.
+pub fn wanted_by(
+    alloc: Global,
+    matches: &ArgMatches<'_>,
+) -> Result<Result<(Vec<ConditionText>, Option<bool>), String>, AllocError>
+    ensures { IfOk result (λ read. option_map (λ w. (w.0.items, w.1)) (result_ok read) ≡ wanted_in (rows_of_matches matches.now)) }
+{
+    let until = match conditions_of(alloc, matches)? {
+        Ok(until) => until,
+        Err(why) => return Ok(Err(why)),
+    };
+    match stale_by(alloc, matches)? {
+        Ok(stale) => Ok(Ok((until, stale))),
+        Err(why) => Ok(Err(why)),
+    }
 }
 
 // Whether some literal is about a spent budget.

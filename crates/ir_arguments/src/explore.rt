@@ -3,7 +3,6 @@
 ghost use Rattle.std.specs.Prelude.{◌≡◌, ◌≤◌, codes, option_map, IfOk};
 ghost use Rattle.std.specs.Result.{result_ok};
 ghost use Rattle.ir_record_command.specs.Numerals.{number_within};
-ghost use Rattle.ir_arguments.specs.Asking.{seconds_in};
 ghost use Rattle.ir_arguments.specs.Exploring.{ends_in, outcomes_in, reach_in, switches_given};
 ghost use Rattle.ir_arguments.specs.Values.{rows_of_matches, first_given, text_for};
 ghost use Rattle.ir_arguments.specs.Parser.{IsArgument, and_rules, app_in, option, option_or, place, repeated_option, rules_of};
@@ -13,6 +12,7 @@ use crate::bonds::{Bond, Named};
 use crate::condition_text::ConditionText;
 use crate::forms::{option_arg, option_or_arg, place_arg, repeated_arg, with_arg};
 use crate::recording::{OUTPUT, input_arg, output_arg, profile_arg, random_arg};
+use crate::seconds::{SECONDS, seconds_by};
 use crate::subcommands::Row;
 use crate::values::{TRACE, UNTIL, given, image_arg, text_for};
 use crate::within::{ONLY, WITHIN, only_arg, within_arg};
@@ -100,8 +100,6 @@ const SWITCHES: &str = "switches";
 
 const PRIVATE: &str = "private";
 
-const SECONDS: &str = "seconds";
-
 const MAX: &str = "max";
 
 // The most of each option.
@@ -110,8 +108,6 @@ const MOST_STATES: u64 = 100_000_000;
 const MOST_SWITCHES: u64 = 1_000_000;
 
 const MOST_PRIVATE: u64 = MOST_BUDGET;
-
-const MOST_SECONDS: u64 = 1_000_000;
 
 const MOST_OUTCOMES: u64 = 100_000_000;
 
@@ -328,22 +324,6 @@ fn switches_of(alloc: Global, matches: &ArgMatches<'_>) -> Result<Result<usize, 
     }
 }
 
-// The most seconds that are asked for, if they are, or what is wrong with their number.
-fn seconds_of(
-    alloc: Global,
-    matches: &ArgMatches<'_>,
-) -> Result<Result<Option<u32>, String>, AllocError>
-    ensures { IfOk result (λ read. result_ok read ≡ seconds_in (rows_of_matches matches.now)) }
-{
-    if given(matches, SECONDS).is_none() {
-        return Ok(Ok(None));
-    }
-    match number_in_option(alloc, matches, SECONDS, 1, MOST_SECONDS)? {
-        Ok(seconds) => Ok(Ok(Some(seconds as u32))),
-        Err(why) => Ok(Err(why)),
-    }
-}
-
 // The most outcomes that are asked for, if they are, or what is wrong with their number.
 fn outcomes_of(
     alloc: Global,
@@ -367,7 +347,7 @@ fn ends_of(
 ) -> Result<Result<(Option<u32>, Option<usize>), String>, AllocError>
     ensures { IfOk result (λ read. result_ok read ≡ ends_in (rows_of_matches matches.now)) }
 {
-    let seconds = match seconds_of(alloc, matches)? {
+    let seconds = match seconds_by(alloc, matches)? {
         Ok(seconds) => seconds,
         Err(why) => return Ok(Err(why)),
     };

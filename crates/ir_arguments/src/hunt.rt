@@ -1,22 +1,23 @@
 //! The arguments of `ir hunt`.
 
-ghost use Rattle.std.specs.Prelude.{◌≡◌, codes, option_map, IfOk};
+ghost use Rattle.std.specs.Prelude.{◌≡◌, codes, IfOk};
 ghost use Rattle.std.specs.Result.{result_ok};
-ghost use Rattle.ir_arguments.specs.Asking.{bounds_in, hunt_asked, jobs_given, seconds_in, wanted_in};
+ghost use Rattle.ir_arguments.specs.Asking.{bounds_in, hunt_asked, jobs_given};
 ghost use Rattle.ir_arguments.specs.Values.{rows_of_matches, first_given};
 ghost use Rattle.ir_arguments.specs.Views.{request_view};
-ghost use Rattle.ir_arguments.specs.Parser.{IsArgument, and_rules, app_in, flag, needed_repeated, option, option_or, rules_of};
+ghost use Rattle.ir_arguments.specs.Parser.{IsArgument, and_rules, app_in, flag, option, option_or, rules_of};
 ghost use Rattle.ir_arguments.specs.declared.subcommands.Subcommand.TheVariants as sub;
 
 use crate::asked::Asked;
 use crate::condition_text::ConditionText;
-use crate::conditions::{conditions_of, stale_by};
-use crate::forms::{flag_arg, needed_repeated_arg, option_arg, option_or_arg, with_arg};
+use crate::conditions::{until_arg, wanted_by};
+use crate::forms::{flag_arg, option_arg, option_or_arg, with_arg};
 use crate::options::options_of;
 use crate::recording::{RecordingOptions, with_options};
+use crate::seconds::{SECONDS, seconds_by};
 use crate::seeds::{by_arg, seeds_by, way_by};
 use crate::subcommands::Row;
-use crate::values::{IMAGE, TRACE, UNTIL, file_arg, given, has_flag, image_arg, text_for, text_of};
+use crate::values::{IMAGE, TRACE, file_arg, given, has_flag, image_arg, text_for, text_of};
 use clap::{Arg, ArgMatches, Command};
 use ir_record_command::number_within;
 use ir_schedule::{Seeds, Way};
@@ -29,12 +30,7 @@ const JOBS: &str = "jobs";
 // The most threads that can be asked for.
 const MOST_JOBS: u64 = 64;
 
-const SECONDS: &str = "seconds";
-
 const SHRINK: &str = "shrink";
-
-// The most seconds that can be asked for.
-const MOST_SECONDS: u64 = 1_000_000;
 
 /// What follows the help of `ir hunt`.
 pub const HUNT_AFTER: &str =
@@ -116,17 +112,6 @@ fn seeds_arg<'a>(alloc: Global) -> Arg<'a>
     )
 }
 
-fn until_arg<'a>(alloc: Global) -> Arg<'a>
-    ensures { IsArgument result (needed_repeated (codes "until")) }
-{
-    needed_repeated_arg(
-        alloc,
-        UNTIL,
-        "COND",
-        "What has to hold of a run; given more than once, all of it",
-    )
-}
-
 fn jobs_arg<'a>(alloc: Global) -> Arg<'a>
     ensures { IsArgument result (option (codes "jobs")) }
 {
@@ -192,24 +177,6 @@ fn jobs_by(alloc: Global, matches: &ArgMatches<'_>) -> Result<Result<usize, Stri
     }
 }
 
-// The most seconds that are asked for, if they are, or what is wrong with their number.
-fn seconds_by(
-    alloc: Global,
-    matches: &ArgMatches<'_>,
-) -> Result<Result<Option<u32>, String>, AllocError>
-    ensures { IfOk result (λ read. result_ok read ≡ seconds_in (rows_of_matches matches.now)) }
-{
-    let Some(text) = given(matches, SECONDS) else {
-        return Ok(Ok(None));
-    };
-    match number_within(1, MOST_SECONDS, text) {
-        Some(number) => Ok(Ok(Some(number as u32))),
-        None => Ok(Err(format!(in alloc;
-            "--{SECONDS}: '{text}' is no number from 1 to {MOST_SECONDS}"
-        )?)),
-    }
-}
-
 // The most threads and seconds that are asked for, or what is wrong with one of the numbers.
 fn bounds_by(
     alloc: Global,
@@ -223,23 +190,6 @@ fn bounds_by(
     };
     match seconds_by(alloc, matches)? {
         Ok(seconds) => Ok(Ok((jobs, seconds))),
-        Err(why) => Ok(Err(why)),
-    }
-}
-
-// The conditions on what a run comes to, and what is asked of its stale writes, or what is wrong with one.
-fn wanted_by(
-    alloc: Global,
-    matches: &ArgMatches<'_>,
-) -> Result<Result<(Vec<ConditionText>, Option<bool>), String>, AllocError>
-    ensures { IfOk result (λ read. option_map (λ w. (w.0.items, w.1)) (result_ok read) ≡ wanted_in (rows_of_matches matches.now)) }
-{
-    let until = match conditions_of(alloc, matches)? {
-        Ok(until) => until,
-        Err(why) => return Ok(Err(why)),
-    };
-    match stale_by(alloc, matches)? {
-        Ok(stale) => Ok(Ok((until, stale))),
         Err(why) => Ok(Err(why)),
     }
 }

@@ -20,6 +20,7 @@ mod list;
 mod options;
 mod record;
 mod recording;
+mod seconds;
 mod seeds;
 mod shrink;
 mod stale;

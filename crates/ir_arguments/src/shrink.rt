@@ -1,31 +1,25 @@
 //! The arguments of `ir shrink`.
 
 ghost use Rattle.std.specs.Prelude.{◌≡◌, IfOk, codes};
-ghost use Rattle.std.specs.Result.{result_ok};
-ghost use Rattle.ir_arguments.specs.Asking.{seconds_in, shrinking_asked};
+ghost use Rattle.ir_arguments.specs.Asking.{shrinking_asked};
 ghost use Rattle.ir_arguments.specs.Values.{rows_of_matches};
 ghost use Rattle.ir_arguments.specs.Views.{request_view};
-ghost use Rattle.ir_arguments.specs.Parser.{IsArgument, and_rules, app_in, needed_repeated, option, rules_of};
+ghost use Rattle.ir_arguments.specs.Parser.{IsArgument, and_rules, app_in, option, rules_of};
 ghost use Rattle.ir_arguments.specs.declared.subcommands.Subcommand.TheVariants as sub;
 
 use crate::asked::Asked;
 use crate::condition_text::ConditionText;
-use crate::conditions::{conditions_of, stale_by};
-use crate::forms::{needed_repeated_arg, option_arg, with_arg};
+use crate::conditions::{until_arg, wanted_by};
+use crate::forms::{option_arg, with_arg};
 use crate::options::random_in;
 use crate::recording::{INPUT, OUTPUT, input_arg, output_arg, random_arg};
+use crate::seconds::{SECONDS, seconds_by};
 use crate::subcommands::Row;
-use crate::values::{IMAGE, TRACE, UNTIL, file_arg, given, given_text, image_arg, text_of};
+use crate::values::{IMAGE, TRACE, file_arg, given_text, image_arg, text_of};
 use clap::{Arg, ArgMatches, Command};
-use ir_record_command::number_within;
 use std::alloc::{AllocError, Global};
 
 const OUT: &str = "OUT";
-
-const SECONDS: &str = "seconds";
-
-// The most seconds that can be asked for.
-const MOST_SECONDS: u64 = 1_000_000;
 
 /// What follows the help of `ir shrink`.
 pub const SHRINK_AFTER: &str =
@@ -83,17 +77,6 @@ pub struct ShrinkArguments {
     pub output: Option<String>,
 }
 
-fn until_arg<'a>(alloc: Global) -> Arg<'a>
-    ensures { IsArgument result (needed_repeated (codes "until")) }
-{
-    needed_repeated_arg(
-        alloc,
-        UNTIL,
-        "COND",
-        "What has to hold of a run; given more than once, all of it",
-    )
-}
-
 fn seconds_arg<'a>(alloc: Global) -> Arg<'a>
     ensures { IsArgument result (option (codes "seconds")) }
 {
@@ -126,35 +109,13 @@ pub fn with_arguments<'a>(alloc: Global, command: Command<'a>) -> Result<Command
     with_arg(command, output_arg(alloc))
 }
 
-// The most seconds that are asked for, if they are, or what is wrong with their number.
-fn seconds_by(
-    alloc: Global,
-    matches: &ArgMatches<'_>,
-) -> Result<Result<Option<u32>, String>, AllocError>
-    ensures { IfOk result (λ read. result_ok read ≡ seconds_in (rows_of_matches matches.now)) }
-{
-    let Some(text) = given(matches, SECONDS) else {
-        return Ok(Ok(None));
-    };
-    match number_within(1, MOST_SECONDS, text) {
-        Some(number) => Ok(Ok(Some(number as u32))),
-        None => Ok(Err(format!(in alloc;
-            "--{SECONDS}: '{text}' is no number from 1 to {MOST_SECONDS}"
-        )?)),
-    }
-}
-
 /// What its arguments ask for.
 #[tactic(auto, unfolding(crate::specs::Asking::shrinking_in))]
 pub fn asked(alloc: Global, matches: &ArgMatches<'_>) -> Result<Asked, AllocError>
     ensures { IfOk result (λ asked. request_view asked ≡ shrinking_asked (rows_of_matches matches.now)) }
 {
-    let until = match conditions_of(alloc, matches)? {
-        Ok(until) => until,
-        Err(why) => return Ok(Asked::Nothing(why)),
-    };
-    let stale = match stale_by(alloc, matches)? {
-        Ok(stale) => stale,
+    let (until, stale) = match wanted_by(alloc, matches)? {
+        Ok(wanted) => wanted,
         Err(why) => return Ok(Asked::Nothing(why)),
     };
     let seconds = match seconds_by(alloc, matches)? {
