@@ -7,19 +7,15 @@ use Rattle.std.specs.Option.{option_map, option_map_or}
 use Rattle.std.specs.String.{string_bytes}
 use Rattle.std.proofs.lemmas.List.FromFn.{get_or-map-range_with_len, length-map-range_with_len}
 use Rattle.std.proofs.lemmas.Option.{slice_get-get_or, slice_get_within}
-use Rattle.ir_explore.specs.Plan.{ExplorePlan}
 use Rattle.ir_files.specs.Given.{KnownFile, IsStored}
 use Rattle.ir_files.specs.Outputs.{Gains, Printed, StandEach, by_thread, output_path, outputs_given}
 use Rattle.ir_files.specs.Writers.{Writer}
 use Rattle.ir_files.specs.declared.exit_status.ExitStatus.{ExitStatus}
 use Rattle.ir_files.proofs.CallerLemmas.{taken_outputs_stand}
 use Rattle.ir_hunt.specs.declared.plan.HuntPlan.{HuntPlan}
-use Rattle.ir_schedule.specs.declared.condition.Condition.{Condition}
-use Rattle.ir_shrink.specs.declared.plan.ShrinkPlan.{ShrinkPlan}
 use Rattle.ir_trace.specs.Recorded.{Recorded}
-use Rattle.ir_within.specs.Faults.{Comparison}
-use Rattle.ir_commands.specs.Outside.{RecordsOutside}
-use Rattle.ir_commands.specs.Searching.{EndsFound, RecordsHang, RecordsHunted, RecordsOutcome, RecordsShrunkRun}
+use Rattle.ir_commands.specs.Searching.{EndsFound}
+use Rattle.ir_commands.specs.Sought.{RecordsRun}
 use Rattle.ir_commands.specs.Writing.{AreOutputPaths, KeptAsAsked, KeptAt, Keeping, StandBehind, Storing, texts_of_paths}
 
 -- ---- the files of outputs
@@ -100,74 +96,13 @@ output_paths_as_asked {Z} items lent_prefix lent own {prefix} same texts are =
 
 -- ---- what is kept so is kept otherwise too
 
-pub hunted_kept : {image : List ℕ} {plan : HuntPlan} {recorded : Recorded} {one other : Keeping} {out reports : Writer}
+pub run_kept : {recorded : Recorded} {is_found : List (List ℕ) → List ℕ → Type 0} {one other : Keeping} {out : Writer}
     → ((bytes : List ℕ) (printed : List (List ℕ)) → one bytes printed → other bytes printed)
-    → RecordsHunted image plan recorded one out reports → RecordsHunted image plan recorded other out reports
-hunted_kept to h = record {
-  left_out = h.left_out;
-  seed = h.seed;
-  list = h.list;
-  printed = h.printed;
-  finding = h.finding;
-  kept = to _ h.printed h.kept;
-  lines = h.lines;
-  told = h.told;
-}
-
-pub outcome_kept : {image : List ℕ} {plan : ExplorePlan} {conditions : List Condition} {one other : Keeping} {out : Writer}
-    → ((bytes : List ℕ) (printed : List (List ℕ)) → one bytes printed → other bytes printed)
-    → RecordsOutcome image plan conditions one out → RecordsOutcome image plan conditions other out
-outcome_kept to h = record {
-  list = h.list;
-  text = h.text;
-  recorded = h.recorded;
-  printed = h.printed;
-  finding = h.finding;
-  kept = to _ h.printed h.kept;
-  lines = h.lines;
-}
-
-pub hang_kept : {image : List ℕ} {plan : ExplorePlan} {one other : Keeping} {out : Writer}
-    → ((bytes : List ℕ) (printed : List (List ℕ)) → one bytes printed → other bytes printed)
-    → RecordsHang image plan one out → RecordsHang image plan other out
-hang_kept to h = record {
-  order = h.order;
-  text = h.text;
-  recorded = h.recorded;
-  printed = h.printed;
-  finding = h.finding;
-  kept = to _ h.printed h.kept;
-  lines = h.lines;
-}
-
-pub outside_kept : {c : Comparison} {one other : Keeping} {out : Writer}
-    → ((bytes : List ℕ) (printed : List (List ℕ)) → one bytes printed → other bytes printed) → RecordsOutside c one out → RecordsOutside c other out
-outside_kept to h = record {
-  list = h.list;
-  text = h.text;
-  recorded = h.recorded;
-  printed = h.printed;
-  finding = h.finding;
-  kept = to _ h.printed h.kept;
-  lines = h.lines;
-}
-
-pub shrunk_kept : {image : List ℕ} {given : Recorded} {plan : ShrinkPlan} {is_minimal : Bool} {one other : Keeping} {out : Writer}
-    → ((bytes : List ℕ) (printed : List (List ℕ)) → one bytes printed → other bytes printed)
-    → RecordsShrunkRun image given plan is_minimal one out → RecordsShrunkRun image given plan is_minimal other out
-shrunk_kept to h = record {
-  before = h.before;
-  after = h.after;
-  list = h.list;
-  recorded = h.recorded;
-  printed = h.printed;
-  shrinking = h.shrinking;
-  kept = to _ h.printed h.kept;
-  lines = h.lines;
-}
+    → RecordsRun recorded is_found one out → RecordsRun recorded is_found other out
+run_kept to h = record { printed = h.printed; text = h.text; found = h.found; kept = to _ h.printed h.kept; lines = h.lines }
 
 pub ends_kept : {image : List ℕ} {plan : HuntPlan} {given : Recorded} {one other : Keeping} {answered : ExitStatus} {out faults : Writer}
     → ((bytes : List ℕ) (printed : List (List ℕ)) → one bytes printed → other bytes printed)
     → EndsFound image plan given one answered out faults → EndsFound image plan given other answered out faults
-ends_kept to (inl h) = inl (h.0, h.1, record { plan = h.2.plan; is_plan = h.2.is_plan; shrunk = shrunk_kept to h.2.shrunk })
+ends_kept to (inl h) = inl (h.0, h.1, record { plan = h.2.plan; recorded = h.2.recorded; is_plan = h.2.is_plan; shrunk = run_kept to h.2.shrunk })
 ends_kept to (inr h) = inr h

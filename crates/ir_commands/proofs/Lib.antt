@@ -5,6 +5,5 @@ mod Outsides
 mod Refused
 mod Searched
 mod Stored
-mod Versions
 mod Written
 mod Asked

@@ -1,5 +1,5 @@
 -- What a comparison that records leaves where nothing is recorded.
-use Rattle.std.proofs.Common.{◌≡◌, ◌⊎◌, List, ℕ, Option, Some, inl, inr, refl, subst}
+use Rattle.std.proofs.Common.{◌≡◌, ◌⊎◌, List, ℕ, Option, Some, inl, inr, refl, subst, sym}
 use Rattle.std.specs.String.{string_bytes}
 use Rattle.ir_arguments.specs.declared.within.Counted.{Counted}
 use Rattle.ir_arguments.specs.declared.within.OutsideArguments.{OutsideArguments}
@@ -14,7 +14,7 @@ use Rattle.ir_within.specs.Faults.{Comparison, ToldNone, within_fault_status}
 use Rattle.ir_within.specs.Outside.{StopsOutside}
 use Rattle.ir_within.specs.declared.fault.WithinFault.{WithinFault}
 use Rattle.ir_within.specs.declared.fault.WithinFault.TheVariants as within
-use Rattle.ir_commands.specs.Exploring.{AsksComparison, IsStatusOfNoComparison, LacksCounted, LacksIn}
+use Rattle.ir_commands.specs.Exploring.{AsksComparison, IsInput, IsPlanOf, IsStatusOfNoComparison, LacksCounted, LacksIn, counted_asked}
 use Rattle.ir_commands.specs.Files.{IsImageIn, LacksGuest, RefusesGuest}
 use Rattle.ir_commands.specs.Outside.{MissesOutside, RefusesEither, TellsNoneOutside}
 use Rattle.ir_commands.specs.Printing.{Paths}
@@ -23,6 +23,20 @@ use Rattle.ir_commands.specs.Writing.{IsStatusOfNoRecording}
 use Rattle.ir_commands.proofs.Refused.{explore_fault_is, explored_lacks_guest, failed_is_not_refused, fault_is_no_recording, none_is_no_recording, refused_since}
 use Rattle.ir_commands.proofs.Refused.{spelled_lacks_guest, stopped_lacks_guest}
 use Rattle.ir_commands.proofs.Stored.{reported_is_told}
+
+-- what is compared, by what was read
+pub comparison_asked : {at : Paths} {within : WithinArguments} {image other input read : List ℕ} (c : Comparison) → c.image ≡ image
+    → IsImageIn (at (string_bytes within.explore.image)) image → c.other ≡ other → IsImageIn (at (string_bytes within.other)) other
+    → IsInput at within.explore.input input → read ≡ input → IsPlanOf within.explore read c.plan → c.aspects ≡ counted_asked within.counted
+    → AsksComparison at within c
+comparison_asked {at} {within} {image} {other} {input} {read} c same is_image same_other is_other is_input got is_plan counts = record {
+  input = input;
+  is_image = subst (IsImageIn (at (string_bytes within.explore.image))) (sym same) is_image;
+  is_other = subst (IsImageIn (at (string_bytes within.other))) (sym same_other) is_other;
+  is_input = is_input;
+  is_plan = subst (λ z. IsPlanOf within.explore z c.plan) got is_plan;
+  counts = counts;
+}
 
 -- why no comparison is told
 told_lacks_guest : (e : WithinFault) (c : Comparison) (w : Writer) → ToldNone e c w → within_fault_status e ≡ status.Refused

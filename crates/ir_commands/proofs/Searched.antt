@@ -3,15 +3,15 @@ use Rattle.std.proofs.Common.{◌≡◌, ◌∙◌, ◌⊎◌, List, ℕ, zero, 
 use Rattle.std.specs.Prelude.{⊤, Bool, Option, None, length, IfErr, IfOk, OnErr, OnOk, Result, Ok, Err, true, false}
 use Rattle.std.specs.String.{string_bytes}
 use Rattle.ir_explore.specs.Faults.{explore_fault_status, explore_fault_words}
-use Rattle.ir_explore.specs.Hang.{IsHangAnswer, StopsHang, hang_plan}
+use Rattle.ir_explore.specs.Hang.{IsHangAnswer, IsHangRecorded, StopsHang, hang_plan}
 use Rattle.ir_explore.specs.Plan.{ExplorePlan}
-use Rattle.ir_explore.specs.Until.{StopsUntil, recording}
+use Rattle.ir_explore.specs.Until.{IsOutcomeFinding, StopsUntil, recording}
 use Rattle.ir_explore.specs.declared.fault.ExploreFault.{ExploreFault}
 use Rattle.ir_explore.specs.declared.fault.ExploreFault.TheVariants as fault
 use Rattle.ir_arguments.specs.declared.explore.UntilArguments.{UntilArguments}
 use Rattle.ir_arguments.specs.declared.hunt.HuntArguments.{HuntArguments}
 use Rattle.ir_arguments.specs.declared.shrink.ShrinkArguments.{ShrinkArguments}
-use Rattle.ir_files.specs.Writers.{Took, Writer, writer_of}
+use Rattle.ir_files.specs.Writers.{Writer, writer_of}
 use Rattle.ir_files.specs.declared.exit_status.ExitStatus.{ExitStatus}
 use Rattle.ir_files.specs.declared.exit_status.ExitStatus.TheVariants as status
 use Rattle.ir_explore.specs.declared.hang_order.HangOrder.{HangOrder}
@@ -30,14 +30,17 @@ use Rattle.ir_shrink.specs.Stopping.{IsRefusalTold, StopsShrink, other_words, te
 use Rattle.ir_shrink.specs.declared.plan.ShrinkPlan.{ShrinkPlan}
 use Rattle.ir_shrink.specs.declared.refusal.Refusal.{Refusal}
 use Rattle.ir_shrink.specs.declared.refusal.Refusal.TheVariants as refused
-use Rattle.ir_trace.specs.Recorded.{Recorded}
-use Rattle.ir_commands.specs.Files.{LacksGuest, TellsFault}
+use Rattle.ir_trace.specs.Recorded.{Recorded, recorded_at}
+use Rattle.ir_commands.specs.Files.{IsFileIn, IsImageIn, LacksGuest, TellsFault}
 use Rattle.ir_commands.specs.Printing.{Paths}
-use Rattle.ir_commands.specs.Searching.{AsksHunt, AsksSearch, AsksShrink, EndsFound, HangHasNoOrder, HuntsFile, IsShrinkPlanOfHunt, IsStatusOfNoShrinking, RecordsHang, RecordsHunted}
-use Rattle.ir_commands.specs.Searching.{RecordsShrunkRun, RefusesFound, RefusesGiven, RefusesSearch, RefusesUntil}
-use Rattle.ir_commands.specs.Searching.{SearchFinds, SearchMisses, SearchesFile, ShrinkRefuses, ShrinksFound, TellsNoSearch, TellsNoSeed, TellsVain}
+use Rattle.ir_commands.specs.Conditions.{AreWritten}
+use Rattle.ir_commands.specs.Exploring.{IsInput, IsPlanOf}
+use Rattle.ir_commands.specs.Searching.{AsksHunt, AsksSearch, AsksShrink, EndsFound, HangHasNoOrder, HuntsFile, IsRunFound, IsShrinkPlanOfHunt, IsStatusOfNoShrinking, RecordsHunted}
+use Rattle.ir_commands.specs.Searching.{RecordsShrunkRun, RefusesFound, RefusesGiven, RefusesSearch, RefusesUntil, UntilMisses, plan_like}
+use Rattle.ir_commands.specs.Searching.{SearchFinds, SearchMisses, SearchesFile, ShrinkRefuses, ShrinksFound, TellsNoSearch, TellsNoSeed}
+use Rattle.ir_commands.specs.Sought.{RecordsRun}
 use Rattle.ir_commands.specs.Writing.{IsStatusOfNoRecording, KeptAsAsked, Keeping, Storing}
-use Rattle.ir_commands.proofs.Kept.{ends_kept, hunted_kept, shrunk_kept}
+use Rattle.ir_commands.proofs.Kept.{ends_kept, run_kept}
 use Rattle.ir_commands.proofs.Refused.{answer_lacks_guest, explore_fault_is, failed_is_not_refused, fault_is_no_recording, hang_lacks_guest, hunt_lacks_guest}
 use Rattle.ir_commands.proofs.Refused.{refused_since, spelled_lacks_guest, stopped_lacks_guest}
 use Rattle.ir_commands.proofs.Stored.{reported_is_told}
@@ -46,11 +49,6 @@ use Rattle.ir_commands.proofs.Stored.{reported_is_told}
 pub ok_gives : {T E : Type 0} {P : T → Type 0} {Q : Type 0} (r : Result T E) → ((x : T) → P x → Q) → IfOk r P → OnOk r Q
 ok_gives (Ok x) f p = f x p
 ok_gives (Err e) f p = p
-
--- the same by two things that hold there
-pub on_both : {T E X Y Z : Type 0} (r : Result T E) → (X → Y → Z) → OnOk r X → OnOk r Y → OnOk r Z
-on_both (Ok x) f p q = f p q
-on_both (Err e) f p q = p
 
 -- there is a value, with the status that it has, or there is none, with the status that was answered
 pub found_or_lost : {T Found : Type 0} (Lost : ExitStatus → Type 0) {done answered : ExitStatus} (r : Result T ExitStatus)
@@ -83,13 +81,14 @@ hunt_tells_none d answered image plan old new reports to (inr (e, is, inr (inr t
 -- what a search for an outcome tells that records nothing
 pub search_tells_none : {W P O : Type 0} (d : Tellings W P O) (answered : ExitStatus) (image : List ℕ) (plan : ExplorePlan) (conditions : List Condition)
     (old new : Devices W P O) (reports : Writer) {same : Type 0} → StopsUntil d answered image plan (map as_condition conditions) old new reports same
-    → TellsVain false image plan conditions answered (lines_between d old new) ⊎ TellsNoSearch (LacksGuest image plan.profile) answered reports
+    → UntilMisses false image plan conditions answered (lines_between d old new) reports
 search_tells_none d answered image plan conditions old new reports (inl h) = inl h.3
 search_tells_none d answered image plan conditions old new reports (inr (inl h)) =
-    inr (explore_fault_is h.0 (answer_lacks_guest h.0 image plan (map as_condition conditions) _ h.4) h.1, (explore_fault_words h.0, h.5))
+    inr (explore_fault_is h.0 (λ r. inl (answer_lacks_guest h.0 image plan (map as_condition conditions) _ h.4 r)) h.1, (explore_fault_words h.0, h.5))
 search_tells_none d answered image plan conditions old new reports (inr (inr h)) =
     inr (
-      fault_is_no_recording h.0 (λ r. spelled_lacks_guest _ h.5.says.hit.spelled (stopped_lacks_guest h.0 image h.3 (recording plan (Some h.3)) h.5.guest _ _ _ _ _ _ h.5.is refl h.7.1 r)) h.1,
+      fault_is_no_recording h.0 (λ r. inl (spelled_lacks_guest _ h.5.says.hit.spelled
+          (stopped_lacks_guest h.0 image h.3 (recording plan (Some h.3)) h.5.guest _ _ _ _ _ _ h.5.is refl h.7.1 r))) h.1,
       reported_is_told h.0 image _ _ _ reports h.7.0,
     )
 
@@ -100,34 +99,40 @@ hang_or_guest image plan order text told (inr none) =
     inr (record { order = order; text = text; told = told; guest = told.guest; is = told.is; none = none })
 
 -- the same of a search for a hang
-pub hang_tells_none : {W P O : Type 0} (d : Tellings W P O) (answered : ExitStatus) (image : List ℕ) (plan : ExplorePlan)
+pub hang_tells_none : {W P O : Type 0} (d : Tellings W P O) (answered : ExitStatus) (image : List ℕ) (plan : ExplorePlan) (conditions : List Condition)
     (old new : Devices W P O) (reports : Writer) {same : Type 0} → StopsHang d answered image plan old new reports same
-    → ((text : List ℕ) × IsHangAnswer image plan (Err answered) text × Took (lines_between d old new) text)
-    ⊎ TellsNoSearch (LacksGuest image plan.profile ⊎ HangHasNoOrder image plan) answered reports
-hang_tells_none d answered image plan old new reports (inl h) = inl h.3
-hang_tells_none d answered image plan old new reports (inr (inl h)) =
+    → UntilMisses true image plan conditions answered (lines_between d old new) reports
+hang_tells_none d answered image plan conditions old new reports (inl h) = inl h.3
+hang_tells_none d answered image plan conditions old new reports (inr (inl h)) =
     inr (explore_fault_is h.0 (λ r. inl (hang_lacks_guest h.0 image plan _ h.4 r)) h.1, (explore_fault_words h.0, h.5))
-hang_tells_none d answered image plan old new reports (inr (inr h)) =
+hang_tells_none d answered image plan conditions old new reports (inr (inr h)) =
     inr (
       fault_is_no_recording h.0 (λ r. hang_or_guest image plan h.2 h.3 h.5
           (stopped_lacks_guest h.0 image (string_bytes h.2.list) (hang_plan plan h.2) h.5.guest _ _ _ _ _ _ h.5.is refl h.7.1 r)) h.1,
       reported_is_told h.0 image _ _ _ reports h.7.0,
     )
 
--- a plan that is the same may stand for it
-pub with_plan : {image : List ℕ} {plan other : ExplorePlan} {is_kept : Keeping} {out : Writer} → plan ≡ other
-    → RecordsHang image plan is_kept out → RecordsHang image other is_kept out
-with_plan {image} {plan} {other} {is_kept} {out} same found = subst (λ p. RecordsHang image p is_kept out) same found
+-- the run that is looked for is found: it hangs, which is known by a plan that is the same
+pub hang_is_found : {hang : Bool} {image : List ℕ} {one plan : ExplorePlan} {recorded : Recorded} (conditions : List Condition) (order : HangOrder) (text : List ℕ)
+    (printed : List (List ℕ)) → hang ≡ true → one ≡ plan → IsHangRecorded image one order text recorded printed
+    → IsRunFound hang image plan conditions recorded printed text
+hang_is_found {hang} {image} {one} {plan} {recorded} conditions order text printed asked same found =
+    subst (λ b. IsRunFound b image plan conditions recorded printed text) (sym asked)
+    (order, subst (λ p. IsHangRecorded image p order text recorded printed) same found)
 
-pub hang_vain : {image : List ℕ} {plan other : ExplorePlan} {answered : ExitStatus} {reports : Writer} (out : Writer) → plan ≡ other
-    → ((text : List ℕ) × IsHangAnswer image plan (Err answered) text × Took out text)
-    ⊎ TellsNoSearch (LacksGuest image plan.profile ⊎ HangHasNoOrder image plan) answered reports
-    → ((text : List ℕ) × IsHangAnswer image other (Err answered) text × Took out text)
-    ⊎ TellsNoSearch (LacksGuest image other.profile ⊎ HangHasNoOrder image other) answered reports
-hang_vain {image} {plan} {other} {answered} out same (inl h) =
-    inl (h.0, subst (λ (p : ExplorePlan). IsHangAnswer image p (Err answered) h.0) same h.1, h.2)
-hang_vain {image} {plan} {other} {answered} {reports} out same (inr h) =
-    inr (subst (λ (p : ExplorePlan). TellsNoSearch (LacksGuest image p.profile ⊎ HangHasNoOrder image p) answered reports) same h)
+-- or it has an outcome
+pub outcome_is_found : {hang : Bool} {image : List ℕ} {plan : ExplorePlan} {conditions : List Condition} {recorded : Recorded} (list text : List ℕ)
+    (printed : List (List ℕ)) → hang ≡ false → IsOutcomeFinding image plan (map as_condition conditions) list text recorded printed
+    → IsRunFound hang image plan conditions recorded printed text
+outcome_is_found {hang} {image} {plan} {conditions} {recorded} list text printed asked found =
+    subst (λ b. IsRunFound b image plan conditions recorded printed text) (sym asked) (list, found)
+
+-- there is no such run, by a plan that is the same
+pub until_missed : {hang is : Bool} {image : List ℕ} {one plan : ExplorePlan} {conditions : List Condition} (answered : ExitStatus) (out reports : Writer)
+    → hang ≡ is → one ≡ plan → UntilMisses is image one conditions answered out reports → UntilMisses hang image plan conditions answered out reports
+until_missed {hang} {is} {image} {one} {plan} {conditions} answered out reports asked same h =
+    subst (λ b. UntilMisses b image plan conditions answered out reports) (sym asked)
+    (subst (λ p. UntilMisses is image p conditions answered out reports) same h)
 
 -- what a hunt comes to, by what it found and what was made of that
 pub hunt_comes_to : {O E : Type 0} (written : O → Option (List ℕ)) (broken : O → Bool) (reported : E → Option (List ℕ)) (fails : E → Bool) (at : Paths) (stored : Storing)
@@ -144,7 +149,7 @@ pub hunt_comes_to : {O E : Type 0} (written : O → Option (List ℕ)) (broken :
     (writer_of (reported told) (reported faults') (fails faults'))))
     → HuntsFile at stored arguments answered (writer_of (written out) (written out') (broken out')) (writer_of (reported faults) (reported faults') (fails faults'))
 hunt_comes_to written broken reported fails at stored arguments image plan out said out' faults told faults' answered one (Ok x) asked here found none stopped quiet kept done shrunk =
-    let hunted = hunted_kept here found in
+    let hunted = run_kept here found in
     inl (
       λ no. record {
         image = image;
@@ -206,30 +211,33 @@ shrink_stops d answered image plan given old new reports (inl h) =
 shrink_stops d answered image plan given old new reports (inr (before, after, list, is_minimal, is, inl f)) = inr (fault_is_no_recording Lines (λ r. tt) f.0)
 shrink_stops d answered image plan given old new reports (inr (before, after, list, is_minimal, is, inr s)) = inr (fault_is_no_recording s.0 (λ r. tt) s.2)
 
--- a guest that an image lacks is refused to a search
-pub until_refuses : {at : Paths} {arguments : UntilArguments} {image : List ℕ} {plan : ExplorePlan} {conditions : List Condition}
-    → AsksSearch at arguments image plan conditions → LacksGuest image plan.profile → RefusesUntil at arguments
-until_refuses {at} {arguments} {image} asked lacks = inl (inl (inr (image, asked.is_image, subst (λ p. LacksGuest image p) asked.is_plan.profile lacks)))
+-- what is looked for, by what was read
+pub search_asked : {at : Paths} {arguments : UntilArguments} {image bytes place input read : List ℕ} {plan : ExplorePlan} {conditions texts : List Condition}
+    → place ≡ string_bytes arguments.explore.image → image ≡ bytes → IsImageIn (at place) bytes → IsInput at arguments.explore.input input → read ≡ input
+    → IsPlanOf arguments.explore read plan → conditions ≡ texts → AreWritten arguments.until.items texts → AsksSearch at arguments image plan conditions
+search_asked {at} {arguments} {image} {bytes} {place} {input} {read} {plan} here same is_image is_input got is_plan given are = record {
+  input = input;
+  is_image = subst (λ p. IsImageIn (at p) image) here (subst (λ z. IsImageIn (at place) z) (sym same) is_image);
+  is_input = is_input;
+  is_plan = subst (λ z. IsPlanOf arguments.explore z plan) got is_plan;
+  are_conditions = subst (λ z. AreWritten arguments.until.items z) (sym given) are;
+}
 
-pub hang_refuses : {at : Paths} {arguments : UntilArguments} {image : List ℕ} {plan : ExplorePlan} {conditions : List Condition}
+-- a guest that an image lacks, or a hang without an order, is refused to a search
+until_refuses : {at : Paths} {arguments : UntilArguments} {image : List ℕ} {plan : ExplorePlan} {conditions : List Condition}
     → AsksSearch at arguments image plan conditions → LacksGuest image plan.profile ⊎ HangHasNoOrder image plan → RefusesUntil at arguments
-hang_refuses asked (inl lacks) = until_refuses asked lacks
-hang_refuses {at} {arguments} {image} {plan} {conditions} asked (inr none) = inr (image, plan, conditions, asked, none)
+until_refuses {at} {arguments} {image} asked (inl lacks) = inl (inl (inr (image, asked.is_image, subst (λ p. LacksGuest image p) asked.is_plan.profile lacks)))
+until_refuses {at} {arguments} {image} {plan} {conditions} asked (inr none) = inr (image, plan, conditions, asked, none)
 
 -- there is no run that is looked for, or nothing was searched
-pub search_misses : {at : Paths} {arguments : UntilArguments} {image : List ℕ} {plan : ExplorePlan} {conditions : List Condition} {hang : Bool} {told faults : Writer}
-    {refuses : Type 0} (answered : ExitStatus) (out : Writer) → AsksSearch at arguments image plan conditions → hang ≡ arguments.hang → told ≡ faults
-    → (refuses → RefusesUntil at arguments) → TellsVain hang image plan conditions answered out ⊎ TellsNoSearch refuses answered told
+pub search_misses : {at : Paths} {arguments : UntilArguments} {image : List ℕ} {plan : ExplorePlan} {conditions : List Condition} {told faults : Writer}
+    (answered : ExitStatus) (out : Writer) → AsksSearch at arguments image plan conditions → told ≡ faults
+    → UntilMisses arguments.hang image plan conditions answered out told
     → SearchMisses at arguments answered out ⊎ TellsNoSearch (RefusesUntil at arguments) answered faults
-search_misses {at} {arguments} {image} {plan} {conditions} answered out asked is same why (inl h) = inl (record {
-  image = image;
-  plan = plan;
-  conditions = conditions;
-  asked = asked;
-  vain = subst (λ b. TellsVain b image plan conditions answered out) is h;
-})
-search_misses {at} {arguments} answered out asked is same why (inr h) =
-    inr (subst (λ w. TellsNoSearch (RefusesUntil at arguments) answered w) same (refused_since why h.0, h.1))
+search_misses {at} {arguments} {image} {plan} {conditions} answered out asked same (inl h) =
+    inl (record { image = image; plan = plan; conditions = conditions; asked = asked; vain = h })
+search_misses {at} {arguments} answered out asked same (inr h) =
+    inr (subst (λ w. TellsNoSearch (RefusesUntil at arguments) answered w) same (refused_since (until_refuses asked) h.0, h.1))
 
 -- what a search comes to, by what it found
 pub search_comes_to : {T : Type 0} (at : Paths) (stored : Storing) (arguments : UntilArguments) (answered : ExitStatus) (out told faults : Writer)
@@ -242,12 +250,31 @@ search_comes_to at stored arguments answered out told faults (Err e) found (inr 
     inr (inr (subst (λ a. TellsNoSearch (RefusesUntil at arguments) a faults) (sym stopped)
     (subst (λ w. TellsNoSearch (RefusesUntil at arguments) e w) kept none)))
 
--- a run that is shrunk is so wherever what it leaves is kept
-pub shrunk_at : {image : List ℕ} {given : Recorded} {plan : ShrinkPlan} {is_minimal : Bool} {one other : Keeping} {out last : Writer}
+-- which run is shrunk, by what was read
+pub shrink_asked : {at : Paths} {arguments : ShrinkArguments} {image bytes file input read : List ℕ} {given : Recorded} {plan : ShrinkPlan} {texts : List Condition}
+    → image ≡ bytes → IsImageIn (at (string_bytes arguments.image)) bytes → IsFileIn (at (string_bytes arguments.trace)) file → recorded_at file ≡ Ok given
+    → IsInput at arguments.input input → read ≡ input → plan.record ≡ plan_like given arguments.random read → plan.conditions.now ≡ texts
+    → AreWritten arguments.until.items texts → plan.stale ≡ arguments.stale → plan.seconds ≡ arguments.seconds → AsksShrink at arguments image given plan
+shrink_asked {at} {arguments} {image} {bytes} {file} {input} {read} {given} {plan} same is_image is_file is_given is_input got how conditions are stale seconds = record {
+  file = file;
+  input = input;
+  is_image = subst (λ z. IsImageIn (at (string_bytes arguments.image)) z) (sym same) is_image;
+  is_file = is_file;
+  is_given = is_given;
+  is_input = is_input;
+  is_plan = record {
+    how = how ∙ ap (plan_like given arguments.random) got;
+    conditions = subst (λ z. AreWritten arguments.until.items z) (sym conditions) are;
+    stale = stale;
+    seconds = seconds;
+  };
+}
+
+-- a run that is recorded is so wherever what it leaves is kept
+pub run_kept_at : {recorded : Recorded} {is_found : List (List ℕ) → List ℕ → Type 0} {one other : Keeping} {out last : Writer}
     → ((bytes : List ℕ) (printed : List (List ℕ)) → one bytes printed → other bytes printed) → out ≡ last
-    → RecordsShrunkRun image given plan is_minimal one out → RecordsShrunkRun image given plan is_minimal other last
-shrunk_at {image} {given} {plan} {is_minimal} {one} {other} {out} {last} to same h =
-    subst (λ w. RecordsShrunkRun image given plan is_minimal other w) same (shrunk_kept to h)
+    → RecordsRun recorded is_found one out → RecordsRun recorded is_found other last
+run_kept_at {recorded} {is_found} {one} {other} to same h = subst (λ w. RecordsRun recorded is_found other w) same (run_kept to h)
 
 -- a run isn't shrunk
 pub shrink_refuses : {at : Paths} {arguments : ShrinkArguments} {image : List ℕ} {given : Recorded} {plan : ShrinkPlan} {told faults : Writer} (answered : ExitStatus)
@@ -263,11 +290,11 @@ shrink_refuses {at} {arguments} {image} {given} {plan} answered asked same (inl 
 shrink_refuses answered asked same (inr h) = inr (inl h)
 
 -- a run that was found is shrunk as the hunt looked for it
-pub found_shrinks : {image : List ℕ} {hunt view : HuntPlan} {given : Recorded} {plan : ShrinkPlan} {is_minimal : Bool} {is_kept : Keeping} {out : Writer}
-    → view ≡ hunt → IsShrinkPlanOfHunt view given plan → RecordsShrunkRun image given plan is_minimal is_kept out
+pub found_shrinks : {image : List ℕ} {hunt view : HuntPlan} {given recorded : Recorded} {plan : ShrinkPlan} {is_minimal : Bool} {is_kept : Keeping} {out : Writer}
+    → view ≡ hunt → IsShrinkPlanOfHunt view given plan → RecordsShrunkRun image given plan is_minimal recorded is_kept out
     → ShrinksFound image hunt given is_minimal is_kept out
-found_shrinks {image} {hunt} {view} {given} {plan} same is_plan h =
-    record { plan = plan; is_plan = subst (λ z. IsShrinkPlanOfHunt z given plan) same is_plan; shrunk = h }
+found_shrinks {image} {hunt} {view} {given} {recorded} {plan} same is_plan h =
+    record { plan = plan; recorded = recorded; is_plan = subst (λ z. IsShrinkPlanOfHunt z given plan) same is_plan; shrunk = h }
 
 -- or it isn't
 pub found_refuses : {image : List ℕ} {hunt view : HuntPlan} {given : Recorded} {plan : ShrinkPlan} {answered : ExitStatus} {faults : Writer}

@@ -5,4 +5,5 @@ pub mod Listing
 pub mod Outside
 pub mod Printing
 pub mod Searching
+pub mod Sought
 pub mod Writing

@@ -1,12 +1,10 @@
 -- What `ir explore --within` with a trace leaves, by the bytes that a folder says are at the paths of its arguments.
-use Rattle.std.specs.Prelude.{◌≡◌, ◌⊎◌, ℕ, List, ◌++◌, Err}
+use Rattle.std.specs.Prelude.{◌≡◌, ◌⊎◌, ℕ, List, Err}
 use Rattle.std.specs.String.{string_bytes}
 use Rattle.ir_arguments.specs.declared.within.OutsideArguments.{OutsideArguments}
 use Rattle.ir_files.specs.Writers.{Writer, Took}
 use Rattle.ir_files.specs.declared.exit_status.ExitStatus.{ExitStatus}
 use Rattle.ir_files.specs.declared.exit_status.ExitStatus.TheVariants as status
-use Rattle.ir_record_command.specs.Recording.{recording_lines}
-use Rattle.ir_trace.specs.Encoding.{encoding}
 use Rattle.ir_trace.specs.Recorded.{Recorded}
 use Rattle.ir_within.specs.Faults.{Comparison}
 use Rattle.ir_within.specs.Outside.{IsOutsideAnswer, IsOutsideRecorded}
@@ -14,17 +12,12 @@ use Rattle.ir_commands.specs.Exploring.{AsksComparison}
 use Rattle.ir_commands.specs.Files.{RefusesGuest}
 use Rattle.ir_commands.specs.Printing.{Paths}
 use Rattle.ir_commands.specs.Searching.{TellsNoSearch}
-use Rattle.ir_commands.specs.Writing.{KeptAsAsked, Keeping, Storing}
+use Rattle.ir_commands.specs.Sought.{RecordsRun}
+use Rattle.ir_commands.specs.Writing.{KeptAsAsked, Storing}
 
--- a run with the first outcome that is outside was recorded: this holds of its trace and of what its threads printed, and its lines were printed behind those of the comparison
-pub record RecordsOutside (c : Comparison) (is_kept : Keeping) (out : Writer) : Type 0 where
-  pub list : List ℕ
-  pub text : List ℕ
-  pub recorded : Recorded
-  pub printed : List (List ℕ)
-  pub finding : IsOutsideRecorded c list text recorded printed
-  pub kept : is_kept (encoding recorded) printed
-  pub lines : Took out (text ++ recording_lines recorded)
+-- a run with this trace, whose threads printed this, has the first outcome that is outside, and the text is the comparison
+abbrev pub IsOutsideFound : Comparison → Recorded → List (List ℕ) → List ℕ → Type 0
+IsOutsideFound c recorded printed text = (list : List ℕ) × IsOutsideRecorded c list text recorded printed
 
 -- no outcome is known to be outside, and what was found out was printed
 abbrev pub TellsNoneOutside : Comparison → ExitStatus → Writer → Type 0
@@ -33,8 +26,9 @@ TellsNoneOutside c answered out = (text : List ℕ) × IsOutsideAnswer c (Err an
 -- the first outcome that is outside was recorded, and its trace is at the path of TRACE
 pub record FindsOutside (at : Paths) (stored : Storing) (arguments : OutsideArguments) (out : Writer) : Type 0 where
   pub comparison : Comparison
+  pub recorded : Recorded
   pub asked : AsksComparison at arguments.within comparison
-  pub found : RecordsOutside comparison (KeptAsAsked stored (string_bytes arguments.trace) arguments.output) out
+  pub found : RecordsRun recorded (IsOutsideFound comparison recorded) (KeptAsAsked stored (string_bytes arguments.trace) arguments.output) out
 
 -- none is known to be
 pub record MissesOutside (at : Paths) (arguments : OutsideArguments) (answered : ExitStatus) (out : Writer) : Type 0 where

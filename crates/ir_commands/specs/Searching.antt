@@ -1,5 +1,5 @@
 -- What the commands that look for a run leave, by the bytes that a folder says are at the paths of their arguments.
-use Rattle.std.specs.Prelude.{◌≡◌, ◌⊎◌, ℕ, Bool, true, false, List, ◌++◌, Option, None, Ok, Err, length, map, nat_lt, ⊤}
+use Rattle.std.specs.Prelude.{◌≡◌, ◌⊎◌, ℕ, Bool, true, false, List, Option, None, Ok, Err, length, map, nat_lt, ⊤}
 use Rattle.std.specs.String.{string_bytes}
 use Rattle.ir_arguments.specs.declared.explore.UntilArguments.{UntilArguments}
 use Rattle.ir_arguments.specs.declared.hunt.HuntArguments.{HuntArguments}
@@ -18,7 +18,6 @@ use Rattle.ir_hunt.specs.Stopping.{TellsLeftOut, none_status}
 use Rattle.ir_hunt.specs.declared.plan.HuntPlan.{HuntPlan}
 use Rattle.ir_record_command.specs.Order.{order_of}
 use Rattle.ir_record_command.specs.Plan.{Plan}
-use Rattle.ir_record_command.specs.Recording.{recording_lines}
 use Rattle.ir_schedule.specs.Conditions.{as_condition}
 use Rattle.ir_schedule.specs.declared.condition.Condition.{Condition}
 use Rattle.ir_shrink.specs.Lines.{shrunk_lines}
@@ -26,12 +25,12 @@ use Rattle.ir_shrink.specs.Stopping.{IsShrinking, RefusesShrink, shrink_status}
 use Rattle.ir_shrink.specs.declared.plan.ShrinkPlan.{ShrinkPlan}
 use Rattle.ir_shrink.specs.declared.refusal.Refusal.{Refusal}
 use Rattle.ir_thread.specs.declared.profile.Profile.{Profile}
-use Rattle.ir_trace.specs.Encoding.{encoding}
 use Rattle.ir_trace.specs.Recorded.{Recorded, recorded_at}
 use Rattle.ir_commands.specs.Conditions.{AreAboutNothing, AreWritten}
 use Rattle.ir_commands.specs.Exploring.{IsInput, IsPlanOf}
-use Rattle.ir_commands.specs.Files.{IsFileIn, IsImageIn, RefusesGuest, TellsFault}
+use Rattle.ir_commands.specs.Files.{IsFileIn, IsImageIn, LacksGuest, RefusesGuest, TellsFault}
 use Rattle.ir_commands.specs.Printing.{Paths}
+use Rattle.ir_commands.specs.Sought.{RecordsRun}
 use Rattle.ir_commands.specs.Writing.{IsStatusOfNoRecording, KeptAsAsked, Keeping, Storing}
 
 -- nothing was recorded, by a fault or since a file isn't taken, and a line tells why; where it was refused, this holds
@@ -71,17 +70,19 @@ pub record AsksHunt (at : Paths) (arguments : HuntArguments) (image : List ℕ) 
   pub is_input : IsInput at arguments.options.input input
   pub is_plan : IsHuntPlanOf arguments input plan
 
--- the run of the lowest seed that is found was recorded: this holds of its trace and of what its threads printed, and its lines were printed; and it was reported
--- how many seeds were left out, if some were
-pub record RecordsHunted (image : List ℕ) (plan : HuntPlan) (recorded : Recorded) (is_kept : Keeping) (out reports : Writer) : Type 0 where
+-- the run of the lowest seed that is found has this trace, and its threads printed this; the text is its line, and it was reported how many seeds were left
+-- out, if some were
+pub record IsSeedFound (image : List ℕ) (plan : HuntPlan) (recorded : Recorded) (reports : Writer) (printed : List (List ℕ)) (text : List ℕ) : Type 0 where
   pub left_out : ℕ
   pub seed : ℕ
   pub list : List ℕ
-  pub printed : List (List ℕ)
   pub finding : IsFinding image plan left_out seed list recorded printed
-  pub kept : is_kept (encoding recorded) printed
-  pub lines : Took out (found_line seed list ++ recording_lines recorded)
+  pub line : text ≡ found_line seed list
   pub told : TellsLeftOut left_out reports (reports.before ≡ reports.after)
+
+-- it was recorded: this holds of its trace and of what its threads printed, and its lines were printed
+abbrev pub RecordsHunted : List ℕ → HuntPlan → Recorded → Keeping → Writer → Writer → Type 0
+RecordsHunted image plan recorded is_kept out reports = RecordsRun recorded (IsSeedFound image plan recorded reports) is_kept out
 
 -- none of the seeds up to one was found, each of which was tried, and that was printed
 pub record TellsNoSeed (image : List ℕ) (plan : HuntPlan) (answered : ExitStatus) (out reports : Writer) : Type 0 where
@@ -111,30 +112,11 @@ pub record AsksSearch (at : Paths) (arguments : UntilArguments) (image : List �
   pub is_plan : IsPlanOf arguments.explore input plan
   pub are_conditions : AreWritten arguments.until.items conditions
 
--- a run with the first outcome that fulfils the conditions was recorded: this holds of its trace and of what its threads printed, and its lines were printed behind those of the outcomes
-pub record RecordsOutcome (image : List ℕ) (plan : ExplorePlan) (conditions : List Condition) (is_kept : Keeping) (out : Writer) : Type 0 where
-  pub list : List ℕ
-  pub text : List ℕ
-  pub recorded : Recorded
-  pub printed : List (List ℕ)
-  pub finding : IsOutcomeFinding image plan (map as_condition conditions) list text recorded printed
-  pub kept : is_kept (encoding recorded) printed
-  pub lines : Took out (text ++ recording_lines recorded)
-
--- the same of a run that hangs
-pub record RecordsHang (image : List ℕ) (plan : ExplorePlan) (is_kept : Keeping) (out : Writer) : Type 0 where
-  pub order : HangOrder
-  pub text : List ℕ
-  pub recorded : Recorded
-  pub printed : List (List ℕ)
-  pub finding : IsHangRecorded image plan order text recorded printed
-  pub kept : is_kept (encoding recorded) printed
-  pub lines : Took out (text ++ recording_lines recorded)
-
--- what is looked for was recorded: a run that hangs, where that is asked for, or else a run with an outcome
-abbrev pub RecordsSought : Bool → List ℕ → ExplorePlan → List Condition → Keeping → Writer → Type 0
-RecordsSought false image plan conditions is_kept out = RecordsOutcome image plan conditions is_kept out
-RecordsSought true image plan conditions is_kept out = RecordsHang image plan is_kept out
+-- what is looked for: a run with this trace, whose threads printed this, and that hangs, where that is asked for, or else that has the first outcome which fulfils
+-- the conditions; the text is what was printed up to it
+abbrev pub IsRunFound : Bool → List ℕ → ExplorePlan → List Condition → Recorded → List (List ℕ) → List ℕ → Type 0
+IsRunFound false image plan conditions recorded printed text = (list : List ℕ) × IsOutcomeFinding image plan (map as_condition conditions) list text recorded printed
+IsRunFound true image plan conditions recorded printed text = (order : HangOrder) × IsHangRecorded image plan order text recorded printed
 
 -- there is no such outcome, or no such hang is known, and what was found out was printed
 abbrev pub TellsVain : Bool → List ℕ → ExplorePlan → List Condition → ExitStatus → Writer → Type 0
@@ -146,8 +128,9 @@ pub record SearchFinds (at : Paths) (stored : Storing) (arguments : UntilArgumen
   pub image : List ℕ
   pub plan : ExplorePlan
   pub conditions : List Condition
+  pub recorded : Recorded
   pub asked : AsksSearch at arguments image plan conditions
-  pub found : RecordsSought arguments.hang image plan conditions (KeptAsAsked stored (string_bytes arguments.trace) arguments.output) out
+  pub found : RecordsRun recorded (IsRunFound arguments.hang image plan conditions recorded) (KeptAsAsked stored (string_bytes arguments.trace) arguments.output) out
 
 -- there is none
 pub record SearchMisses (at : Paths) (arguments : UntilArguments) (answered : ExitStatus) (out : Writer) : Type 0 where
@@ -165,6 +148,11 @@ pub record HangHasNoOrder (image : List ℕ) (plan : ExplorePlan) : Type 0 where
   pub guest : Guest
   pub is : guest_at image ≡ Ok guest
   pub none : order_of (length guest.entries) (string_bytes order.list) ≡ None
+
+-- no run that is looked for is recorded: there is none, or the image has no guest or the hang no order, or there is a fault, which a line tells
+abbrev pub UntilMisses : Bool → List ℕ → ExplorePlan → List Condition → ExitStatus → Writer → Writer → Type 0
+UntilMisses hang image plan conditions answered out faults = TellsVain hang image plan conditions answered out
+    ⊎ TellsNoSearch (LacksGuest image plan.profile ⊎ HangHasNoOrder image plan) answered faults
 
 -- a search is refused, or the hang that it found can't be recorded by its list
 abbrev pub RefusesUntil : Paths → UntilArguments → Type 0
@@ -200,16 +188,18 @@ pub record AsksShrink (at : Paths) (arguments : ShrinkArguments) (image : List �
   pub is_input : IsInput at arguments.input input
   pub is_plan : IsShrinkPlanOf arguments given input plan
 
--- the run was shrunk: this holds of the trace of what it was shrunk to and of what its threads printed, and its lines were printed
-pub record RecordsShrunkRun (image : List ℕ) (given : Recorded) (plan : ShrinkPlan) (is_minimal : Bool) (is_kept : Keeping) (out : Writer) : Type 0 where
+-- the run was shrunk to a run with this trace, whose threads printed this, and the text is its lines
+pub record IsRunShrunk (image : List ℕ) (given : Recorded) (plan : ShrinkPlan) (is_minimal : Bool) (recorded : Recorded) (printed : List (List ℕ)) (text : List ℕ)
+    : Type 0 where
   pub before : ℕ
   pub after : ℕ
   pub list : List ℕ
-  pub recorded : Recorded
-  pub printed : List (List ℕ)
   pub shrinking : IsShrinking image plan given before after list is_minimal recorded printed
-  pub kept : is_kept (encoding recorded) printed
-  pub lines : Took out (shrunk_lines before after list is_minimal ++ recording_lines recorded)
+  pub line : text ≡ shrunk_lines before after list is_minimal
+
+-- what the run was shrunk to was recorded: this holds of its trace and of what its threads printed, and its lines were printed
+abbrev pub RecordsShrunkRun : List ℕ → Recorded → ShrinkPlan → Bool → Recorded → Keeping → Writer → Type 0
+RecordsShrunkRun image given plan is_minimal recorded is_kept out = RecordsRun recorded (IsRunShrunk image given plan is_minimal recorded) is_kept out
 
 -- the run isn't shrunk, and a line tells why: it fails a condition, or what is wanted of its stale writes, or there is a fault
 pub record RefusesGiven (image : List ℕ) (given : Recorded) (plan : ShrinkPlan) (answered : ExitStatus) (faults : Writer) : Type 0 where
@@ -228,8 +218,9 @@ pub record ShrinksTo (at : Paths) (stored : Storing) (arguments : ShrinkArgument
   pub image : List ℕ
   pub given : Recorded
   pub plan : ShrinkPlan
+  pub recorded : Recorded
   pub asked : AsksShrink at arguments image given plan
-  pub shrunk : RecordsShrunkRun image given plan is_minimal (KeptAsAsked stored (string_bytes arguments.out) arguments.output) out
+  pub shrunk : RecordsShrunkRun image given plan is_minimal recorded (KeptAsAsked stored (string_bytes arguments.out) arguments.output) out
 
 -- it isn't shrunk
 pub record ShrinkRefuses (at : Paths) (arguments : ShrinkArguments) (answered : ExitStatus) (faults : Writer) : Type 0 where
@@ -260,8 +251,9 @@ pub record IsShrinkPlanOfHunt (hunt : HuntPlan) (given : Recorded) (plan : Shrin
 -- the run that was found was shrunk so
 pub record ShrinksFound (image : List ℕ) (hunt : HuntPlan) (given : Recorded) (is_minimal : Bool) (is_kept : Keeping) (out : Writer) : Type 0 where
   pub plan : ShrinkPlan
+  pub recorded : Recorded
   pub is_plan : IsShrinkPlanOfHunt hunt given plan
-  pub shrunk : RecordsShrunkRun image given plan is_minimal is_kept out
+  pub shrunk : RecordsShrunkRun image given plan is_minimal recorded is_kept out
 
 -- it wasn't
 pub record RefusesFound (image : List ℕ) (hunt : HuntPlan) (given : Recorded) (answered : ExitStatus) (faults : Writer) : Type 0 where

@@ -2,6 +2,7 @@
 
 ghost use Rattle.std.specs.Prelude.{◌≡◌, IfErr, OnErr, OnOk, OnSome, IfOk, false};
 ghost use Rattle.ir_files.specs.Writers.{writer_of};
+ghost use Rattle.ir_files.specs.declared.exit_status.ExitStatus.TheVariants as exit;
 ghost use Rattle.ir_commands.specs.Conditions.{AreAboutNothing, AreWritten};
 ghost use Rattle.ir_commands.specs.Files.{TellsFault};
 ghost use Rattle.ir_commands.specs.Writing.{IsStatusOfNoRecording};
@@ -66,14 +67,29 @@ pub fn conditions_of<'a, E: Sink>(
     Ok(conditions)
 }
 
-/// Copies of the texts.
-///
-/// # Errors
-/// Out of memory.
-pub fn copied_texts(alloc: Global, texts: &[ConditionText]) -> Result<Vec<String>, AllocError> {
+// Copies of the texts.
+fn copied_texts(alloc: Global, texts: &[ConditionText]) -> Result<Vec<String>, AllocError> {
     let mut copies = Vec::new(alloc);
     for text in texts {
         copies.push(String::from_str(alloc, text.as_str())?)?;
     }
     Ok(copies)
+}
+
+/// The texts as they are written; if memory runs out, that is reported.
+pub fn texts_of<E: Sink>(
+    alloc: Global,
+    faults: &mut E,
+    texts: &[ConditionText],
+) -> Result<Vec<String>, ExitStatus>
+    ensures kept { OnOk result (faults.new ≡ faults.old) }
+    ensures status { IfErr result (λ answered. answered ≡ exit.Failed) }
+{
+    match copied_texts(alloc, texts) {
+        Ok(copies) => Ok(copies),
+        Err(_) => {
+            say(faults, "memory ran out", "", "");
+            Err(ExitStatus::Failed)
+        }
+    }
 }

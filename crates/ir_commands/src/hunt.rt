@@ -1,26 +1,25 @@
 //! `ir hunt`: the first of many seeds whose run fulfils conditions is recorded.
 
 ghost use Rattle.std.specs.Prelude.{◌≡◌, ◌⊎◌, IfErr, IfOk, OnErr, OnOk, false, true, option_map, ⊤};
-ghost use Rattle.std.specs.Io.KnownBytes.{Appends};
 ghost use Rattle.std.specs.String.{string_bytes};
-ghost use Rattle.ir_files.specs.Outputs.{TookEach, output_writer_of};
 ghost use Rattle.ir_files.specs.Writers.{writer_of};
 ghost use Rattle.ir_files.specs.declared.exit_status.ExitStatus.TheVariants as exit;
 ghost use Rattle.ir_commands.specs.Files.{LacksGuest};
-ghost use Rattle.ir_commands.specs.Searching.{EndsFound, HuntsFile, RecordsHunted, RefusesFound, RefusesSearch, ShrinksFound, TellsNoSearch, TellsNoSeed};
+ghost use Rattle.ir_commands.specs.Searching.{EndsFound, HuntsFile, IsSeedFound, RefusesFound, RefusesSearch, ShrinksFound, TellsNoSearch, TellsNoSeed};
 ghost use Rattle.ir_commands.specs.Writing.{KeptAt, storing, texts_of_paths, IsStatusOfNoRecording};
 
-use crate::conditions::{conditions_of, copied_texts};
+use crate::conditions::texts_of;
 use crate::ends::recorded_status;
-use crate::files::{image_in, say};
-use crate::recording::{Places, RecordingPaths, beside_of, loses_input, record_files};
-use crate::shrink::{plan_like, shrunk_into, shrunk_status};
+use crate::recording::{Places, RecordingPaths, recorded_into};
+use crate::search_files::{SearchFiles, image_of};
+use crate::shrink::{Shrinking, plan_like, shrunk_status};
+use crate::sought::RunSought;
 use crate::surroundings::Surroundings;
 use ir_arguments::HuntArguments;
 use ir_files::{ExitStatus, Folder, OutputSink, WholeSink};
 use ir_hunt::{HuntPlan, hunt_run};
 use ir_record_command::{ParsedImage, RecordFiles};
-use ir_shrink::{GivenRun, ShrinkPlan, Shrunk};
+use ir_shrink::{ShrinkPlan, Shrunk};
 use ir_stream::Sink;
 use ir_trace::Trace;
 use std::thread::Threads;
@@ -43,80 +42,40 @@ fn paths(arguments: &HuntArguments) -> RecordingPaths<'_>
     }
 }
 
-// Hunts for a run of a guest, whose trace and outputs go into these files.
-fn hunted_in<R, W, P, O, E>(
-    rt: &R,
-    image: &ParsedImage<'_>,
-    plan: &HuntPlan<'_>,
-    files: &mut RecordFiles<W, P>,
-    out: &mut O,
-    faults: &mut E,
-) -> Result<Trace, ExitStatus>
-where
-    R: Threads + Sync + Clock + Eprint + AllocGlobal,
-    W: WholeSink,
-    P: OutputSink,
-    O: Sink,
-    E: Sink,
-    requires writes { W.broken files.old.trace ≡ false }
-    requires puts { P.broken files.old.outputs ≡ false }
-    requires prints { O.broken out.old ≡ false }
-    requires reports { E.broken faults.old ≡ false }
-    ensures found { IfOk result (λ recorded. RecordsHunted image.now plan.now recorded
-        (λ bytes printed. Appends (W.written files.old.trace) (W.written files.new.trace) bytes
-        × TookEach (output_writer_of (P.taken files.old.outputs) (P.taken files.new.outputs) (P.broken files.new.outputs)) printed)
-        (writer_of (O.written out.old) (O.written out.new) (O.broken out.new)) (writer_of (E.written faults.old) (E.written faults.new) (E.broken faults.new))) }
-    ensures none { IfErr result (λ answered. TellsNoSeed image.now plan.now answered (writer_of (O.written out.old) (O.written out.new) (O.broken out.new))
-        (writer_of (E.written faults.old) (E.written faults.new) (E.broken faults.new)) ⊎ TellsNoSearch (LacksGuest image.now plan.now.record.profile) answered
-        (writer_of (E.written faults.old) (E.written faults.new) (E.broken faults.new))) }
-    ensures whole { OnOk result (W.whole files.new.trace ≡ true) }
-    ensures home { W.home files.new.trace ≡ W.home files.old.trace }
-    ensures places { P.home files.new.outputs ≡ P.home files.old.outputs }
-{
-    hunt_run(rt, image, plan, files, out, faults)
-}
-
-// Hunts for a run of a guest, whose trace and outputs go into files at these paths.
-fn hunted_into<R, D, G, O, E>(
-    around: &Surroundings<'_, R, D, G>,
-    places: Places<'_, '_>,
-    image: &ParsedImage<'_>,
-    plan: &HuntPlan<'_>,
-    out: &mut O,
-    faults: &mut E,
-) -> Result<Trace, ExitStatus>
-where
-    R: Threads + Sync + Clock + Eprint + AllocGlobal,
-    D: Folder,
-    O: Sink,
-    E: Sink,
-    requires writes { O.broken out.old ≡ false }
-    requires reports { E.broken faults.old ≡ false }
-    ensures found { IfOk result (λ recorded. RecordsHunted image.now plan.now recorded
-        (KeptAt (storing D.known D.known_closed (D.knows around.now.folder.now) (D.was_put around.now.folder.now)) places.entry.trace.now (texts_of_paths places.entry.outputs))
-        (writer_of (O.written out.old) (O.written out.new) (O.broken out.new)) (writer_of (E.written faults.old) (E.written faults.new) (E.broken faults.new))) }
-    ensures none { IfErr result (λ answered. TellsNoSeed image.now plan.now answered (writer_of (O.written out.old) (O.written out.new) (O.broken out.new))
-        (writer_of (E.written faults.old) (E.written faults.new) (E.broken faults.new)) ⊎ TellsNoSearch (LacksGuest image.now plan.now.record.profile) answered
-        (writer_of (E.written faults.old) (E.written faults.new) (E.broken faults.new))) }
-{
-    let Surroundings { rt, folder, .. } = *around;
-    let mut files = record_files(rt.alloc(), folder, places.trace, places.outputs);
-    hunted_in(rt, image, plan, &mut files, out, faults)
-}
-
-// What is hunted, and what of it is written where.
+// What is hunted, and as which arguments say.
 #[derive(Clone, Copy)]
-struct Hunted<'a, 'i> {
-    image: &'a ParsedImage<'i>,
+struct Hunted<'a, R> {
+    rt: &'a R,
+    image: &'a ParsedImage<'a>,
     plan: &'a HuntPlan<'a>,
     arguments: &'a HuntArguments,
+}
+
+impl<R: Threads + Sync + Clock + Eprint + AllocGlobal> RunSought for Hunted<'_, R> {
+    type Run = Trace;
+
+    ghost trace_of = { λ recorded. recorded };
+
+    ghost is_found = { λ hunted recorded. IsSeedFound hunted.image.now hunted.plan.now recorded };
+
+    ghost is_missed = { λ hunted answered out reports. TellsNoSeed hunted.image.now hunted.plan.now answered out reports
+        ⊎ TellsNoSearch (LacksGuest hunted.image.now hunted.plan.now.record.profile) answered reports };
+
+    fn recorded<W: WholeSink, P: OutputSink, O: Sink, E: Sink>(
+        &self,
+        files: &mut RecordFiles<W, P>,
+        out: &mut O,
+        faults: &mut E,
+    ) -> Result<Trace, ExitStatus> {
+        hunt_run(self.rt, self.image, self.plan, files, out, faults)
+    }
 }
 
 // Shrinks a run that was found, whose trace and outputs go into files at these paths, over what was found.
 fn shrunk<'a, R: Clock + Eprint + AllocGlobal, D: Folder, G, O: Sink, E: Sink>(
     around: &Surroundings<'_, R, D, G>,
     places: Places<'_, '_>,
-    hunted: Hunted<'a, '_>,
+    hunted: Hunted<'a, R>,
     found: &'a Trace,
     out: &mut O,
     faults: &mut E,
@@ -130,10 +89,7 @@ fn shrunk<'a, R: Clock + Eprint + AllocGlobal, D: Folder, G, O: Sink, E: Sink>(
         (writer_of (E.written faults.old) (E.written faults.new) (E.broken faults.new)) ⊎ IsStatusOfNoRecording ⊤ answered) }
 {
     let until = hunted.arguments.until.as_slice();
-    let Ok(texts) = copied_texts(around.rt.alloc(), until) else {
-        say(faults, "memory ran out", "", "");
-        return Err(ExitStatus::Failed);
-    };
+    let texts = texts_of(around.rt.alloc(), faults, until)?;
     let plan = hunted.plan;
     let shrinking = ShrinkPlan {
         record: plan_like(found, plan.record.random, plan.record.input),
@@ -143,18 +99,20 @@ fn shrunk<'a, R: Clock + Eprint + AllocGlobal, D: Folder, G, O: Sink, E: Sink>(
         seconds: plan.seconds,
         is_shown: plan.is_shown,
     };
-    let run = GivenRun {
+    let sought = Shrinking {
+        rt: around.rt,
         image: hunted.image,
         trace: found,
+        plan: &shrinking,
     };
-    shrunk_into(around, places, &run, &shrinking, out, faults)
+    recorded_into(around, places, &sought, out, faults)
 }
 
 // The exit status of the shrinking of a run that was found.
 fn shrunk_found<'a, R, D, G, O, E>(
     around: &Surroundings<'_, R, D, G>,
     places: Places<'_, '_>,
-    hunted: Hunted<'a, '_>,
+    hunted: Hunted<'a, R>,
     found: &'a Trace,
     out: &mut O,
     faults: &mut E,
@@ -182,7 +140,7 @@ where
 fn ended<R, D, G, O, E>(
     around: &Surroundings<'_, R, D, G>,
     places: Places<'_, '_>,
-    hunted: Hunted<'_, '_>,
+    hunted: Hunted<'_, R>,
     found: Result<Trace, ExitStatus>,
     out: &mut O,
     faults: &mut E,
@@ -229,32 +187,28 @@ fn hunted_by<R: Threads + Sync + Clock + Eprint + AllocGlobal, D: Folder, G, O: 
     ensures stopped { IfErr result (λ answered. TellsNoSearch (RefusesSearch (D.bytes_at around.now.folder.now (string_bytes arguments.now.image)) arguments.now.options.profile
         arguments.now.until.items) answered (writer_of (E.written faults.old) (E.written faults.new) (E.broken faults.new))) }
 {
-    let (alloc, folder) = (around.rt.alloc(), around.folder);
     let paths = paths(arguments);
-    if loses_input(folder, faults, &paths) {
-        return Err(ExitStatus::BadArguments);
-    }
-    let image = image_in(alloc, folder, faults, paths.image)?;
-    let image = ParsedImage::new(alloc, image.as_slice());
-    let conditions = conditions_of(alloc, faults, &image, arguments.until.as_slice())?;
-    let (outputs, input) = beside_of(alloc, folder, faults, &paths, &image)?;
-    let places = Places::new(paths.trace, &outputs);
+    let image = image_of(around, faults, &paths)?;
+    let image = ParsedImage::new(around.rt.alloc(), image.as_slice());
+    let files = SearchFiles::of(around, faults, &paths, &image, arguments.until.as_slice())?;
     let plan = HuntPlan {
-        record: arguments.options.plan(None, input.as_slice()),
+        record: arguments.options.plan(None, files.input.as_slice()),
         way: arguments.way,
         seeds: arguments.seeds,
-        conditions: conditions.as_slice(),
+        conditions: files.conditions.as_slice(),
         stale: arguments.stale,
         jobs: arguments.jobs,
         seconds: arguments.seconds,
         is_shown: explains,
     };
-    let found = hunted_into(around, places, &image, &plan, out, faults);
     let hunted = Hunted {
+        rt: around.rt,
         image: &image,
         plan: &plan,
         arguments,
     };
+    let places = Places::new(paths.trace, &files.outputs);
+    let found = recorded_into(around, places, &hunted, out, faults);
     Ok(ended(around, places, hunted, found, out, faults))
 }
 

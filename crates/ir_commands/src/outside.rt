@@ -1,19 +1,18 @@
 //! `ir explore --within` with a trace: the first outcome of a guest that another guest doesn't have is recorded.
 
-ghost use Rattle.std.specs.Prelude.{◌≡◌, ◌⊎◌, IfErr, OnOk, true, false, option_map};
-ghost use Rattle.std.specs.Io.KnownBytes.{Appends};
+ghost use Rattle.std.specs.Prelude.{◌≡◌, ◌⊎◌, IfErr, OnOk, false, option_map};
 ghost use Rattle.std.specs.String.{string_bytes};
-ghost use Rattle.ir_files.specs.Outputs.{TookEach, output_writer_of};
 ghost use Rattle.ir_files.specs.Writers.{writer_of};
 ghost use Rattle.ir_within.specs.Plans.{comparison_of};
 ghost use Rattle.ir_commands.specs.Files.{LacksGuest};
-ghost use Rattle.ir_commands.specs.Outside.{FindsOutside, MissesOutside, OutsideFile, RecordsOutside, RefusesEither, TellsNoneOutside};
+ghost use Rattle.ir_commands.specs.Outside.{FindsOutside, IsOutsideFound, MissesOutside, OutsideFile, RefusesEither, TellsNoneOutside};
 ghost use Rattle.ir_commands.specs.Searching.{TellsNoSearch};
-ghost use Rattle.ir_commands.specs.Writing.{KeptAt, storing, texts_of_paths};
+ghost use Rattle.ir_commands.specs.Writing.{storing};
 
 use crate::ends::tell_ends;
 use crate::explore::plan_of;
-use crate::recording::{Places, RecordingPaths, loses_input, output_places, record_files};
+use crate::recording::{Places, RecordingPaths, loses_input, output_places, recorded_into};
+use crate::sought::RunSought;
 use crate::surroundings::Surroundings;
 use crate::within::{aspects_of, both_images, compared_files, lacks_either};
 use ir_arguments::OutsideArguments;
@@ -41,67 +40,32 @@ fn paths(arguments: &OutsideArguments) -> RecordingPaths<'_>
     }
 }
 
-// Compares the outcomes of two guests, and records the first that is outside: its trace and outputs go into these files.
-fn outside_in<R, G, W, P, O, E>(
-    rt: &R,
-    plan: &WithinPlan<'_, '_, '_, G>,
-    files: &mut RecordFiles<W, P>,
-    out: &mut O,
-    faults: &mut E,
-) -> Result<Trace, ExitStatus>
-where
-    R: Clock + AllocGlobal,
-    G: Observer,
-    W: WholeSink,
-    P: OutputSink,
-    O: Sink,
-    E: Sink,
-    requires writes { W.broken files.old.trace ≡ false }
-    requires puts { P.broken files.old.outputs ≡ false }
-    requires prints { O.broken out.old ≡ false }
-    requires reports { E.broken faults.old ≡ false }
-    ensures found { OnOk result (RecordsOutside (comparison_of plan.now)
-        (λ bytes printed. Appends (W.written files.old.trace) (W.written files.new.trace) bytes
-        × TookEach (output_writer_of (P.taken files.old.outputs) (P.taken files.new.outputs) (P.broken files.new.outputs)) printed)
-        (writer_of (O.written out.old) (O.written out.new) (O.broken out.new))) }
-    ensures none { IfErr result (λ answered. TellsNoneOutside (comparison_of plan.now) answered
-        (writer_of (O.written out.old) (O.written out.new) (O.broken out.new)) ⊎ TellsNoSearch
-        (LacksGuest (comparison_of plan.now).image plan.now.explore.profile ⊎ LacksGuest (comparison_of plan.now).other plan.now.explore.profile) answered
-        (writer_of (E.written faults.old) (E.written faults.new) (E.broken faults.new))) }
-    ensures whole { OnOk result (W.whole files.new.trace ≡ true) }
-    ensures home { W.home files.new.trace ≡ W.home files.old.trace }
-    ensures places { P.home files.new.outputs ≡ P.home files.old.outputs }
-{
-    outside_run(rt, plan, files, out, faults)
+// A run of a guest that is looked for: its outcome is the first that another guest doesn't have.
+#[derive(Clone, Copy)]
+struct Outside<'a, R, G> {
+    rt: &'a R,
+    plan: &'a WithinPlan<'a, 'a, 'a, G>,
 }
 
-// The same into files at these paths.
-fn outside_into<R, D, G, O, E>(
-    around: &Surroundings<'_, R, D, G>,
-    places: Places<'_, '_>,
-    plan: &WithinPlan<'_, '_, '_, G>,
-    out: &mut O,
-    faults: &mut E,
-) -> Result<Trace, ExitStatus>
-where
-    R: Clock + AllocGlobal,
-    D: Folder,
-    G: Observer,
-    O: Sink,
-    E: Sink,
-    requires writes { O.broken out.old ≡ false }
-    requires reports { E.broken faults.old ≡ false }
-    ensures found { OnOk result (RecordsOutside (comparison_of plan.now)
-        (KeptAt (storing D.known D.known_closed (D.knows around.now.folder.now) (D.was_put around.now.folder.now)) places.entry.trace.now (texts_of_paths places.entry.outputs))
-        (writer_of (O.written out.old) (O.written out.new) (O.broken out.new))) }
-    ensures none { IfErr result (λ answered. TellsNoneOutside (comparison_of plan.now) answered
-        (writer_of (O.written out.old) (O.written out.new) (O.broken out.new)) ⊎ TellsNoSearch
-        (LacksGuest (comparison_of plan.now).image plan.now.explore.profile ⊎ LacksGuest (comparison_of plan.now).other plan.now.explore.profile) answered
-        (writer_of (E.written faults.old) (E.written faults.new) (E.broken faults.new))) }
-{
-    let Surroundings { rt, folder, .. } = *around;
-    let mut files = record_files(rt.alloc(), folder, places.trace, places.outputs);
-    outside_in(rt, plan, &mut files, out, faults)
+impl<R: Clock + AllocGlobal, G: Observer> RunSought for Outside<'_, R, G> {
+    type Run = Trace;
+
+    ghost trace_of = { λ recorded. recorded };
+
+    ghost is_found = { λ sought recorded reports. IsOutsideFound (comparison_of sought.plan.now) recorded };
+
+    ghost is_missed = { λ sought answered out reports. TellsNoneOutside (comparison_of sought.plan.now) answered out ⊎ TellsNoSearch
+        (LacksGuest (comparison_of sought.plan.now).image sought.plan.now.explore.profile ⊎ LacksGuest (comparison_of sought.plan.now).other sought.plan.now.explore.profile)
+        answered reports };
+
+    fn recorded<W: WholeSink, P: OutputSink, O: Sink, E: Sink>(
+        &self,
+        files: &mut RecordFiles<W, P>,
+        out: &mut O,
+        faults: &mut E,
+    ) -> Result<Trace, ExitStatus> {
+        outside_run(self.rt, self.plan, files, out, faults)
+    }
 }
 
 // The trace of a run with the first outcome that is outside; its files are written. If none is known to be, the exit status.
@@ -139,7 +103,11 @@ fn outside_by<R: Clock + AllocGlobal, D: Folder, G: Observer, O: Sink, E: Sink>(
     }
     let outputs = output_places(alloc, folder, faults, &paths, &both.0)?;
     let places = Places::new(paths.trace, &outputs);
-    outside_into(around, places, &plan, out, faults)
+    let sought = Outside {
+        rt: around.rt,
+        plan: &plan,
+    };
+    recorded_into(around, places, &sought, out, faults)
 }
 
 // Compares the outcomes of the guests in two files, and records a run with the first that is outside into a third, and what its threads print into others

@@ -6,9 +6,12 @@ ghost use Rattle.ir_files.specs.Given.{fresh, given_bytes};
 ghost use Rattle.ir_files.specs.Writers.{writer_of};
 ghost use Rattle.ir_commands.specs.Exploring.{IsInput};
 ghost use Rattle.ir_commands.specs.Files.{TellsFault};
-ghost use Rattle.ir_commands.specs.Writing.{AreOutputPaths, IsStatusOfNoRecording};
+ghost use Rattle.ir_commands.specs.Sought.{RecordsRun};
+ghost use Rattle.ir_commands.specs.Writing.{AreOutputPaths, IsStatusOfNoRecording, KeptAt, storing, texts_of_paths};
 
 use crate::files::{bytes_of, is_lost, say};
+use crate::sought::RunSought;
+use crate::surroundings::Surroundings;
 use ir_files::{ExitStatus, Folder, MOST_GUEST_INPUT, OutputFiles, WholeFile, output_paths};
 use ir_record_command::{ParsedImage, RecordFiles};
 use ir_stream::Sink;
@@ -73,6 +76,30 @@ pub fn record_files<'a, D: Folder>(
         trace: WholeFile::new(alloc, folder, trace),
         outputs: OutputFiles::new(alloc, folder, outputs, trace),
     }
+}
+
+/// Looks for a run, and records it: its trace and what its threads print go into files at these paths.
+///
+/// # Errors
+/// The exit status: there is none, or a fault stopped the recording.
+pub fn recorded_into<R: AllocGlobal, D: Folder, G, S: RunSought, O: Sink, E: Sink>(
+    around: &Surroundings<'_, R, D, G>,
+    places: Places<'_, '_>,
+    sought: &S,
+    out: &mut O,
+    faults: &mut E,
+) -> Result<S::Run, ExitStatus>
+    requires writes { O.broken out.old ≡ false }
+    requires reports { E.broken faults.old ≡ false }
+    ensures found { IfOk result (λ run. RecordsRun (S.trace_of run) (S.is_found sought.now run (writer_of (E.written faults.old) (E.written faults.new) (E.broken faults.new)))
+        (KeptAt (storing D.known D.known_closed (D.knows around.now.folder.now) (D.was_put around.now.folder.now)) places.entry.trace.now (texts_of_paths places.entry.outputs))
+        (writer_of (O.written out.old) (O.written out.new) (O.broken out.new))) }
+    ensures none { IfErr result (λ answered. S.is_missed sought.now answered (writer_of (O.written out.old) (O.written out.new) (O.broken out.new))
+        (writer_of (E.written faults.old) (E.written faults.new) (E.broken faults.new))) }
+{
+    let Surroundings { rt, folder, .. } = *around;
+    let mut files = record_files(rt.alloc(), folder, places.trace, places.outputs);
+    sought.recorded(&mut files, out, faults)
 }
 
 /// The bytes that guests read, none without a file.

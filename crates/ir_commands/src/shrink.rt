@@ -1,20 +1,20 @@
 //! `ir shrink`: a recorded run is shrunk to one with fewer context switches.
 
-ghost use Rattle.std.specs.Prelude.{◌≡◌, ◌⊎◌, None, Ok, IfErr, IfOk, OnOk, false, true, option_map, ⊤};
-ghost use Rattle.std.specs.Io.KnownBytes.{Appends};
+ghost use Rattle.std.specs.Prelude.{◌≡◌, ◌⊎◌, None, Ok, IfErr, IfOk, OnOk, false, option_map, ⊤};
 ghost use Rattle.std.specs.String.{string_bytes};
-ghost use Rattle.ir_files.specs.Outputs.{TookEach, output_writer_of};
 ghost use Rattle.ir_files.specs.Writers.{writer_of};
 ghost use Rattle.ir_trace.specs.Recorded.{recorded_at};
 ghost use Rattle.ir_commands.specs.Files.{IsFileIn, IsImageIn};
-ghost use Rattle.ir_commands.specs.Searching.{IsStatusOfNoShrinking, RecordsShrunkRun, RefusesGiven, ShrinkRefuses, ShrinksFile, ShrinksTo, shrunk_status as shrunk_answer};
-ghost use Rattle.ir_commands.specs.Writing.{KeptAt, storing, texts_of_paths, IsStatusOfNoRecording};
+ghost use Rattle.ir_commands.specs.Searching.{IsRunShrunk, IsStatusOfNoShrinking, RefusesGiven, ShrinkRefuses, ShrinksFile, ShrinksTo, shrunk_status as shrunk_answer};
+ghost use Rattle.ir_commands.specs.Writing.{storing, IsStatusOfNoRecording};
 
-use crate::conditions::{conditions_of, copied_texts};
+use crate::conditions::texts_of;
 use crate::ends::tell_ends;
 use crate::explaining::explain_files;
 use crate::files::{bytes_of, image_in, is_lost, say};
-use crate::recording::{Places, RecordingPaths, beside_of, loses_input, record_files};
+use crate::recording::{Places, RecordingPaths, loses_input, recorded_into};
+use crate::search_files::SearchFiles;
+use crate::sought::RunSought;
 use crate::surroundings::Surroundings;
 use ir_arguments::ShrinkArguments;
 use ir_files::{ExitStatus, Folder, MOST_FILE_BYTES, OutputSink, WholeSink};
@@ -63,26 +63,24 @@ struct Given {
     trace: Vec<u8>,
 }
 
-// The bytes of the files that are read; if there are none, the reason is reported.
-fn given_by<D: Folder, E: Sink>(
-    alloc: Global,
-    folder: &D,
+// The bytes of the files that are read. If there are none, or a file would be lost, that is reported.
+fn given_by<R: AllocGlobal, D: Folder, G, E: Sink>(
+    around: &Surroundings<'_, R, D, G>,
     faults: &mut E,
     arguments: &ShrinkArguments,
 ) -> Result<Given, ExitStatus>
     ensures kept { OnOk result (faults.new ≡ faults.old) }
-    ensures image { IfOk result (λ given. IsImageIn (D.bytes_at folder.now (string_bytes arguments.now.image)) given.image.items) }
-    ensures trace { IfOk result (λ given. IsFileIn (D.bytes_at folder.now (string_bytes arguments.now.trace)) given.trace.items) }
+    ensures image { IfOk result (λ given. IsImageIn (D.bytes_at around.now.folder.now (string_bytes arguments.now.image)) given.image.items) }
+    ensures trace { IfOk result (λ given. IsFileIn (D.bytes_at around.now.folder.now (string_bytes arguments.now.trace)) given.trace.items) }
     ensures status { IfErr result (IsStatusOfNoRecording ⊤) }
 {
+    let (alloc, folder) = (around.rt.alloc(), around.folder);
+    if loses_given(folder, faults, arguments) {
+        return Err(ExitStatus::BadArguments);
+    }
     let image = image_in(alloc, folder, faults, arguments.image.as_str())?;
-    match bytes_of(
-        alloc,
-        folder,
-        faults,
-        arguments.trace.as_str(),
-        MOST_FILE_BYTES,
-    ) {
+    let path = arguments.trace.as_str();
+    match bytes_of(alloc, folder, faults, path, MOST_FILE_BYTES) {
         Some(trace) => Ok(Given { image, trace }),
         None => Err(ExitStatus::Failed),
     }
@@ -140,63 +138,41 @@ pub fn plan_like<'a>(trace: &Trace, random: u64, input: &'a [u8]) -> RecordPlan<
     }
 }
 
-// Shrinks the run of a guest with a trace. Its trace and outputs go into these files.
-fn shrunk_in<R, W, P, O, E>(
-    rt: &R,
-    given: &GivenRun<'_, '_>,
-    plan: &ShrinkPlan<'_>,
-    files: &mut RecordFiles<W, P>,
-    out: &mut O,
-    faults: &mut E,
-) -> Result<Shrunk, ExitStatus>
-where
-    R: Clock + Eprint + AllocGlobal,
-    W: WholeSink,
-    P: OutputSink,
-    O: Sink,
-    E: Sink,
-    requires writes { W.broken files.old.trace ≡ false }
-    requires puts { P.broken files.old.outputs ≡ false }
-    requires prints { O.broken out.old ≡ false }
-    requires reports { E.broken faults.old ≡ false }
-    ensures done { IfOk result (λ shrunk. RecordsShrunkRun given.now.image.now given.now.trace.now plan.now shrunk.is_minimal
-        (λ bytes printed. Appends (W.written files.old.trace) (W.written files.new.trace) bytes
-        × TookEach (output_writer_of (P.taken files.old.outputs) (P.taken files.new.outputs) (P.broken files.new.outputs)) printed)
-        (writer_of (O.written out.old) (O.written out.new) (O.broken out.new))) }
-    ensures stopped { IfErr result (λ answered. RefusesGiven given.now.image.now given.now.trace.now plan.now answered
-        (writer_of (E.written faults.old) (E.written faults.new) (E.broken faults.new)) ⊎ IsStatusOfNoRecording ⊤ answered) }
-    ensures whole { OnOk result (W.whole files.new.trace ≡ true) }
-    ensures home { W.home files.new.trace ≡ W.home files.old.trace }
-    ensures places { P.home files.new.outputs ≡ P.home files.old.outputs }
-{
-    shrink_run(rt, given, plan, files, out, faults)
+/// A run of a guest that is looked for: what the given run is shrunk to.
+#[derive(Clone, Copy)]
+pub struct Shrinking<'a, R> {
+    /// Memory and the clock.
+    pub rt: &'a R,
+    /// The image of the guest.
+    pub image: &'a ParsedImage<'a>,
+    /// The trace of the given run.
+    pub trace: &'a Trace,
+    /// How it is shrunk.
+    pub plan: &'a ShrinkPlan<'a>,
 }
 
-/// Shrinks the run of a guest with a trace. Its trace and outputs go into files at these paths.
-pub fn shrunk_into<R, D, G, O, E>(
-    around: &Surroundings<'_, R, D, G>,
-    places: Places<'_, '_>,
-    given: &GivenRun<'_, '_>,
-    plan: &ShrinkPlan<'_>,
-    out: &mut O,
-    faults: &mut E,
-) -> Result<Shrunk, ExitStatus>
-where
-    R: Clock + Eprint + AllocGlobal,
-    D: Folder,
-    O: Sink,
-    E: Sink,
-    requires writes { O.broken out.old ≡ false }
-    requires reports { E.broken faults.old ≡ false }
-    ensures done { IfOk result (λ shrunk. RecordsShrunkRun given.now.image.now given.now.trace.now plan.now shrunk.is_minimal
-        (KeptAt (storing D.known D.known_closed (D.knows around.now.folder.now) (D.was_put around.now.folder.now)) places.entry.trace.now (texts_of_paths places.entry.outputs))
-        (writer_of (O.written out.old) (O.written out.new) (O.broken out.new))) }
-    ensures stopped { IfErr result (λ answered. RefusesGiven given.now.image.now given.now.trace.now plan.now answered
-        (writer_of (E.written faults.old) (E.written faults.new) (E.broken faults.new)) ⊎ IsStatusOfNoRecording ⊤ answered) }
-{
-    let Surroundings { rt, folder, .. } = *around;
-    let mut files = record_files(rt.alloc(), folder, places.trace, places.outputs);
-    shrunk_in(rt, given, plan, &mut files, out, faults)
+impl<R: Clock + Eprint + AllocGlobal> RunSought for Shrinking<'_, R> {
+    type Run = Shrunk;
+
+    ghost trace_of = { λ shrunk. shrunk.trace };
+
+    ghost is_found = { λ sought shrunk reports. IsRunShrunk sought.image.now sought.trace.now sought.plan.now shrunk.is_minimal shrunk.trace };
+
+    ghost is_missed = { λ sought answered out reports.
+        RefusesGiven sought.image.now sought.trace.now sought.plan.now answered reports ⊎ IsStatusOfNoRecording ⊤ answered };
+
+    fn recorded<W: WholeSink, P: OutputSink, O: Sink, E: Sink>(
+        &self,
+        files: &mut RecordFiles<W, P>,
+        out: &mut O,
+        faults: &mut E,
+    ) -> Result<Shrunk, ExitStatus> {
+        let given = GivenRun {
+            image: self.image,
+            trace: self.trace,
+        };
+        shrink_run(self.rt, &given, self.plan, files, out, faults)
+    }
 }
 
 /// The exit status of what was shrunk. At a terminal it is reported how the threads ended.
@@ -258,31 +234,27 @@ fn shrunk_by<R: Clock + Eprint + AllocGlobal, D: Folder, G, O: Sink, E: Sink>(
     ensures stopped { IfErr result (λ answered. ShrinkRefuses (D.bytes_at around.now.folder.now) arguments.now answered
         (writer_of (E.written faults.old) (E.written faults.new) (E.broken faults.new)) ⊎ IsStatusOfNoShrinking answered) }
 {
-    let (alloc, folder) = (around.rt.alloc(), around.folder);
-    if loses_given(folder, faults, arguments) {
-        return Err(ExitStatus::BadArguments);
-    }
-    let given = given_by(alloc, folder, faults, arguments)?;
+    let alloc = around.rt.alloc();
+    let given = given_by(around, faults, arguments)?;
     let trace = fitting_trace(alloc, &given, out, faults)?;
     let image = ParsedImage::new(alloc, given.image.as_slice());
-    let conditions = conditions_of(alloc, faults, &image, arguments.until.as_slice())?;
-    let (outputs, input) = beside_of(alloc, folder, faults, &paths(arguments), &image)?;
-    let Ok(texts) = copied_texts(alloc, arguments.until.as_slice()) else {
-        say(faults, "memory ran out", "", "");
-        return Err(ExitStatus::Failed);
-    };
+    let until = arguments.until.as_slice();
+    let files = SearchFiles::of(around, faults, &paths(arguments), &image, until)?;
+    let texts = texts_of(alloc, faults, until)?;
     let plan = ShrinkPlan {
-        record: plan_like(&trace, arguments.random, input.as_slice()),
-        conditions: conditions.as_slice(),
+        record: plan_like(&trace, arguments.random, files.input.as_slice()),
+        conditions: files.conditions.as_slice(),
         texts: texts.as_slice(),
         stale: arguments.stale,
         seconds: arguments.seconds,
         is_shown: explains,
     };
-    let places = Places::new(arguments.out.as_str(), &outputs);
-    let run = GivenRun {
+    let sought = Shrinking {
+        rt: around.rt,
         image: &image,
         trace: &trace,
+        plan: &plan,
     };
-    shrunk_into(around, places, &run, &plan, out, faults)
+    let places = Places::new(arguments.out.as_str(), &files.outputs);
+    recorded_into(around, places, &sought, out, faults)
 }

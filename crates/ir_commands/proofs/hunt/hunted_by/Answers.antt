@@ -28,30 +28,30 @@ returns-clause-done g c =
       is_shown = c.args.explains;
     } in
     let asked : AsksHunt at arguments image plan = record {
-      input = c.in_ok-outputs.input.items;
+      input = c.in_ok-files.files.input.items;
       is_image = subst (λ p. IsImageIn (at p) image) c.paths-paths.ensures.image
           (subst (λ z. IsImageIn (at c.paths-paths.result.image.now) z) (sym (c.new-image.ensures ∙ c.as_slice.ensures.value)) c.in_ok-image.ensures.bytes);
-      is_input = subst (λ f. IsInput at f c.in_ok-outputs.input.items) c.paths-paths.ensures.input c.in_ok-outputs.ensures.input;
+      is_input = subst (λ f. IsInput at f c.in_ok-files.files.input.items) c.paths-paths.ensures.input c.in_ok-files.ensures.input;
       is_plan = record {
         how = c.plan.ensures ∙ ap (hunt_plan_asked arguments) c.as_slice-3.ensures.value;
         way = refl;
         seeds = refl;
         conditions = subst (λ z. AreWritten arguments.until.items z) (sym c.as_slice-4.ensures.value)
-            (subst (λ t. AreWritten t c.in_ok-conditions.conditions.items) c.as_slice-2.ensures.value c.in_ok-conditions.ensures.read);
+            (subst (λ t. AreWritten t c.in_ok-files.files.conditions.items) c.as_slice-2.ensures.value c.in_ok-files.ensures.read);
         stale = refl;
         jobs = refl;
         seconds = refl;
       };
     } in
-    let outs = output_paths_as_asked (λ v. v.items) c.paths-paths.result.output c.new-places.result.outputs c.in_ok-outputs.outputs c.paths-paths.ensures.output
-    c.new-places.ensures.outputs c.in_ok-outputs.ensures.paths in
-    let kept = c.in_ok-outputs.ensures.kept ∙ c.in_ok-conditions.ensures.kept ∙ c.in_ok-image.ensures.kept ∙ c.if-loses_input.ensures.kept refl in
+    let outs = output_paths_as_asked (λ v. v.items) c.paths-paths.result.output c.new-places.result.outputs c.in_ok-files.files.outputs c.paths-paths.ensures.output
+    c.new-places.ensures.outputs c.in_ok-files.ensures.paths in
+    let kept = c.in_ok-files.ensures.kept ∙ c.in_ok-image.ensures.kept in
     subst (λ f. HuntsFile at stored arguments c.ended.result
     (writer_of (g.O.Sink.written c.args.out.now) (g.O.Sink.written c.ended.new.out) (g.O.Sink.broken c.ended.new.out))
     (writer_of (g.E.Sink.written f) (g.E.Sink.written c.ended.new.faults) (g.E.Sink.broken c.ended.new.faults))) kept
     (hunt_comes_to g.O.Sink.written g.O.Sink.broken g.E.Sink.written g.E.Sink.broken at stored arguments image plan
-    c.args.out.now c.hunted_into-found.new.out c.ended.new.out c.beside_of.new.faults c.hunted_into-found.new.faults c.ended.new.faults c.ended.result
-    (KeptAt stored c.new-places.result.trace.now (texts_of_paths c.new-places.result.outputs)) c.hunted_into-found.result asked
+    c.args.out.now c.recorded_into-found.new.out c.ended.new.out c.of-files.new.faults c.recorded_into-found.new.faults c.ended.new.faults c.ended.result
+    (KeptAt stored c.new-places.result.trace.now (texts_of_paths c.new-places.result.outputs)) c.recorded_into-found.result asked
     (kept_as_asked stored _ _ (c.new-places.ensures.trace ∙ c.paths-paths.ensures.trace) outs)
-    c.hunted_into-found.ensures.found c.hunted_into-found.ensures.none c.ended.ensures.stopped c.ended.ensures.quiet c.ended.ensures.kept c.ended.ensures.done
+    c.recorded_into-found.ensures.found c.recorded_into-found.ensures.none c.ended.ensures.stopped c.ended.ensures.quiet c.ended.ensures.kept c.ended.ensures.done
     c.ended.ensures.shrunk)

@@ -1,15 +1,15 @@
 use Rattle.std.proofs.Common.{◌≡◌, false, inr, ◌∙◌, List, ℕ, ap, refl, subst, sym}
-use Rattle.std.proofs.lemmas.Result.{IfErr-weaker, err_from_is_err_and, on_ok_weaker}
-use Rattle.std.specs.String.{string_bytes}
+use Rattle.std.proofs.lemmas.Result.{IfErr-weaker, err_from_is_err_and}
 use Rattle.ir_files.specs.Writers.{writer_of}
 use Rattle.ir_within.specs.Faults.{Comparison}
 use Rattle.ir_within.specs.Plans.{aspects_of}
-use Rattle.ir_commands.specs.Exploring.{AsksComparison, IsPlanOf}
+use Rattle.ir_commands.specs.Exploring.{AsksComparison}
 use Rattle.ir_files.proofs.CallerLemmas.{if_err_handed_on}
-use Rattle.ir_commands.specs.Files.{IsImageIn, TellsFault}
+use Rattle.ir_commands.specs.Files.{TellsFault}
 use Rattle.ir_commands.specs.Writing.{storing}
-use Rattle.ir_commands.proofs.Kept.{kept_as_asked, outside_kept, output_paths_as_asked}
-use Rattle.ir_commands.proofs.Outsides.{no_comparison_no_recording, outside_misses}
+use Rattle.ir_commands.proofs.Kept.{kept_as_asked, output_paths_as_asked, run_kept}
+use Rattle.ir_commands.proofs.Outsides.{comparison_asked, no_comparison_no_recording, outside_misses}
+use Rattle.ir_commands.proofs.Searched.{ok_gives}
 use Rattle.ir_commands.proofs.outside.outside_by.Goals as goal
 
 pub returns-clause-found : goal.returns-clause-found
@@ -19,44 +19,31 @@ returns-clause-found g c =
     let stored = storing g.D.Folder.known g.D.Folder.known_closed (g.D.Folder.knows folder) (g.D.Folder.was_put folder) in
     let within = c.args.arguments.now.within in
     let both = c.both_images-both.result in
-    let plan = c.plan_of.result in
-    let comparison : Comparison = record { image = both.0; other = both.1; plan = plan; aspects = aspects_of c.aspects_of.result } in
-    let asked : AsksComparison at within comparison = record {
-      input = c.in_ok-files.files.input.items;
-      is_image = subst (IsImageIn (at (string_bytes within.explore.image))) (sym c.both_images-both.ensures.0) c.in_ok-files.ensures.image;
-      is_other = subst (IsImageIn (at (string_bytes within.other))) (sym c.both_images-both.ensures.1) c.in_ok-files.ensures.other;
-      is_input = c.in_ok-files.ensures.input;
-      is_plan = subst (λ z. IsPlanOf within.explore z plan) c.as_slice.ensures.value c.plan_of.ensures;
-      counts = c.aspects_of.ensures;
-    } in
-    let out = writer_of (g.O.Sink.written c.args.out.now) (g.O.Sink.written c.outside_into.new.out) (g.O.Sink.broken c.outside_into.new.out) in
+    let comparison : Comparison = record { image = both.0; other = both.1; plan = c.plan_of.result; aspects = aspects_of c.aspects_of.result } in
+    let asked : AsksComparison at within comparison = comparison_asked comparison c.both_images-both.ensures.0 c.in_ok-files.ensures.image
+    c.both_images-both.ensures.1 c.in_ok-files.ensures.other c.in_ok-files.ensures.input c.as_slice.ensures.value c.plan_of.ensures c.aspects_of.ensures in
+    let out = writer_of (g.O.Sink.written c.args.out.now) (g.O.Sink.written c.recorded_into.new.out) (g.O.Sink.broken c.recorded_into.new.out) in
     let outs = output_paths_as_asked (λ v. v.items) c.paths-paths.result.output c.new-places.result.outputs c.in_ok-outputs.outputs c.paths-paths.ensures.output
     c.new-places.ensures.outputs c.in_ok-outputs.ensures.paths in
-    on_ok_weaker c.outside_into.result (λ found. record {
+    ok_gives c.recorded_into.result (λ recorded found. record {
       comparison = comparison;
+      recorded = recorded;
       asked = asked;
-      found = outside_kept (kept_as_asked stored _ _ (c.new-places.ensures.trace ∙ c.paths-paths.ensures.trace) outs) found;
-    }) c.outside_into.ensures.found
+      found = run_kept (kept_as_asked stored _ _ (c.new-places.ensures.trace ∙ c.paths-paths.ensures.trace) outs) found;
+    }) c.recorded_into.ensures.found
 
 pub returns-clause-none : goal.returns-clause-none
 returns-clause-none g c =
     let at = g.D.Folder.bytes_at c.args.around.now.folder.now in
     let within = c.args.arguments.now.within in
     let both = c.both_images-both.result in
-    let plan = c.plan_of.result in
-    let comparison : Comparison = record { image = both.0; other = both.1; plan = plan; aspects = aspects_of c.aspects_of.result } in
-    let asked : AsksComparison at within comparison = record {
-      input = c.in_ok-files.files.input.items;
-      is_image = subst (IsImageIn (at (string_bytes within.explore.image))) (sym c.both_images-both.ensures.0) c.in_ok-files.ensures.image;
-      is_other = subst (IsImageIn (at (string_bytes within.other))) (sym c.both_images-both.ensures.1) c.in_ok-files.ensures.other;
-      is_input = c.in_ok-files.ensures.input;
-      is_plan = subst (λ z. IsPlanOf within.explore z plan) c.as_slice.ensures.value c.plan_of.ensures;
-      counts = c.aspects_of.ensures;
-    } in
-    let out = writer_of (g.O.Sink.written c.args.out.now) (g.O.Sink.written c.outside_into.new.out) (g.O.Sink.broken c.outside_into.new.out) in
+    let comparison : Comparison = record { image = both.0; other = both.1; plan = c.plan_of.result; aspects = aspects_of c.aspects_of.result } in
+    let asked : AsksComparison at within comparison = comparison_asked comparison c.both_images-both.ensures.0 c.in_ok-files.ensures.image
+    c.both_images-both.ensures.1 c.in_ok-files.ensures.other c.in_ok-files.ensures.input c.as_slice.ensures.value c.plan_of.ensures c.aspects_of.ensures in
+    let out = writer_of (g.O.Sink.written c.args.out.now) (g.O.Sink.written c.recorded_into.new.out) (g.O.Sink.broken c.recorded_into.new.out) in
     let kept = c.in_ok-outputs.ensures.kept ∙ c.if-lacks_either.ensures.kept refl ∙ c.in_ok-files.ensures.kept ∙ c.if-loses_input.ensures.kept refl in
-    IfErr-weaker c.outside_into.result _ _ (λ answered h. outside_misses answered out asked (ap
-    (λ f. writer_of (g.E.Sink.written f) (g.E.Sink.written c.outside_into.new.faults) (g.E.Sink.broken c.outside_into.new.faults)) kept) h) c.outside_into.ensures.none
+    IfErr-weaker c.recorded_into.result _ _ (λ answered h. outside_misses answered out asked (ap
+    (λ f. writer_of (g.E.Sink.written f) (g.E.Sink.written c.recorded_into.new.faults) (g.E.Sink.broken c.recorded_into.new.faults)) kept) h) c.recorded_into.ensures.none
 
 pub returns-in_err-files-clause-none : goal.returns-in_err-files-clause-none
 returns-in_err-files-clause-none g c =

@@ -1,12 +1,11 @@
 use Rattle.std.proofs.Common.{◌≡◌, ◌∙◌, false, inl, inr, refl, subst, sym}
-use Rattle.std.specs.String.{string_bytes}
 use Rattle.ir_files.specs.Writers.{writer_of}
 use Rattle.ir_within.specs.Faults.{Comparison}
 use Rattle.ir_within.specs.Plans.{aspects_of}
-use Rattle.ir_commands.specs.Exploring.{AsksComparison, IsPlanOf, TellsComparison}
-use Rattle.ir_commands.specs.Files.{IsImageIn, TellsFault}
+use Rattle.ir_commands.specs.Exploring.{AsksComparison, TellsComparison}
+use Rattle.ir_commands.specs.Files.{TellsFault}
 use Rattle.ir_commands.proofs.Explored.{told_comparison}
-use Rattle.ir_commands.proofs.Outsides.{either_lacks}
+use Rattle.ir_commands.proofs.Outsides.{comparison_asked, either_lacks}
 use Rattle.ir_commands.proofs.within.within_file.Goals as goal
 
 pub returns : goal.returns
@@ -14,16 +13,9 @@ returns g c =
     let at = g.D.Folder.bytes_at c.args.around.now.folder.now in
     let arguments = c.args.arguments.now in
     let both = c.both_images-both.result in
-    let plan = c.plan_of.result in
-    let comparison : Comparison = record { image = both.0; other = both.1; plan = plan; aspects = aspects_of c.aspects_of.result } in
-    let asked : AsksComparison at arguments comparison = record {
-      input = c.in-Ok.files.input.items;
-      is_image = subst (IsImageIn (at (string_bytes arguments.explore.image))) (sym c.both_images-both.ensures.0) c.in-Ok.ensures.image;
-      is_other = subst (IsImageIn (at (string_bytes arguments.other))) (sym c.both_images-both.ensures.1) c.in-Ok.ensures.other;
-      is_input = c.in-Ok.ensures.input;
-      is_plan = subst (λ z. IsPlanOf arguments.explore z plan) c.as_slice.ensures.value c.plan_of.ensures;
-      counts = c.aspects_of.ensures;
-    } in
+    let comparison : Comparison = record { image = both.0; other = both.1; plan = c.plan_of.result; aspects = aspects_of c.aspects_of.result } in
+    let asked : AsksComparison at arguments comparison = comparison_asked comparison c.both_images-both.ensures.0 c.in-Ok.ensures.image
+    c.both_images-both.ensures.1 c.in-Ok.ensures.other c.in-Ok.ensures.input c.as_slice.ensures.value c.plan_of.ensures c.aspects_of.ensures in
     let answered = c.within_run.result in
     let out = writer_of (g.O.Sink.written c.args.out.now) (g.O.Sink.written c.within_run.new.out) (g.O.Sink.broken c.within_run.new.out) in
     let between = writer_of (g.E.Sink.written c.lacks_either.new.faults) (g.E.Sink.written c.within_run.new.faults) (g.E.Sink.broken c.within_run.new.faults) in

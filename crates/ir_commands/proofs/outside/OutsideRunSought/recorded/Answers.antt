@@ -1,18 +1,15 @@
-use Rattle.std.proofs.lemmas.Result.{IfErr-weaker}
+use Rattle.std.proofs.lemmas.Result.{IfErr-weaker, IfOk-weaker}
 use Rattle.ir_files.specs.Writers.{writer_of}
 use Rattle.ir_record_command.specs.Stopping.{devices, telling, tellings}
 use Rattle.ir_within.specs.Plans.{comparison_of}
 use Rattle.ir_commands.proofs.Outsides.{outside_tells_none}
-use Rattle.ir_commands.proofs.Searched.{ok_gives}
-use Rattle.ir_commands.proofs.outside.outside_in.Goals as goal
+use Rattle.ir_commands.proofs.outside.OutsideRunSought.recorded.Goals as goal
 
 pub returns-clause-found : goal.returns-clause-found
-returns-clause-found g c = ok_gives c.outside_run.result (λ recorded done. record {
-  list = done.1;
-  text = done.0;
-  recorded = recorded;
+returns-clause-found g c = IfOk-weaker c.outside_run.result _ _ (λ recorded done. record {
   printed = done.2;
-  finding = done.3;
+  text = done.0;
+  found = (done.1, done.3);
   kept = (done.4, done.5);
   lines = done.6;
 }) c.outside_run.ensures.found
@@ -25,4 +22,4 @@ returns-clause-none g c =
     IfErr-weaker c.outside_run.result _ _ (λ answered h. outside_tells_none
     (tellings (telling g.W.Sink.written g.W.Sink.broken g.W.WholeSink.called g.W.WholeSink.cause)
     (telling g.P.OutputSink.taken g.P.OutputSink.broken g.P.OutputSink.called g.P.OutputSink.cause) g.O.Sink.written g.O.Sink.broken)
-    answered (comparison_of c.args.plan.now) old new reports h) c.outside_run.ensures.stopped
+    answered (comparison_of c.args.self.now.plan.now) old new reports h) c.outside_run.ensures.stopped

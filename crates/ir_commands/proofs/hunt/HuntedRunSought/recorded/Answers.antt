@@ -1,20 +1,25 @@
-use Rattle.std.proofs.Common.{ap}
+use Rattle.std.proofs.Common.{ap, refl}
 use Rattle.std.proofs.lemmas.Result.{IfErr-weaker, IfOk-weaker}
 use Rattle.ir_files.specs.Writers.{writer_of}
+use Rattle.ir_hunt.specs.Lines.{found_line}
 use Rattle.ir_record_command.specs.Stopping.{devices, telling, tellings}
 use Rattle.ir_commands.proofs.Searched.{hunt_tells_none, left_out_is_told}
-use Rattle.ir_commands.proofs.hunt.hunted_in.Goals as goal
+use Rattle.ir_commands.proofs.hunt.HuntedRunSought.recorded.Goals as goal
 
 pub returns-clause-found : goal.returns-clause-found
 returns-clause-found g c = IfOk-weaker c.hunt_run.result _ _ (λ recorded done. record {
-  left_out = done.0;
-  seed = done.1;
-  list = done.2;
   printed = done.3;
-  finding = done.4;
+  text = found_line done.1 done.2;
+  found = record {
+    left_out = done.0;
+    seed = done.1;
+    list = done.2;
+    finding = done.4;
+    line = refl;
+    told = left_out_is_told done.0 _ (ap g.E.Sink.written) done.8;
+  };
   kept = (done.5, done.6);
   lines = done.7;
-  told = left_out_is_told done.0 _ (ap g.E.Sink.written) done.8;
 }) c.hunt_run.ensures.done
 
 pub returns-clause-none : goal.returns-clause-none
@@ -25,4 +30,4 @@ returns-clause-none g c =
     IfErr-weaker c.hunt_run.result _ _ (λ answered h. hunt_tells_none
     (tellings (telling g.W.Sink.written g.W.Sink.broken g.W.WholeSink.called g.W.WholeSink.cause)
     (telling g.P.OutputSink.taken g.P.OutputSink.broken g.P.OutputSink.called g.P.OutputSink.cause) g.O.Sink.written g.O.Sink.broken)
-    answered c.args.image.now c.args.plan.now old new reports (ap g.E.Sink.written) h) c.hunt_run.ensures.stopped
+    answered c.args.self.now.image.now c.args.self.now.plan.now old new reports (ap g.E.Sink.written) h) c.hunt_run.ensures.stopped
