@@ -98,10 +98,10 @@ def named_in(source, pattern):
 def subcommands():
     """The subcommands, in the order of the help."""
     values = source_of("values")
-    files, image_file = constants_of(values), IMAGE.search(values)[1]
+    files, image_file = constants_of(values) | constants_of(source_of("seconds")), IMAGE.search(values)[1]
     recording = source_of("recording")
     shared = {}
-    for module in ("recording", "seeds", "values", "within"):
+    for module in ("conditions", "recording", "seeds", "values", "within"):
         shared |= options_of(source_of(module), files)
     found = []
     for module in ROWS.findall(source_of("subcommands")):

@@ -26,6 +26,10 @@ pub stopped_is_not_done : {answered : ExitStatus} → (answered ≡ status.Faile
 stopped_is_not_done (inl f) d = let bad : 1 ≡ 0 = sym (ap status_number f) ∙ ap status_number d in absurd (omega (arith, bad))
 stopped_is_not_done (inr b) d = let bad : 2 ≡ 0 = sym (ap status_number b) ∙ ap status_number d in absurd (omega (arith, bad))
 
+pub err_is_not_done : {own : ExitStatus} → (own ≡ status.Failed) ⊎ (own ≡ status.Refused) → own ≢ status.Done
+err_is_not_done (inl f) d = let bad : 1 ≡ 0 = sym (ap status_number f) ∙ ap status_number d in absurd (omega (arith, bad))
+err_is_not_done (inr r) d = refused_is_not_done r d
+
 -- a call that ended well, failed or refused ends with no bad arguments
 bad_is_none_of : {A : Type 0} {answered : ExitStatus} → (answered ≡ status.Done) ⊎ ((answered ≡ status.Failed) ⊎ (answered ≡ status.Refused))
     → answered ≡ status.BadArguments → A
@@ -43,17 +47,17 @@ told_since written broken first ran last (inl same) told stays = subst (λ f. Is
 told_since written broken first ran last (inr failed) told stays = inr (stays failed)
 
 -- standard error is as it was, or failed, where an image wasn't made
-pub elf_stops : {name : Option (List ℕ)} {file : List ℕ} {image faults : Writer} {image_same same : Type 0}
+pub elf_stops : (name : Option (List ℕ)) (file : List ℕ) (image faults : Writer) {image_same same : Type 0}
     → StopsElf name file image image_same faults same → same ⊎ (faults.failed ≡ true)
-elf_stops (inl h) = inl h.1
-elf_stops (inr (inl h)) = inl h.3
-elf_stops (inr (inr h)) = inr h.2.1
+elf_stops name file image faults (inl h) = inl h.1
+elf_stops name file image faults (inr (inl h)) = inl h.3
+elf_stops name file image faults (inr (inr h)) = inr h.2.1
 
-pub assembling_stops : {name : Option (List ℕ)} {source : List ℕ} {image faults : Writer} {image_same same : Type 0}
+pub assembling_stops : (name : Option (List ℕ)) (source : List ℕ) (image faults : Writer) {image_same same : Type 0}
     → StopsAssembling name source image image_same faults same → same ⊎ (faults.failed ≡ true)
-assembling_stops (inl h) = inl h.1
-assembling_stops (inr (inl h)) = inl h.3
-assembling_stops (inr (inr h)) = inr h.2.1
+assembling_stops name source image faults (inl h) = inl h.1
+assembling_stops name source image faults (inr (inl h)) = inl h.3
+assembling_stops name source image faults (inr (inr h)) = inr h.2.1
 
 -- a file was to be made, and is told of: what is told since the beginning
 pub told_of_made : {T : Type 0} (written : T → Option (List ℕ)) (broken : T → Bool) (first begun ran last : T) {answered own : ExitStatus} {lost : Bool}
@@ -72,11 +76,11 @@ told_of_made written broken first begun ran last begins left sound lost told sta
     absurd (true≢false (sym (lost f (refused_is_not_failed refused)) ∙ sound refused))
 
 -- what the call left standard error as, unless it refused
-pub left_alone : {T : Type 0} {broken : T → Bool} {begun ran : T} {own : ExitStatus} → (own ≡ status.Done) ⊎ ((own ≡ status.Failed) ⊎ (own ≡ status.Refused))
+pub left_alone : {T : Type 0} (broken : T → Bool) {begun ran : T} {own : ExitStatus} → (own ≡ status.Done) ⊎ ((own ≡ status.Failed) ⊎ (own ≡ status.Refused))
     → (own ≡ status.Done → ran ≡ begun) → (own ≡ status.Failed → (ran ≡ begun) ⊎ (broken ran ≡ true)) → own ≢ status.Refused → (ran ≡ begun) ⊎ (broken ran ≡ true)
-left_alone (inl d) done failed not = inl (done d)
-left_alone (inr (inl f)) done failed not = failed f
-left_alone (inr (inr r)) done failed not = absurd (not r)
+left_alone broken (inl d) done failed not = inl (done d)
+left_alone broken (inr (inl f)) done failed not = failed f
+left_alone broken (inr (inr r)) done failed not = absurd (not r)
 
 -- the status is that of the call, or a failure
 pub stop_is_failure : {answered own : ExitStatus} → (answered ≡ own) ⊎ (answered ≡ status.Failed)

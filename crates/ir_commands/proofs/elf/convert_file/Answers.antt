@@ -52,7 +52,7 @@ returns g c =
       told = λ h. let f = stop_is_failure told.status ran.status h in
           subst (λ w. IsTold (writer_of (written first) (written w) (broken w))) (sym (ends (stopped_is_not_done h)))
           (told_of_made written broken first c.bytes_of.new.faults after last begins
-          (left_alone {broken = broken} ran.status (λ d. (ran.done d).3) (λ x. elf_stops (ran.stopped x)))
+          (left_alone broken ran.status (λ d. (ran.done d).3) (λ x. elf_stops name c.as_slice.result.now _ (writer_of (written c.bytes_of.new.faults) (written after) (broken after)) (ran.stopped x)))
           (λ r. ap (λ w. w.failed) (ran.unwritten (ran.refused r).0 (ran.refused r).1) ∙ c.new-file.ensures.works) told.failed told.told told.stays
           ran.status f);
     }

@@ -1,6 +1,7 @@
 use Rattle.std.proofs.Common.{ap, refl}
 use Rattle.std.proofs.lemmas.Result.{IfErr-weaker, IfOk-weaker}
 use Rattle.ir_files.specs.Writers.{writer_of}
+use Rattle.ir_hunt.specs.Lines.{found_line}
 use Rattle.ir_record_command.specs.Stopping.{devices, telling, tellings}
 use Rattle.ir_commands.proofs.Searched.{hunt_tells_none, left_out_goes_on, left_out_is_told, ok_gives}
 use Rattle.ir_commands.proofs.hunt.HuntedRunSought.recorded.Goals as goal
@@ -8,7 +9,7 @@ use Rattle.ir_commands.proofs.hunt.HuntedRunSought.recorded.Goals as goal
 pub returns-clause-found : goal.returns-clause-found
 returns-clause-found g c = IfOk-weaker c.hunt_run.result _ _ (λ recorded done. record {
   printed = done.3;
-  text = _;
+  text = found_line done.1 done.2;
   found = record {
     left_out = done.0;
     seed = done.1;

@@ -2,14 +2,18 @@ use Rattle.std.proofs.Common.{refl}
 use Rattle.std.proofs.lemmas.Result.{IfErr-weaker, IfOk-weaker}
 use Rattle.ir_files.specs.Writers.{writer_of}
 use Rattle.ir_record_command.specs.Stopping.{devices, telling, tellings}
+<<<<<<< ours
 use Rattle.ir_commands.proofs.CallerLemmas.{quiet_goes_on}
+=======
+use Rattle.ir_shrink.specs.Lines.{shrunk_lines}
+>>>>>>> theirs
 use Rattle.ir_commands.proofs.Searched.{shrink_stops}
 use Rattle.ir_commands.proofs.shrink.ShrinkingRunSought.recorded.Goals as goal
 
 pub returns-clause-found : goal.returns-clause-found
 returns-clause-found g c = IfOk-weaker c.shrink_run.result _ _ (λ shrunk done. record {
   printed = done.3;
-  text = _;
+  text = shrunk_lines done.0 done.1 done.2 shrunk.is_minimal;
   found = record { before = done.0; after = done.1; list = done.2; shrinking = done.4; line = refl };
   kept = (done.5, done.6);
   lines = done.7;
