@@ -2,11 +2,8 @@ use Rattle.std.proofs.Common.{refl}
 use Rattle.std.proofs.lemmas.Result.{IfErr-weaker, IfOk-weaker}
 use Rattle.ir_files.specs.Writers.{writer_of}
 use Rattle.ir_record_command.specs.Stopping.{devices, telling, tellings}
-<<<<<<< ours
 use Rattle.ir_commands.proofs.CallerLemmas.{quiet_goes_on}
-=======
 use Rattle.ir_shrink.specs.Lines.{shrunk_lines}
->>>>>>> theirs
 use Rattle.ir_commands.proofs.Searched.{shrink_stops}
 use Rattle.ir_commands.proofs.shrink.ShrinkingRunSought.recorded.Goals as goal
 
