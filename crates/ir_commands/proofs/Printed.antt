@@ -9,6 +9,9 @@ use Rattle.ir_files.specs.Statuses.{status_number}
 use Rattle.ir_files.specs.Writers.{Writer, Took, writer_of}
 use Rattle.ir_files.specs.declared.exit_status.ExitStatus.{ExitStatus}
 use Rattle.ir_files.specs.declared.exit_status.ExitStatus.TheVariants as status
+use Rattle.ir_past.specs.Answers.{Stops}
+use Rattle.ir_past.specs.declared.past_err.PastErr.{PastErr}
+use Rattle.ir_past.specs.declared.past_err.PastErr.TheVariants as past
 use Rattle.ir_record_command.specs.Faults.{RefusesRecord, fault_status}
 use Rattle.ir_record_command.specs.Plan.{Plan}
 use Rattle.ir_record_command.specs.Recording.{IsRecordedOf, recording_lines}
@@ -88,6 +91,10 @@ same_is_nothing {O} took before after same = subst (λ (o : O). Appends (took be
 pub part_since : {one other : List ℕ → Type 0} (out : Writer) → ((text : List ℕ) → one text → other text) → PrintsPart one out → PrintsPart other out
 part_since out to (inl h) = inl h
 part_since out to (inr h) = inr (h.0, to h.0 h.1, h.2)
+
+pub stops_in_part : (e : PastErr) (w : Writer) (text : List ℕ) → Stops e w text → AppendsPrefix w.before w.after text
+stops_in_part past.NoMem w text s = s.0
+stops_in_part past.Write w text s = s.0
 
 -- ---- a search that wasn't made, or was in vain
 

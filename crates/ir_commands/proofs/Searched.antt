@@ -43,7 +43,6 @@ use Rattle.ir_commands.specs.Searching.{RecordsShrunkRun, RefusesFound, RefusesG
 use Rattle.ir_commands.specs.Searching.{SearchFinds, SearchMisses, SearchesFile, ShrinksFound, ShrinksNothing, TellsNoSearch, TellsNoSeed}
 use Rattle.ir_commands.specs.Sought.{PrintsPart, RecordsRun}
 use Rattle.ir_commands.specs.Writing.{IsStatusOfNoRecording, KeptAsAsked, Keeping, Storing}
-use Rattle.ir_commands.proofs.CallerLemmas.{told_goes_on, unchanged_goes_on}
 use Rattle.ir_commands.proofs.Kept.{ends_kept, run_kept}
 use Rattle.ir_commands.proofs.Printed.{explore_fault_is_not_bad, fault_is_not_bad, leaves_in_part, none_since, nothing_searched, part_since, same_is_nothing}
 use Rattle.ir_commands.proofs.Refused.{answer_lacks_guest, explore_fault_is, failed_is_not_refused, fault_is_no_recording, hang_lacks_guest, hunt_lacks_guest}
@@ -396,9 +395,3 @@ found_refuses {image} {hunt} {view} {given} {plan} {answered} {out} same is_plan
   refused_since (λ lacks. subst (λ (p : Plan). LacksGuest image p.profile) is_plan.how lacks) h.because,
   part_since out (λ text x. (plan, subst (λ z. IsShrinkPlanOfHunt z given plan) same is_plan, x)) h.printed,
 )
-
--- what a writer holds goes on where it was told how many seeds were left out
-pub left_out_goes_on : (left_out : ℕ) (reports : Writer) {same : Type 0} → (same → reports.after ≡ reports.before) → TellsLeftOut left_out reports same
-    → GoesOn reports.before reports.after
-left_out_goes_on zero reports to told = subst (λ z. GoesOn reports.before z) (sym (to told)) (unchanged_goes_on reports.before)
-left_out_goes_on (suc n) reports to told = told_goes_on told

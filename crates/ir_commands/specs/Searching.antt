@@ -107,6 +107,11 @@ IsHuntAnswer image plan text = IsHuntLine image plan text
 abbrev pub IsHuntAnswerTo : Paths → HuntArguments → List ℕ → Type 0
 IsHuntAnswerTo at arguments text = (image : List ℕ) × (plan : HuntPlan) × AsksHunt at arguments image plan × IsHuntAnswer image plan text
 
+-- no seed was found, or nothing was hunted for
+abbrev pub MissesSeed : List ℕ → HuntPlan → ExitStatus → Writer → Writer → Type 0
+MissesSeed image plan answered out faults = TellsNoSeed image plan answered out faults
+    ⊎ TellsNoSearch (LacksGuest image plan.record.profile) (IsHuntAnswer image plan) answered out faults
+
 -- a guest was hunted in: the run that is found was recorded and its trace is at the path of TRACE, and behind the seeds that were left out standard error may
 -- say how its threads ended; or no seed was found
 pub record Hunts (at : Paths) (stored : Storing) (arguments : HuntArguments) (answered : ExitStatus) (out faults : Writer) : Type 0 where

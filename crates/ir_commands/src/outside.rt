@@ -22,7 +22,6 @@ use ir_search::Observer;
 use ir_stream::Sink;
 use ir_trace::Trace;
 use ir_within::{WithinPlan, outside_run};
-use std::thread::Threads;
 use std::time::Clock;
 
 // The files of the recording.
@@ -66,7 +65,7 @@ impl<G: Observer> RunSought for Outside<'_, G> {
         faults: &mut E,
     ) -> Result<Trace, ExitStatus>
     where
-        R: Threads + Sync + Clock + Eprint + AllocGlobal,
+        R: Clock + Eprint + AllocGlobal,
         W: WholeSink,
         P: OutputSink,
         O: Sink,
@@ -77,7 +76,7 @@ impl<G: Observer> RunSought for Outside<'_, G> {
 }
 
 // The trace of a run with the first outcome that is outside; its files are written. If none is known to be, the exit status.
-fn outside_by<R: Threads + Sync + Clock + Eprint + AllocGlobal, D: Folder, G: Observer, O: Sink, E: Sink>(
+fn outside_by<R: Clock + Eprint + AllocGlobal, D: Folder, G: Observer, O: Sink, E: Sink>(
     around: &Surroundings<'_, R, D, G>,
     arguments: &OutsideArguments,
     out: &mut O,
@@ -118,7 +117,7 @@ fn outside_by<R: Threads + Sync + Clock + Eprint + AllocGlobal, D: Folder, G: Ob
 
 // Compares the outcomes of the guests in two files, and records a run with the first that is outside into a third, and what its threads print into others
 // where they are asked for.
-pub fn outside_file<R: Threads + Sync + Clock + Eprint + AllocGlobal, D: Folder, G: Observer, O: Sink, E: Sink>(
+pub fn outside_file<R: Clock + Eprint + AllocGlobal, D: Folder, G: Observer, O: Sink, E: Sink>(
     around: &Surroundings<'_, R, D, G>,
     arguments: &OutsideArguments,
     explains: bool,

@@ -16,7 +16,6 @@ use ir_files::{ExitStatus, Folder, MOST_GUEST_INPUT, OutputFiles, WholeFile, out
 use ir_record_command::{ParsedImage, RecordFiles};
 use ir_stream::Sink;
 use std::alloc::{AllocError, Global};
-use std::thread::Threads;
 use std::time::Clock;
 
 /// What a recording reads and writes.
@@ -92,7 +91,7 @@ pub fn recorded_into<R, D, G, S, O, E>(
     faults: &mut E,
 ) -> Result<S::Run, ExitStatus>
 where
-    R: Threads + Sync + Clock + Eprint + AllocGlobal,
+    R: Clock + Eprint + AllocGlobal,
     D: Folder,
     S: RunSought,
     O: Sink,

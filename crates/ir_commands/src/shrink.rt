@@ -29,7 +29,6 @@ use ir_shrink::{GivenRun, ShrinkPlan, Shrunk, shrink_run};
 use ir_stream::Sink;
 use ir_trace::{Trace, read_trace};
 use std::alloc::Global;
-use std::thread::Threads;
 use std::time::Clock;
 
 // The files of the recording.
@@ -178,7 +177,7 @@ impl RunSought for Shrinking<'_> {
         faults: &mut E,
     ) -> Result<Shrunk, ExitStatus>
     where
-        R: Threads + Sync + Clock + Eprint + AllocGlobal,
+        R: Clock + Eprint + AllocGlobal,
         W: WholeSink,
         P: OutputSink,
         O: Sink,
@@ -222,7 +221,7 @@ pub fn shrink_file<R, D, G, O, E>(
     faults: &mut E,
 ) -> ExitStatus
 where
-    R: Threads + Sync + Clock + Eprint + AllocGlobal,
+    R: Clock + Eprint + AllocGlobal,
     D: Folder,
     O: Sink,
     E: Sink,
@@ -238,7 +237,7 @@ where
 }
 
 // The same; what it is shrunk to, or the exit status.
-fn shrunk_by<R: Threads + Sync + Clock + Eprint + AllocGlobal, D: Folder, G, O: Sink, E: Sink>(
+fn shrunk_by<R: Clock + Eprint + AllocGlobal, D: Folder, G, O: Sink, E: Sink>(
     around: &Surroundings<'_, R, D, G>,
     arguments: &ShrinkArguments,
     explains: bool,

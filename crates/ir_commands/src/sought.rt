@@ -12,7 +12,6 @@ ghost use Rattle.ir_commands.specs.Sought.{RecordsRun};
 use ir_files::{ExitStatus, OutputSink, WholeSink};
 use ir_record_command::RecordFiles;
 use ir_stream::Sink;
-use std::thread::Threads;
 use std::time::Clock;
 
 /// A run that is looked for.
@@ -41,7 +40,7 @@ pub trait RunSought {
         faults: &mut E,
     ) -> Result<Self::Run, ExitStatus>
     where
-        R: Threads + Sync + Clock + Eprint + AllocGlobal,
+        R: Clock + Eprint + AllocGlobal,
         W: WholeSink,
         P: OutputSink,
         O: Sink,

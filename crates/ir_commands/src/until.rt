@@ -19,7 +19,6 @@ use ir_record_command::{ParsedImage, RecordFiles};
 use ir_search::Observer;
 use ir_stream::Sink;
 use ir_trace::Trace;
-use std::thread::Threads;
 use std::time::Clock;
 
 // The files of the recording.
@@ -63,7 +62,7 @@ impl<G: Observer> RunSought for Until<'_, G> {
         faults: &mut E,
     ) -> Result<Trace, ExitStatus>
     where
-        R: Threads + Sync + Clock + Eprint + AllocGlobal,
+        R: Clock + Eprint + AllocGlobal,
         W: WholeSink,
         P: OutputSink,
         O: Sink,
@@ -84,7 +83,7 @@ impl<G: Observer> RunSought for Until<'_, G> {
 }
 
 // The trace of a run with the outcome that is looked for, or of one that hangs; its files are written. If there is none, the exit status.
-fn found_by<R: Threads + Sync + Clock + Eprint + AllocGlobal, D: Folder, G: Observer, O: Sink, E: Sink>(
+fn found_by<R: Clock + Eprint + AllocGlobal, D: Folder, G: Observer, O: Sink, E: Sink>(
     around: &Surroundings<'_, R, D, G>,
     arguments: &UntilArguments,
     out: &mut O,
@@ -120,7 +119,7 @@ fn found_by<R: Threads + Sync + Clock + Eprint + AllocGlobal, D: Folder, G: Obse
 
 // Looks for an outcome of a guest, or a run that hangs, and records such a run into a file, and what its threads print into others where they are asked
 // for.
-pub fn until_file<R: Threads + Sync + Clock + Eprint + AllocGlobal, D: Folder, G: Observer, O: Sink, E: Sink>(
+pub fn until_file<R: Clock + Eprint + AllocGlobal, D: Folder, G: Observer, O: Sink, E: Sink>(
     around: &Surroundings<'_, R, D, G>,
     arguments: &UntilArguments,
     explains: bool,
