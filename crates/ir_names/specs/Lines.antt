@@ -4,11 +4,11 @@ use Rattle.std.specs.Prelude.{◌≡◌, Option, Some, None, option_map, option_
 use Rattle.std.specs.Result.{result_ok}
 use Rattle.std.specs.Option.{is_some}
 use Rattle.std.specs.Int.{w32, from_be_bytes}
-use Rattle.std.specs.List.{slice_split}
 use Rattle.std.specs.Str.Lines.{strip_carriage_return}
 use Rattle.hex.specs.Hex.{decode_sized}
 use Rattle.ir_numerals.specs.Numerals.{number_in}
 use Rattle.ir_command.specs.Commands.{words_of}
+use Rattle.ir_stream.specs.Answers.{lines_of}
 use Rattle.ir_files.specs.Shown.{is_control, is_late_control}
 use Rattle.ir_names.specs.Things.{NameTable, name_of}
 use Rattle.ir_names.specs.declared.names_err.NamesErr.{NamesErr}
@@ -61,11 +61,20 @@ abbrev pub word_by : List ℕ → ℕ → List ℕ → ℕ → Option Thing
 word_by kind object part index =
     if bytes_eq kind (codes "object") && bytes_eq part (codes "word") then Some (Word object index) else None
 
+-- the number and the name of the word of an object
+abbrev pub word_row : List ℕ → ℕ → List ℕ → List (List ℕ) → Option (Thing × List ℕ)
+word_row kind object part (index ∷ name ∷ []) =
+    option_and_then (λ k. option_and_then (λ thing. row_of thing name) (word_by kind object part k)) (decimal_in index)
+word_row kind object part words = None
+
+-- the name of a thread or an object, or what follows the number of an object
+abbrev pub row_behind_number : List ℕ → ℕ → List ℕ → List (List ℕ) → Option (Thing × List ℕ)
+row_behind_number kind number name [] = option_and_then (λ thing. row_of thing name) (thing_by kind number)
+row_behind_number kind number part (word ∷ words) = word_row kind number part (word ∷ words)
+
 -- `thread T NAME`, `object O NAME` and `object O word W NAME`
 abbrev pub row_by_words : List (List ℕ) → Option (Thing × List ℕ)
-row_by_words (kind ∷ number ∷ name ∷ []) = option_and_then (λ n. option_and_then (λ thing. row_of thing name) (thing_by kind n)) (decimal_in number)
-row_by_words (kind ∷ number ∷ part ∷ index ∷ name ∷ []) =
-    option_and_then (λ n. option_and_then (λ k. option_and_then (λ thing. row_of thing name) (word_by kind n part k)) (decimal_in index)) (decimal_in number)
+row_by_words (kind ∷ number ∷ name ∷ words) = option_and_then (λ n. row_behind_number kind n name words) (decimal_in number)
 row_by_words words = None
 
 -- the name behind an address and a blank
@@ -84,9 +93,9 @@ row_in line = row_or_words (address_in (take 8 line)) line
 
 -- ---- all lines
 
--- the lines between line feeds, without carriage returns at their ends
+-- the lines, without carriage returns at their ends
 abbrev pub text_lines : List ℕ → List (List ℕ)
-text_lines bytes = map strip_carriage_return (slice_split (λ b. b == 10) bytes)
+text_lines bytes = map strip_carriage_return (lines_of bytes)
 
 -- of several names of a thing the first counts
 abbrev pub with_row : NameTable → Thing × List ℕ → NameTable
@@ -114,6 +123,11 @@ names_from names number (line ∷ lines) = read_on number (λ more. names_from m
 -- the names of a file, or the number of the first faulty line, counted from 1
 abbrev pub names_at : List ℕ → Result NameTable ℕ
 names_at bytes = names_from [] 1 (text_lines bytes)
+
+-- adding the line of this number met this fault, or memory ran out
+abbrev pub IsLineFault : ℕ → NamesErr → Option NameTable → Type 0
+IsLineFault number (fault.Line n) read = (n ≡ number) × (read ≡ None)
+IsLineFault number fault.NoMem read = Unit {0}
 
 -- reading met this fault, or memory ran out
 abbrev pub IsNamesFault : {Y : Type 0} → NamesErr → Result Y ℕ → Type 0

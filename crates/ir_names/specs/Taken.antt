@@ -1,20 +1,46 @@
 -- What a writer with names took of a plain answer, by the bytes that the writer behind it took.
-use Rattle.std.specs.Prelude.{ℕ, ◌+◌, ◌-◌, ◌==◌, ◌||◌, ◌&&◌, zero, suc, Bool, true, false, List, [], ◌∷◌, ◌++◌, bytes_eq, length, take}
+use Rattle.std.specs.Prelude.{ℕ, ◌+◌, ◌-◌, ◌&&◌, not, zero, suc, Bool, true, false, List, [], ◌∷◌, ◌++◌, bytes_eq, flat_map, length, take}
 use Rattle.std.specs.Prelude.{Option, Some, None, option_and_then, if◌then◌else◌}
 use Rattle.ir_names.specs.Naming.{Reached, answer_start, after, is_end, named, step, tag}
 use Rattle.ir_names.specs.Things.{NameTable}
 use Rattle.ir_names.specs.declared.place.Place.{Place}
 use Rattle.ir_names.specs.declared.place.Place.TheVariants as place
+use Rattle.ir_names.specs.declared.thing.Thing.{Thing}
+use Rattle.ir_names.specs.declared.thing.Thing.TheVariants.{Thread, Object, Word, Address}
 
--- ---- the plain bytes of an answer with names
+-- ---- which names are put in
+
+abbrev pub bool_number : Bool → ℕ
+bool_number false = 0
+bool_number true = 1
+
+-- what a name is of, in three numbers
+abbrev pub thing_numbers : Thing → List ℕ
+thing_numbers (Thread number) = 0 ∷ number ∷ 0 ∷ []
+thing_numbers (Object number) = 1 ∷ number ∷ 0 ∷ []
+thing_numbers (Word object index) = 2 ∷ object ∷ index ∷ []
+thing_numbers (Address address) = 3 ∷ address ∷ 0 ∷ []
+
+-- a row in numbers
+abbrev pub row_numbers : Thing × List ℕ → List ℕ
+row_numbers row = thing_numbers row.0 ++ length row.1 ∷ row.1
+
+-- names, and whether lines begin with addresses, in numbers, by which they are known also before other numbers
+abbrev pub begun_numbers : NameTable → Bool → List ℕ
+begun_numbers names lists = bool_number lists ∷ length names ∷ flat_map row_numbers names
+
+-- ---- what passes as it is
 
 abbrev pub is_nil : List ℕ → Bool
 is_nil [] = true
 is_nil (b ∷ bytes) = false
 
--- a byte that ends no word
-abbrev pub not_end : ℕ → Bool
-not_end b = if is_end b then false else true
+-- how many of the bytes come before the first name
+unfoldable pub passes : NameTable → Reached → List ℕ → ℕ
+passes names r [] = 0
+passes names r (b ∷ bytes) = if is_end b && not (is_nil (tag names r)) then 0 else suc (passes names (step r b) bytes)
+
+-- ---- the plain bytes of an answer with names
 
 -- The plain answer that an answer with names is of. The number says how many bytes of a name are passed over before the next byte is taken as it is.
 unfoldable pub unnamed : NameTable → Reached → Option ℕ → List ℕ → List ℕ
@@ -22,7 +48,7 @@ unnamed names r skips [] = []
 unnamed names r (Some (suc n)) (b ∷ bytes) = unnamed names r (Some n) bytes
 unnamed names r (Some zero) (b ∷ bytes) = b ∷ unnamed names (step r b) None bytes
 unnamed names r None (b ∷ bytes) =
-    if is_nil (tag names r) || not_end b then b ∷ unnamed names (step r b) None bytes else unnamed names r (Some (length (tag names r) - 1)) bytes
+    if is_end b && not (is_nil (tag names r)) then unnamed names r (Some (length (tag names r) - 1)) bytes else b ∷ unnamed names (step r b) None bytes
 
 -- ---- whether two are equal
 
@@ -41,10 +67,6 @@ abbrev pub option_number : Option ℕ → ℕ
 option_number None = 0
 option_number (Some n) = suc n
 
-abbrev pub bool_number : Bool → ℕ
-bool_number false = 0
-bool_number true = 1
-
 -- all that one has, in numbers
 abbrev pub reached_numbers : Reached → List ℕ
 reached_numbers r = place_number r.place ∷ option_number r.object ∷ bool_number r.lists ∷ r.word
@@ -54,16 +76,21 @@ is_reached a b = bytes_eq (reached_numbers a) (reached_numbers b)
 
 -- ---- what it took
 
--- a plain answer, if these bytes are the answer with names, and after it the first bytes of a name
-abbrev pub plain_if : NameTable → Bool → Reached → ℕ → List ℕ → List ℕ → Option (List ℕ)
-plain_if names lists r tagged bytes plain =
-    if bytes_eq bytes (named names (answer_start lists) plain ++ take tagged (tag names r)) && is_reached (after (answer_start lists) plain) r then Some plain else None
+-- a text, and after it the first bytes of the name that was begun, as many as there are in all; only where the writer behind has failed
+abbrev pub with_part : NameTable → Reached → Bool → ℕ → List ℕ → List ℕ
+with_part names r failed total text = text ++ (if failed then take (total - length text) (tag names r) else [])
+
+-- a plain answer, if these bytes are the answer with names, and it comes so far
+abbrev pub plain_if : NameTable → Reached → Bool → List ℕ → List ℕ → Option (List ℕ)
+plain_if names r failed bytes plain =
+    if bytes_eq bytes (with_part names r failed (length bytes) (named names (answer_start r.lists) plain)) && is_reached (after (answer_start r.lists) plain) r
+    then Some plain else None
 
 -- the plain answer that these bytes are of
-abbrev pub plain_of : NameTable → Bool → Reached → ℕ → List ℕ → Option (List ℕ)
-plain_of names lists r tagged bytes = plain_if names lists r tagged bytes (unnamed names (answer_start lists) None bytes)
+abbrev pub plain_of : NameTable → Reached → Bool → List ℕ → Option (List ℕ)
+plain_of names r failed bytes = plain_if names r failed bytes (unnamed names (answer_start r.lists) None bytes)
 
--- the plain answer, where it is known what the writer behind took: from its start on the answer with names, whole unless it has failed
-abbrev pub plain_taken : NameTable → Reached → ℕ → Bool → Option (List ℕ) → Option (List ℕ)
-plain_taken names r tagged failed known =
-    if tagged == 0 || failed then option_and_then (plain_of names r.lists r tagged) known else None
+-- the plain answer, where it is known what the writer behind took: from its start on the answer with names, and if it has failed, the first bytes of
+-- a name after it
+abbrev pub plain_taken : NameTable → Reached → Bool → Option (List ℕ) → Option (List ℕ)
+plain_taken names r failed known = option_and_then (plain_of names r failed) known

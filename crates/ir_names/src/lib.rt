@@ -10,6 +10,8 @@ mod reached;
 mod reading;
 mod sink;
 mod table;
+#[cfg(test)]
+mod tests;
 mod thing;
 
 pub use names_err::NamesErr;

@@ -6,6 +6,7 @@ use crate::naming::{is_end, next_object, next_place, thing_at};
 use crate::place::Place;
 use crate::thing::Thing;
 use arrayvec::ArrayVec;
+use ir_stream::append;
 use std::marker::Model;
 
 // How many bytes of a word are kept: one more than the longest number has.
@@ -48,6 +49,20 @@ impl Reached {
             place: line_start(lists),
             object: None,
             lists,
+        }
+    }
+
+    /// The same.
+    pub fn copied(&self) -> Reached
+        ensures { result ≡ self.now }
+    {
+        let mut word = ArrayVec::new();
+        append(&mut word, self.word.as_slice());
+        Reached {
+            word,
+            place: self.place,
+            object: self.object,
+            lists: self.lists,
         }
     }
 

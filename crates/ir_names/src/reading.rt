@@ -1,9 +1,10 @@
 //! The reader of names.
 
-ghost use Rattle.std.specs.Prelude.{◌≡◌, ◌==◌, ◌<◌, [], ◌∷◌, length, position, option_map, IfErr, IfOk, IfSome, MatchOption, Ok};
+ghost use Rattle.std.specs.Prelude.{◌≡◌, ◌==◌, ◌<◌, ◌≤◌, ◌∷◌, length, option_map, IfErr, IfOk, OnOk, Ok, Some};
+ghost use Rattle.std.specs.List.{position_or_len};
 ghost use Rattle.std.specs.Str.Lines.{strip_carriage_return};
 ghost use Rattle.ir_command.specs.Commands.{words_of};
-ghost use Rattle.ir_names.specs.Lines.{row_of, thing_by, word_by, row_by_words, row_behind, row_in, is_blank, text_lines, names_at, IsNamesFault};
+ghost use Rattle.ir_names.specs.Lines.{row_of, thing_by, word_by, word_row, row_by_words, row_behind, row_in, text_lines, with_line, names_at, IsLineFault, IsNamesFault};
 
 use crate::legal::is_name;
 use crate::names_err::NamesErr;
@@ -60,7 +61,9 @@ fn word_by(kind: &[u8], object: u64, part: &[u8], index: u64) -> Option<Thing>
 }
 
 // What five words say of the word of an object, of which the last two are in the rest.
-fn word_row<'a>(kind: &[u8], object: u64, part: &[u8], rest: &'a [u8]) -> Option<Row<'a>> {
+fn word_row<'a>(kind: &[u8], object: u64, part: &[u8], rest: &'a [u8]) -> Option<Row<'a>>
+    ensures { option_map (λ row. (row.0, row.1.now)) result ≡ word_row kind.now object part.now (words_of rest.now) }
+{
     let (index, rest) = next_word(rest)?;
     let (name, rest) = next_word(rest)?;
     if next_word(rest).is_some() {
@@ -109,13 +112,6 @@ fn row_in(line: &[u8]) -> Option<Row<'_>>
     }
 }
 
-// Where the first line feed is.
-fn line_feed(text: &[u8]) -> Option<usize>
-    ensures { result ≡ position (λ b. b == 10) text.now }
-{
-    text.iter().position(|byte| *byte == b'\n')
-}
-
 // A line without the carriage return at its end.
 fn stripped(line: &[u8]) -> &[u8]
     ensures { result.now ≡ strip_carriage_return line.now }
@@ -126,26 +122,44 @@ fn stripped(line: &[u8]) -> &[u8]
     }
 }
 
-// The first line, and what follows its line feed, if there is one.
-fn first_line(text: &[u8]) -> (&[u8], Option<&[u8]>)
-    ensures lines { MatchOption result.1 (text_lines text.now ≡ result.0.now ∷ []) (λ rest. text_lines text.now ≡ result.0.now ∷ text_lines rest.now) }
-    ensures shorter { IfSome result.1 (λ rest. length rest.now < length text.now) }
+// How many bytes are before the first line feed.
+fn line_len(text: &[u8]) -> usize
+    ensures value { result ≡ position_or_len (λ b. b == 10) text.now }
+    ensures within { result ≤ length text.now }
 {
-    match line_feed(text) {
-        Some(end) => (stripped(&text[..end]), Some(&text[end + 1..])),
-        None => (stripped(text), None),
+    text.iter().take_while(|byte| **byte != b'\n').count()
+}
+
+// The first line of a text, and what follows its line feed.
+fn first_line(text: &[u8]) -> (&[u8], &[u8])
+    requires { 0 < length text.now }
+    ensures lines { text_lines text.now ≡ result.0.now ∷ text_lines result.1.now }
+    ensures shorter { length result.1.now < length text.now }
+{
+    let (line, after) = text.split_at(line_len(text));
+    match after {
+        [] => (stripped(line), after),
+        [_, after @ ..] => (stripped(line), after),
     }
 }
 
 // Adds the name of a line, the line of this number.
-fn add_line<'a>(names: &mut Names<'a>, line: &'a [u8], number: usize) -> Result<(), NamesErr>
+#[tactic(auto, unfolding(crate::specs::Lines::with_line))]
+fn add_line(
+    alloc: Global,
+    names: &mut Names,
+    line: &[u8],
+    number: usize,
+) -> Result<(), NamesErr>
+    ensures added { OnOk result (with_line names.old line.now ≡ Some names.new) }
+    ensures faulty { IfErr result (λ error. IsLineFault number error (with_line names.old line.now)) }
 {
     if next_word(line).is_none() {
         return Ok(());
     }
     match row_in(line) {
         Some((thing, name)) => {
-            names.add(thing, name)?;
+            names.add(alloc, thing, name)?;
             Ok(())
         }
         None => Err(NamesErr::Line(number)),
@@ -161,7 +175,7 @@ fn add_line<'a>(names: &mut Names<'a>, line: &'a [u8], number: usize) -> Result<
 ///
 /// # Errors
 /// The first other line, or out of memory.
-pub fn read_names(alloc: Global, bytes: &[u8]) -> Result<Names<'_>, NamesErr>
+pub fn read_names(alloc: Global, bytes: &[u8]) -> Result<Names, NamesErr>
     // The names of the lines.
     ensures read { IfOk result (λ names. names_at bytes.now ≡ Ok names) }
     // Or the first faulty line, or memory ran out.
@@ -169,11 +183,11 @@ pub fn read_names(alloc: Global, bytes: &[u8]) -> Result<Names<'_>, NamesErr>
 {
     let mut names = Names::new(alloc);
     let mut number = 0;
-    let mut rest = Some(bytes);
-    while let Some(text) = rest {
-        let (line, after) = first_line(text);
+    let mut rest = bytes;
+    while !rest.is_empty() {
+        let (line, after) = first_line(rest);
         number += 1;
-        add_line(&mut names, line, number)?;
+        add_line(alloc, &mut names, line, number)?;
         rest = after;
     }
     Ok(names)

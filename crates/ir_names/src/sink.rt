@@ -1,34 +1,107 @@
 //! A writer that puts names in.
 
-ghost use Rattle.std.specs.Prelude.{◌≡◌, ◌≤◌, ◌<◌, [], ◌∷◌, ◌++◌, length, take, drop, OnOk, OnErr, IfOk};
-ghost use Rattle.std.specs.Io.KnownBytes.{Appends};
-ghost use Rattle.ir_names.specs.Naming.{answer_start, named, tag};
-ghost use Rattle.ir_names.specs.Taken.{plain_taken};
+ghost use Rattle.std.specs.Prelude.{◌≡◌, [], ◌++◌, option_map, MatchOption, Some};
+ghost use Rattle.ir_names.specs.Naming.{answer_start, tag, tag_text};
+ghost use Rattle.ir_names.specs.Taken.{begun_numbers, passes, plain_taken};
+ghost use Rattle.ir_stream.specs.Writing.{WritesText};
 
 use crate::naming::is_end;
 use crate::reached::Reached;
 use crate::table::Names;
-use ir_stream::{DeviceErr, Sink};
+use ir_stream::{DeviceErr, Sink, write_all};
+use std::alloc::Global;
 
-/// A writer of an answer that puts in its names: each byte of the answer passes at once, and before the end of a word that is a number of something
-/// that has a name, ` <NAME>` goes to the writer behind.
+/// A writer of answers that may put in names. Each byte of an answer passes at once, and before the end of a word that is a number of
+/// something that has a name, ` <NAME>` goes to the writer behind.
 #[derive(Drop)]
-pub struct NamedSink<'a, 'n, W> {
-    names: &'a Names<'n>,
-    sink: &'a mut W,
+pub struct NamedSink<W> {
+    names: Names,
+    /// The writer behind.
+    pub sink: W,
     reached: Reached,
-    // How many bytes of a name went to the sink, if it failed in one.
-    tagged: usize,
 }
 
-impl<'a, 'n, W: Sink> NamedSink<'a, 'n, W> {
-    /// The writer of an answer from its start on, whose lines may begin with addresses.
-    pub fn new(names: &'a Names<'n>, sink: &'a mut W, lists: bool) -> NamedSink<'a, 'n, W> {
-        NamedSink {
-            names,
-            sink,
-            reached: Reached::new(lists),
-            tagged: 0,
+// The name that is put in before the end of the last word, if there is one.
+fn name<'a>(names: &'a Names, reached: &Reached) -> Option<&'a [u8]>
+    ensures { MatchOption result (tag names.now reached.now ≡ []) (λ name. tag names.now reached.now ≡ tag_text (Some name.now)) }
+{
+    names.get(reached.thing()?)
+}
+
+// How many of the bytes come before the first name.
+#[tactic(auto, unfolding(crate::specs::Taken::passes))]
+fn passed(names: &Names, start: &Reached, bytes: &[u8]) -> usize
+    ensures { result ≡ passes names.now start.now bytes.now }
+{
+    let mut reached = start.copied();
+    let mut count = 0;
+    for byte in bytes {
+        if is_end(*byte) && name(names, &reached).is_some() {
+            return count;
         }
+        reached.step(*byte);
+        count += 1;
+    }
+    count
+}
+
+// Puts a name in.
+fn put_tag<W: Sink>(sink: &mut W, name: &[u8]) -> Result<(), DeviceErr>
+    ensures { WritesText W.written W.broken sink.old sink.new (tag_text (Some name.now)) result }
+{
+    write_all(sink, b" <")?;
+    write_all(sink, name)?;
+    write_all(sink, b">")
+}
+
+impl<W> NamedSink<W> {
+    /// The writer before another, without names.
+    pub fn new(alloc: Global, sink: W) -> NamedSink<W>
+        ensures sink { result.sink ≡ sink }
+    {
+        NamedSink {
+            names: Names::new(alloc),
+            sink,
+            reached: Reached::new(false),
+        }
+    }
+
+    /// Puts these names in from now on, in an answer whose lines may begin with addresses.
+    pub fn begin(&mut self, names: Names, lists: bool)
+        ensures names { self.new.names ≡ names }
+        ensures reached { self.new.reached ≡ answer_start lists }
+        ensures sink { self.new.sink ≡ self.old.sink }
+    {
+        self.names = names;
+        self.reached = Reached::new(lists);
+    }
+}
+
+impl<W: Sink> Sink for NamedSink<W> {
+    // Which names it puts in, in numbers, and the answer without them, by what the writer behind took.
+    ghost written = { λ n. option_map (λ plain. begun_numbers n.names n.reached.lists ++ plain) (plain_taken n.names n.reached (W.broken n.sink) (W.written n.sink)) };
+
+    ghost broken = { λ n. W.broken n.sink };
+
+    fn write(&mut self, bytes: &[u8]) -> Result<usize, DeviceErr> {
+        if self.sink.failed() {
+            return Err(DeviceErr);
+        }
+        let count = passed(&self.names, &self.reached, bytes);
+        if count > 0 || bytes.is_empty() {
+            let taken = self.sink.write(&bytes[..count])?;
+            self.reached.take(&bytes[..taken]);
+            return Ok(taken);
+        }
+        if let Some(name) = name(&self.names, &self.reached) {
+            put_tag(&mut self.sink, name)?;
+        }
+        let taken = self.sink.write(&bytes[..1])?;
+        self.reached.take(&bytes[..taken]);
+        Ok(taken)
+    }
+
+    fn failed(&self) -> bool {
+        self.sink.failed()
     }
 }

@@ -1,0 +1,91 @@
+-- A text cut at its line feeds.
+use Rattle.std.proofs.Common.{◌≡◌, ◌==◌, ◌+◌, ◌<◌, ◌≤◌, ℕ, zero, suc, Bool, true, false, not, cond, List, [], ◌∷◌, ◌++◌, length, take, drop, refl, sym, ap, ◌∙◌, arith, map}
+use Rattle.std.specs.List.{position_or_len}
+use Rattle.std.specs.Str.Lines.{strip_carriage_return}
+use Rattle.std.specs.Prelude.{Option, Some, None, Result, Ok, Err}
+use Rattle.ir_stream.specs.Answers.{SplitBytes, last_line, lines_of, onto, split_lines}
+use Rattle.ir_names.specs.Lines.{names_from, read_on, text_lines, with_line}
+use Rattle.ir_names.specs.Things.{NameTable}
+
+-- a line feed
+abbrev ends_line : ℕ → Bool
+ends_line b = b == 10
+
+-- how long the first line is
+abbrev first_len : List ℕ → ℕ
+first_len text = position_or_len ends_line text
+
+-- the first line before the others, or a text without a line feed
+abbrev Cut : List ℕ → ℕ → Type 0
+Cut text n = (n < length text → split_lines text
+    ≡ record { whole = take n text ∷ (split_lines (drop (suc n) text)).whole; rest = (split_lines (drop (suc n) text)).rest })
+    × (length text ≤ n → split_lines text ≡ record { whole = []; rest = text })
+
+cut_step : (b : ℕ) (text : List ℕ) (feed : Bool) → (b == 10) ≡ feed → Cut text (first_len text) → Cut (b ∷ text) (cond (not feed) (1 + first_len text) 0)
+unfolding split_lines
+cut_step b text true e c = (
+  λ _. ap (λ (is : Bool). cond is (record { whole = [] ∷ (split_lines text).whole; rest = (split_lines text).rest }) (onto b (split_lines text).whole (split_lines text).rest)) e,
+  λ l. absurd (omega (arith, l)),
+)
+cut_step b text false e c = (
+  λ l. ap (λ (is : Bool). cond is (record { whole = [] ∷ (split_lines text).whole; rest = (split_lines text).rest }) (onto b (split_lines text).whole (split_lines text).rest)) e
+      ∙ ap (λ (s : SplitBytes). onto b s.whole s.rest) (c.0 (omega (arith, l))),
+  λ l. ap (λ (is : Bool). cond is (record { whole = [] ∷ (split_lines text).whole; rest = (split_lines text).rest }) (onto b (split_lines text).whole (split_lines text).rest)) e
+      ∙ ap (λ (s : SplitBytes). onto b s.whole s.rest) (c.1 (omega (arith, l))),
+)
+
+cut_at_feed : (text : List ℕ) → Cut text (first_len text)
+unfolding split_lines
+cut_at_feed [] = (λ l. absurd (omega (arith, l)), λ _. refl)
+cut_at_feed (b ∷ text) = cut_step b text (b == 10) refl (cut_at_feed text)
+
+take_whole : (text : List ℕ) (n : ℕ) → length text ≤ n → take n text ≡ text
+take_whole [] zero l = refl
+take_whole [] (suc n) l = refl
+take_whole (b ∷ text) zero l = absurd (omega (arith, l))
+take_whole (b ∷ text) (suc n) l = ap (λ (rest : List ℕ). b ∷ rest) (take_whole text n (omega (arith, l)))
+
+drop_whole : (text : List ℕ) (n : ℕ) → length text ≤ n → drop n text ≡ []
+drop_whole [] zero l = refl
+drop_whole [] (suc n) l = refl
+drop_whole (b ∷ text) zero l = absurd (omega (arith, l))
+drop_whole (b ∷ text) (suc n) l = drop_whole text n (omega (arith, l))
+
+-- the first line of a text, which a line feed ends
+pub lines_of_fed_text : (text line after : List ℕ) → first_len text < length text → line ≡ strip_carriage_return (take (first_len text) text)
+    → after ≡ drop (suc (first_len text)) text → text_lines text ≡ line ∷ text_lines after
+lines_of_fed_text text line after l e f =
+    let cut = (cut_at_feed text).0 l in
+    ap (λ (s : SplitBytes). map strip_carriage_return (s.whole ++ last_line s.rest)) cut
+    ∙ ap (λ (first : List ℕ). first ∷ text_lines (drop (suc (first_len text)) text)) (sym e)
+    ∙ ap (λ (rest : List ℕ). line ∷ text_lines rest) (sym f)
+
+-- and of one without a line feed
+pub lines_of_unfed_text : (text line after : List ℕ) → 0 < length text → length text ≤ first_len text
+    → line ≡ strip_carriage_return (take (first_len text) text) → after ≡ drop (first_len text) text → text_lines text ≡ line ∷ text_lines after
+lines_of_unfed_text [] line after l m e f = absurd (omega (arith, l))
+lines_of_unfed_text (b ∷ text) line after l m e f =
+    let whole = b ∷ text in
+    ap (λ (s : SplitBytes). map strip_carriage_return (s.whole ++ last_line s.rest)) ((cut_at_feed whole).1 m)
+    ∙ ap (λ (first : List ℕ). strip_carriage_return first ∷ []) (sym (take_whole whole (first_len whole) m))
+    ∙ ap (λ (first : List ℕ). first ∷ []) (sym e)
+    ∙ ap (λ (rest : List ℕ). line ∷ text_lines rest) (sym (f ∙ drop_whole whole (first_len whole) m))
+
+-- ---- the names of a text, line by line
+
+pub names_of_first_line : (names more : NameTable) (number : ℕ) (text line after : List ℕ) → text_lines text ≡ line ∷ text_lines after
+    → with_line names line ≡ Some more → names_from names number (text_lines text) ≡ names_from more (number + 1) (text_lines after)
+unfolding names_from
+names_of_first_line names more number text line after e f =
+    ap (names_from names number) e ∙ ap (read_on number (λ z. names_from z (number + 1) (text_lines after))) f
+
+pub names_of_faulty_line : (names : NameTable) (number : ℕ) (text line after : List ℕ) → text_lines text ≡ line ∷ text_lines after
+    → with_line names line ≡ None → names_from names number (text_lines text) ≡ Err number
+unfolding names_from
+names_of_faulty_line names number text line after e f =
+    ap (names_from names number) e ∙ ap (read_on number (λ z. names_from z (number + 1) (text_lines after))) f
+
+pub names_of_no_text : (names : NameTable) (number : ℕ) (text : List ℕ) → length text ≡ 0 → names_from names number (text_lines text) ≡ Ok names
+unfolding names_from
+names_of_no_text names number [] e = refl
+names_of_no_text names number (b ∷ text) e = absurd (cc e)
