@@ -1,13 +1,10 @@
 -- The plain answer is had back of the answer with names.
 use Rattle.std.proofs.Common.{◌≡◌, ◌+◌, ◌-◌, ◌≤◌, ℕ, zero, suc, Bool, true, false, not, ◌&&◌, cond, List, [], ◌∷◌, ◌++◌, length, take, refl, sym, ap, ◌∙◌, arith, append_assoc, append-nil, codes, fold}
 use Rattle.std.specs.Prelude.{Option, Some, None, option_and_then}
+use Rattle.ir_lemmas.proofs.CallerLemmas.{conjunction_with_false}
 use Rattle.ir_names.specs.Naming.{Reached, after, is_end, named, shown, step, tag, tag_text, thing_at}
 use Rattle.ir_names.specs.Things.{NameTable, name_of}
 use Rattle.ir_names.specs.Taken.{is_nil, passes, unnamed}
-
-false_on_right : (b : Bool) → (b && false) ≡ false
-false_on_right true = refl
-false_on_right false = refl
 
 -- ---- a name is passed over
 
@@ -29,12 +26,19 @@ begun_over names r skipped zero = refl
 begun_over names r [] (suc n) = refl
 begun_over names r (c ∷ skipped) (suc n) = begun_over names r skipped n
 
+one_less : (n : ℕ) → suc n - 1 ≡ n
+one_less n = omega arith
+
+by_length : (names : NameTable) (r : Reached) (rest bytes : List ℕ) → tag names r ≡ 32 ∷ rest
+    → unnamed names r None (32 ∷ bytes) ≡ unnamed names r (Some (suc (length rest) - 1)) bytes
+unfolding unnamed
+by_length names r rest bytes e =
+    ap (λ (text : List ℕ). cond (not (is_nil text)) (unnamed names r (Some (length text - 1)) bytes) (32 ∷ unnamed names (step r 32) None bytes)) e
+
 -- what is read of a blank where a name is put in
 at_name : (names : NameTable) (r : Reached) (rest bytes : List ℕ) → tag names r ≡ 32 ∷ rest
     → unnamed names r None (32 ∷ bytes) ≡ unnamed names r (Some (length rest)) bytes
-unfolding unnamed
-at_name names r rest bytes e =
-    ap (λ (text : List ℕ). cond (not (is_nil text)) (unnamed names r (Some (length text - 1)) bytes) (32 ∷ unnamed names (step r 32) None bytes)) e
+at_name names r rest bytes e = by_length names r rest bytes e ∙ ap (λ (n : ℕ). unnamed names r (Some n) bytes) (one_less (length rest))
 
 -- what there is of a text that is empty
 nil_of_is_nil : (text : List ℕ) → is_nil text ≡ true → text ≡ []
@@ -75,7 +79,7 @@ shown_by_tests : (names : NameTable) (r : Reached) (b : ℕ) (rest : List ℕ) (
 shown_by_tests names r b rest false none e f = plain_byte names r b rest (ap (λ (is : Bool). is && not (is_nil (tag names r))) e)
 shown_by_tests names r b rest true true e f =
     ap (λ (text : List ℕ). unnamed names r None ((text ++ b ∷ []) ++ rest)) (nil_of_is_nil (tag names r) f)
-    ∙ plain_byte names r b rest (ap (λ (none : Bool). is_end b && not none) f ∙ false_on_right (is_end b))
+    ∙ plain_byte names r b rest (ap (λ (none : Bool). is_end b && not none) f ∙ conjunction_with_false (is_end b))
 shown_by_tests names r b rest true false e f =
     let first = blank_first (option_and_then (name_of names) (thing_at r.place r.object r.word)) f in
     ap (λ (text : List ℕ). unnamed names r None ((text ++ b ∷ []) ++ rest)) first.1

@@ -6,14 +6,14 @@ use Rattle.ir_names.specs.declared.thing.Thing.{Thing}
 use Rattle.ir_names.specs.declared.thing.Thing.TheVariants.{Thread, Object, Word, Address}
 use Rattle.ir_names.proofs.Grown.{bool_by, bool_by_number}
 
-thing_by : ℕ → ℕ → ℕ → Thing
+abbrev thing_by : ℕ → ℕ → ℕ → Thing
 thing_by zero a b = Thread a
 thing_by (suc zero) a b = Object a
 thing_by (suc (suc zero)) a b = Word a b
 thing_by (suc (suc (suc n))) a b = Address a
 
 -- as many rows as a number says, and the numbers behind them
-rows_by : ℕ → List ℕ → NameTable × List ℕ
+abbrev rows_by : ℕ → List ℕ → NameTable × List ℕ
 rows_by zero rest = ([], rest)
 rows_by (suc n) (kind ∷ a ∷ b ∷ size ∷ rest) =
     ((thing_by kind a b, take size rest) ∷ (rows_by n (drop size rest)).0, (rows_by n (drop size rest)).1)
@@ -42,7 +42,7 @@ rows_back ((Object a, name) ∷ names) rest = row_back 1 a 0 (length names) (Obj
 rows_back ((Word a b, name) ∷ names) rest = row_back 2 a b (length names) (Word a b) name (flat_map row_numbers names) rest names refl (rows_back names rest)
 rows_back ((Address a, name) ∷ names) rest = row_back 3 a 0 (length names) (Address a) name (flat_map row_numbers names) rest names refl (rows_back names rest)
 
-all_by : List ℕ → Bool × (NameTable × List ℕ)
+abbrev all_by : List ℕ → Bool × (NameTable × List ℕ)
 all_by (b ∷ n ∷ rest) = (bool_by b, rows_by n rest)
 all_by numbers = (bool_by 0, ([], numbers))
 

@@ -1,10 +1,12 @@
 -- What a writer with names took, as it grows.
-use Rattle.std.proofs.Common.{◌≡◌, ◌+◌, ◌-◌, ◌≤◌, ℕ, zero, suc, Bool, true, false, ◌&&◌, cond, List, [], ◌∷◌, ◌++◌, length, take, refl, sym, ap, ◌∙◌, subst, arith, append_assoc, append-nil, length-append, bytes_eq}
-use Rattle.std.specs.Prelude.{Option, Some, None}
+use Rattle.std.proofs.Common.{◌≡◌, ◌+◌, ◌-◌, ◌≤◌, ℕ, zero, suc, Bool, true, false, ◌&&◌, cond, List, [], ◌∷◌, ◌++◌, length, take, bytes_eq}
+use Rattle.std.proofs.Common.{refl, sym, ap, ◌∙◌, subst, arith, append_assoc, append-nil, length-append}
+use Rattle.std.specs.Prelude.{Option, Some, None, option_map}
 use Rattle.std.specs.Io.KnownBytes.{Appends, Keeps}
 use Rattle.std.proofs.lemmas.Slice.Eq.{bytes_eq-Decides}
+use Rattle.ir_lemmas.proofs.CallerLemmas.{conjuncts_are_true}
 use Rattle.ir_names.specs.Naming.{Reached, after, after_word, answer_start, is_end, most_word_bytes, named, step, tag}
-use Rattle.ir_names.specs.Taken.{bool_number, is_reached, option_number, place_number, plain_if, plain_of, plain_taken, reached_numbers, unnamed, with_part}
+use Rattle.ir_names.specs.Taken.{begun_numbers, bool_number, is_reached, known_plain, option_number, place_number, plain_if, plain_of, plain_taken, reached_numbers, unnamed, with_part}
 use Rattle.ir_names.specs.Things.{NameTable}
 use Rattle.ir_names.specs.declared.place.Place.{Place}
 use Rattle.ir_names.specs.declared.place.Place.TheVariants as place
@@ -12,15 +14,15 @@ use Rattle.ir_names.proofs.Back.{named_append, unnamed_of_begun_name, unnamed_of
 
 -- ---- the numbers say all
 
-place_by : ℕ → Place
-place_by 0 = place.Begin
-place_by 1 = place.Thread
-place_by 2 = place.Object
-place_by 3 = place.Entry
-place_by 4 = place.Held
-place_by 5 = place.Word
-place_by 6 = place.Pc
-place_by 7 = place.Other
+abbrev place_by : ℕ → Place
+place_by zero = place.Begin
+place_by (suc zero) = place.Thread
+place_by (suc (suc zero)) = place.Object
+place_by (suc (suc (suc zero))) = place.Entry
+place_by (suc (suc (suc (suc zero)))) = place.Held
+place_by (suc (suc (suc (suc (suc zero))))) = place.Word
+place_by (suc (suc (suc (suc (suc (suc zero)))))) = place.Pc
+place_by (suc (suc (suc (suc (suc (suc (suc zero))))))) = place.Other
 place_by (suc (suc (suc (suc (suc (suc (suc (suc index)))))))) = place.Words index
 
 place_by_number : (p : Place) → place_by (place_number p) ≡ p
@@ -34,7 +36,7 @@ place_by_number place.Pc = refl
 place_by_number place.Other = refl
 place_by_number (place.Words index) = refl
 
-option_by : ℕ → Option ℕ
+abbrev option_by : ℕ → Option ℕ
 option_by zero = None
 option_by (suc n) = Some n
 
@@ -42,7 +44,7 @@ option_by_number : (o : Option ℕ) → option_by (option_number o) ≡ o
 option_by_number None = refl
 option_by_number (Some n) = refl
 
-pub bool_by : ℕ → Bool
+abbrev pub bool_by : ℕ → Bool
 bool_by zero = false
 bool_by (suc n) = true
 
@@ -50,7 +52,7 @@ pub bool_by_number : (b : Bool) → bool_by (bool_number b) ≡ b
 bool_by_number false = refl
 bool_by_number true = refl
 
-reached_by : List ℕ → Reached
+abbrev reached_by : List ℕ → Reached
 reached_by (p ∷ o ∷ b ∷ word) = record { word = word; place = place_by p; object = option_by o; lists = bool_by b }
 reached_by numbers = answer_start false
 
@@ -67,7 +69,8 @@ same_is_reached r = (bytes_eq-Decides (reached_numbers r) (reached_numbers r)).1
 
 -- ---- the lines of an answer begin as they did
 
-lists_by_test : (r : Reached) (b : ℕ) (ends : Bool) → (cond ends (after_word r b) (record r { word = take most_word_bytes (r.word ++ b ∷ []) })).lists ≡ r.lists
+lists_by_test : (r : Reached) (b : ℕ) (ends : Bool)
+    → (cond ends (after_word r b) (record r { word = take most_word_bytes (r.word ++ b ∷ []) })).lists ≡ r.lists
 lists_by_test r b true = refl
 lists_by_test r b false = refl
 
@@ -90,10 +93,6 @@ abbrev IsSo : NameTable → Reached → Bool → List ℕ → List ℕ → Type 
 IsSo names r failed bytes plain =
     (bytes ≡ with_part names r failed (length bytes) (named names (answer_start r.lists) plain)) × (after (answer_start r.lists) plain ≡ r)
 
-both_true : (a b : Bool) → (a && b) ≡ true → (a ≡ true) × (b ≡ true)
-both_true true b e = (refl, e)
-both_true false b e = absurd (cc e)
-
 some_by_test : (test : Bool) (p q : List ℕ) → cond test (Some p) None ≡ Some q → (test ≡ true) × (p ≡ q)
 some_by_test true p q e = (refl, cc e)
 some_by_test false p q e = absurd (cc e)
@@ -102,7 +101,7 @@ so_if_plain : (names : NameTable) (r : Reached) (failed : Bool) (bytes found pla
     → IsSo names r failed bytes plain
 so_if_plain names r failed bytes found plain e =
     let some = some_by_test _ found plain e in
-    let both = both_true _ _ some.0 in
+    let both = conjuncts_are_true _ _ some.0 in
     subst (λ p. IsSo names r failed bytes p) some.1
     ((bytes_eq-Decides bytes (with_part names r failed (length bytes) (named names (answer_start r.lists) found))).0 both.0, is_same_reached _ _ both.1)
 
@@ -134,7 +133,7 @@ take_length_of_take zero t = refl
 take_length_of_take (suc n) [] = refl
 take_length_of_take (suc n) (b ∷ t) = ap (λ (rest : List ℕ). b ∷ rest) (take_length_of_take n t)
 
-no_part : (names : NameTable) (r : Reached) (failed : Bool) → part_of names r failed 0 ≡ []
+pub no_part : (names : NameTable) (r : Reached) (failed : Bool) → part_of names r failed 0 ≡ []
 no_part names r true = refl
 no_part names r false = refl
 
@@ -178,7 +177,7 @@ grown_by_known : (names : NameTable) (r r' : Reached) (failed : Bool) (n : ℕ) 
     → Appends known (plain_of names r' failed (all ++ (named names r text ++ part_of names r' failed n))) text
 grown_by_known names r r' failed n text all None e f = tt
 grown_by_known names r r' failed n text all (Some plain) e f =
-    subst (λ z. Appends (Some plain) z text) (sym (grown_if_known names r r' failed n text all plain e (so_if_plain names r false all _ plain f))) refl
+    subst (λ z. Appends (Some plain) z text) (sym (grown_if_known names r r' failed n text all plain e (so_if_plain names r false all (unnamed names (answer_start r.lists) None all) plain f))) refl
 
 -- what is known of the plain answer grows by a text, where the writer behind takes the text with names, and if it fails, the first bytes of a name
 pub plain_grows : (names : NameTable) (r r' : Reached) (failed : Bool) (n : ℕ) (text : List ℕ) (old new : Option (List ℕ)) → r' ≡ after r text
@@ -188,6 +187,21 @@ plain_grows names r r' failed n text (Some all) None e a = absurd a
 plain_grows names r r' failed n text (Some all) (Some more) e a =
     subst (λ z. Appends (plain_of names r false all) (plain_of names r' failed z) text) (sym a)
     (grown_by_known names r r' failed n text all (plain_of names r false all) e refl)
+
+behind_numbers : (k k' : List ℕ) (a b : Option (List ℕ)) (text : List ℕ) → k' ≡ k → Appends a b text
+    → Appends (option_map (λ plain. k ++ plain) a) (option_map (λ plain. k' ++ plain) b) text
+behind_numbers k k' None b text e g = tt
+behind_numbers k k' (Some xs) None text e g = absurd g
+behind_numbers k k' (Some xs) (Some ys) text e g =
+    ap (λ (z : List ℕ). z ++ ys) e ∙ ap (λ (z : List ℕ). k ++ z) g ∙ sym (append_assoc k xs text)
+
+-- the same behind the numbers of the names
+pub known_grows : (names : NameTable) (r r' : Reached) (failed : Bool) (n : ℕ) (text : List ℕ) (old new : Option (List ℕ)) → r' ≡ after r text
+    → Appends old new (named names r text ++ part_of names r' failed n) → Appends (known_plain names r false old) (known_plain names r' failed new) text
+known_grows names r r' failed n text old new e a =
+    let lists : r'.lists ≡ r.lists = ap (λ (z : Reached). z.lists) e ∙ lists_of_after r text in
+    behind_numbers (begun_numbers names r.lists) (begun_numbers names r'.lists) (plain_taken names r false old) (plain_taken names r' failed new) text
+    (ap (begun_numbers names) lists) (plain_grows names r r' failed n text old new e a)
 
 -- nothing more is what was
 pub kept_by_nothing : (old new : Option (List ℕ)) → Appends old new [] → Keeps old new
@@ -210,4 +224,4 @@ nothing_taken_at_start names lists failed =
 -- what the writer behind took is the answer with names, and the first bytes of a name after it, if the writer has failed
 pub named_if_taken : (names : NameTable) (r : Reached) (failed : Bool) (bytes plain : List ℕ) → plain_taken names r failed (Some bytes) ≡ Some plain
     → IsSo names r failed bytes plain
-named_if_taken names r failed bytes plain e = so_if_plain names r failed bytes _ plain e
+named_if_taken names r failed bytes plain e = so_if_plain names r failed bytes (unnamed names (answer_start r.lists) None bytes) plain e

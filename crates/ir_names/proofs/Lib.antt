@@ -5,3 +5,4 @@ mod Feeds
 mod Grown
 mod Put
 mod Rows
+mod Written

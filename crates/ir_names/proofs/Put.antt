@@ -2,14 +2,10 @@
 use Rattle.std.proofs.Common.{◌≡◌, ◌-◌, ℕ, Bool, true, false, cond, List, [], ◌∷◌, ◌++◌, length, take, refl, sym, ap, ◌∙◌, subst, append-nil}
 use Rattle.std.specs.Prelude.{Option, Some, None, option_map}
 use Rattle.ir_names.specs.Naming.{Reached, after, answer_start, named, tag}
-use Rattle.ir_names.specs.Taken.{begun_numbers, plain_taken, with_part}
+use Rattle.ir_names.specs.Taken.{begun_numbers, known_plain, plain_taken, with_part}
 use Rattle.ir_names.specs.Things.{NameTable}
 use Rattle.ir_names.proofs.Grown.{named_if_taken, nothing_taken_at_start}
 use Rattle.ir_names.proofs.Codes.{same_begun}
-
--- what is known of a plain answer, behind the numbers of its names
-abbrev pub known_plain : NameTable → Reached → Bool → Option (List ℕ) → Option (List ℕ)
-known_plain names r failed known = option_map (λ plain. begun_numbers names r.lists ++ plain) (plain_taken names r failed known)
 
 -- a writer took a text with names, and the first bytes of a name after it, if it has failed
 abbrev pub TakesNamed : NameTable → Bool → List ℕ → Bool → Option (List ℕ) → Type 0
@@ -42,7 +38,7 @@ taken_by_plain names names' lists r failed bytes text (Some plain) p e =
     let same = same_begun names' names r.lists lists plain text numbers in
     let so = named_if_taken names' r failed bytes plain p in
     subst (λ z. TakesNamed z lists text failed (Some bytes)) same.0
-    (subst (λ t. TakesNamed names' lists t failed (Some bytes)) same.1.1 (named_by_test names' r failed lists bytes plain same.1.0 so.0 so.1))
+    (subst (λ t. TakesNamed names' lists t failed (Some bytes)) same.2 (named_by_test names' r failed lists bytes plain same.1 so.0 so.1))
 
 -- where a text of the plain answer is known to be taken behind the numbers of names, the writer took it with these names
 pub takes_named_if_known : (names names' : NameTable) (lists : Bool) (r : Reached) (failed : Bool) (known : Option (List ℕ)) (text : List ℕ)

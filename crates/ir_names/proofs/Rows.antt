@@ -1,5 +1,5 @@
 -- Names that are looked up and added.
-use Rattle.std.proofs.Common.{◌≡◌, Bool, true, false, cond, ℕ, List, [], ◌∷◌, ◌++◌, map, refl, sym, ap, ◌∙◌}
+use Rattle.std.proofs.Common.{◌≡◌, Bool, true, false, cond, ℕ, List, [], ◌∷◌, ◌++◌, map, refl, sym, ap, ◌∙◌, Bor}
 use Rattle.std.specs.Map.{lookup}
 use Rattle.std.specs.Prelude.{Option, Some, None, option_map}
 use Rattle.std.specs.Option.{is_some}
@@ -60,3 +60,8 @@ row_if_unnamed names row e = ap (λ (o : Option (List ℕ)). cond (is_some o) na
 
 pub no_row_if_named : (names : NameTable) (row : Thing × List ℕ) → is_some (name_of names row.0) ≡ true → with_row names row ≡ names
 no_row_if_named names row e = ap (λ (is : Bool). cond is names (names ++ row ∷ [])) e
+
+-- a thing without a name
+pub unnamed_if_none : (o : Option (Bor (List ℕ))) (name : Option (List ℕ)) → option_map (λ (n : Bor (List ℕ)). n.now) o ≡ name → is_some o ≡ false → name ≡ None
+unnamed_if_none None name e none = sym e
+unnamed_if_none (Some n) name e none = absurd (cc none)

@@ -105,11 +105,15 @@ next_object place.Pc before word = before
 next_object (place.Words index) before word = before
 next_object place.Other before word = before
 
+-- where the next word is, after a byte that ends a word at a place
+abbrev pub place_after : Bool → Place → List ℕ → ℕ → Place
+place_after lists p word b = if b == 10 then line_start lists else next_place p word
+
 -- after the end of a word
 abbrev pub after_word : Reached → ℕ → Reached
 after_word r b = record {
   word = [];
-  place = if b == 10 then line_start r.lists else next_place r.place r.word;
+  place = place_after r.lists r.place r.word b;
   object = next_object r.place r.object r.word;
   lists = r.lists
 }

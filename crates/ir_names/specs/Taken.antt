@@ -1,6 +1,6 @@
 -- What a writer with names took of a plain answer, by the bytes that the writer behind it took.
-use Rattle.std.specs.Prelude.{ℕ, ◌+◌, ◌-◌, ◌&&◌, not, zero, suc, Bool, true, false, List, [], ◌∷◌, ◌++◌, bytes_eq, flat_map, length, take}
-use Rattle.std.specs.Prelude.{Option, Some, None, option_and_then, if◌then◌else◌}
+use Rattle.std.specs.Prelude.{ℕ, ◌-◌, ◌&&◌, not, zero, suc, Bool, true, false, List, [], ◌∷◌, ◌++◌, bytes_eq, flat_map, length, take}
+use Rattle.std.specs.Prelude.{Option, Some, None, option_and_then, option_map, if◌then◌else◌}
 use Rattle.ir_names.specs.Naming.{Reached, answer_start, after, is_end, named, step, tag}
 use Rattle.ir_names.specs.Things.{NameTable}
 use Rattle.ir_names.specs.declared.place.Place.{Place}
@@ -61,7 +61,7 @@ place_number place.Held = 4
 place_number place.Word = 5
 place_number place.Pc = 6
 place_number place.Other = 7
-place_number (place.Words index) = 8 + index
+place_number (place.Words index) = suc (suc (suc (suc (suc (suc (suc (suc index)))))))
 
 abbrev pub option_number : Option ℕ → ℕ
 option_number None = 0
@@ -94,3 +94,7 @@ plain_of names r failed bytes = plain_if names r failed bytes (unnamed names (an
 -- a name after it
 abbrev pub plain_taken : NameTable → Reached → Bool → Option (List ℕ) → Option (List ℕ)
 plain_taken names r failed known = option_and_then (plain_of names r failed) known
+
+-- The same behind the numbers of the names: so it is known of what takes more of the answer that it puts in the same names.
+abbrev pub known_plain : NameTable → Reached → Bool → Option (List ℕ) → Option (List ℕ)
+known_plain names r failed known = option_map (λ plain. begun_numbers names r.lists ++ plain) (plain_taken names r failed known)

@@ -1,6 +1,7 @@
 //! How far an answer has come.
 
 ghost use Rattle.std.specs.Prelude.{◌≡◌, [], ◌∷◌, ◌++◌, take};
+ghost use Rattle.ir_names.specs.Naming.{line_start, most_word_bytes, place_after};
 
 use crate::naming::{is_end, next_object, next_place, thing_at};
 use crate::place::Place;
@@ -32,9 +33,31 @@ impl Model for Reached {
     ghost view = { λ r. record { word = r.word.items; place = r.place; object = r.object; lists = r.lists } };
 }
 
+// Puts a byte at the end of a word, or drops it where the word has as many as are kept.
+fn keep_byte(word: &mut ArrayVec<u8, MOST_WORD_BYTES>, byte: u8)
+    ensures { word.new.items ≡ take most_word_bytes (word.old.items ++ byte ∷ []) }
+{
+    if !word.is_full() {
+        word.push(byte);
+    }
+}
+
 // Where a line begins.
-fn line_start(lists: bool) -> Place {
+fn line_start(lists: bool) -> Place
+    ensures { result ≡ line_start lists }
+{
     if lists { Place::Begin } else { Place::Other }
+}
+
+// Where the next word is, after a byte that ends a word at a place.
+fn place_after(lists: bool, place: Place, word: &[u8], byte: u8) -> Place
+    ensures { result ≡ place_after lists place word.now byte }
+{
+    if byte == b'\n' {
+        line_start(lists)
+    } else {
+        next_place(place, word)
+    }
 }
 
 impl Reached {
@@ -79,11 +102,7 @@ impl Reached {
     {
         let word = self.word.as_slice();
         let object = next_object(self.place, self.object, word);
-        self.place = if byte == b'\n' {
-            line_start(self.lists)
-        } else {
-            next_place(self.place, word)
-        };
+        self.place = place_after(self.lists, self.place, word, byte);
         self.object = object;
         self.word.clear();
     }
@@ -94,8 +113,8 @@ impl Reached {
     {
         if is_end(byte) {
             self.end_word(byte);
-        } else if !self.word.is_full() {
-            self.word.push(byte);
+        } else {
+            keep_byte(&mut self.word, byte);
         }
     }
 

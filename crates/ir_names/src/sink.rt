@@ -1,8 +1,8 @@
 //! A writer that puts names in.
 
-ghost use Rattle.std.specs.Prelude.{◌≡◌, [], ◌++◌, option_map, MatchOption, Some};
+ghost use Rattle.std.specs.Prelude.{◌≡◌, ◌≤◌, [], length, not, MatchOption, Some};
 ghost use Rattle.ir_names.specs.Naming.{answer_start, tag, tag_text};
-ghost use Rattle.ir_names.specs.Taken.{begun_numbers, passes, plain_taken};
+ghost use Rattle.ir_names.specs.Taken.{is_nil, known_plain, passes};
 ghost use Rattle.ir_stream.specs.Writing.{WritesText};
 
 use crate::naming::is_end;
@@ -28,15 +28,26 @@ fn name<'a>(names: &'a Names, reached: &Reached) -> Option<&'a [u8]>
     names.get(reached.thing()?)
 }
 
+// Whether the last word has a name.
+fn has_name(names: &Names, reached: &Reached) -> bool
+    ensures { result ≡ not (is_nil (tag names.now reached.now)) }
+{
+    match name(names, reached) {
+        Some(_) => true,
+        None => false,
+    }
+}
+
 // How many of the bytes come before the first name.
 #[tactic(auto, unfolding(crate::specs::Taken::passes))]
 fn passed(names: &Names, start: &Reached, bytes: &[u8]) -> usize
-    ensures { result ≡ passes names.now start.now bytes.now }
+    ensures value { result ≡ passes names.now start.now bytes.now }
+    ensures within { result ≤ length bytes.now }
 {
     let mut reached = start.copied();
     let mut count = 0;
     for byte in bytes {
-        if is_end(*byte) && name(names, &reached).is_some() {
+        if is_end(*byte) && has_name(names, &reached) {
             return count;
         }
         reached.step(*byte);
@@ -52,6 +63,16 @@ fn put_tag<W: Sink>(sink: &mut W, name: &[u8]) -> Result<(), DeviceErr>
     write_all(sink, b" <")?;
     write_all(sink, name)?;
     write_all(sink, b">")
+}
+
+// Puts the name of the last word in, if it has one.
+fn put_name<W: Sink>(sink: &mut W, names: &Names, reached: &Reached) -> Result<(), DeviceErr>
+    ensures { WritesText W.written W.broken sink.old sink.new (tag names.now reached.now) result }
+{
+    match name(names, reached) {
+        Some(name) => put_tag(sink, name),
+        None => Ok(()),
+    }
 }
 
 impl<W> NamedSink<W> {
@@ -79,7 +100,7 @@ impl<W> NamedSink<W> {
 
 impl<W: Sink> Sink for NamedSink<W> {
     // Which names it puts in, in numbers, and the answer without them, by what the writer behind took.
-    ghost written = { λ n. option_map (λ plain. begun_numbers n.names n.reached.lists ++ plain) (plain_taken n.names n.reached (W.broken n.sink) (W.written n.sink)) };
+    ghost written = { λ n. known_plain n.names n.reached (W.broken n.sink) (W.written n.sink) };
 
     ghost broken = { λ n. W.broken n.sink };
 
@@ -93,9 +114,7 @@ impl<W: Sink> Sink for NamedSink<W> {
             self.reached.take(&bytes[..taken]);
             return Ok(taken);
         }
-        if let Some(name) = name(&self.names, &self.reached) {
-            put_tag(&mut self.sink, name)?;
-        }
+        put_name(&mut self.sink, &self.names, &self.reached)?;
         let taken = self.sink.write(&bytes[..1])?;
         self.reached.take(&bytes[..taken]);
         Ok(taken)
