@@ -1,6 +1,6 @@
 -- The numbers that say which names are put in say all of them, also before other numbers.
-use Rattle.std.proofs.Common.{◌≡◌, ℕ, zero, suc, Bool, List, [], ◌∷◌, ◌++◌, length, take, drop, refl, sym, ap, ◌∙◌, append_assoc, flat_map}
-use Rattle.ir_names.specs.Taken.{begun_numbers, bool_number, row_numbers, thing_numbers}
+use Rattle.std.proofs.Common.{◌≡◌, ℕ, zero, suc, Bool, List, [], ◌∷◌, ◌++◌, length, take, drop, refl, sym, ap, ◌∙◌, flat_map}
+use Rattle.ir_names.specs.Taken.{begun_numbers, bool_number, row_numbers}
 use Rattle.ir_names.specs.Things.{NameTable}
 use Rattle.ir_names.specs.declared.thing.Thing.{Thing}
 use Rattle.ir_names.specs.declared.thing.Thing.TheVariants.{Thread, Object, Word, Address}

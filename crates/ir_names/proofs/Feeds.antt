@@ -3,8 +3,8 @@ use Rattle.std.proofs.Common.{◌≡◌, ◌==◌, ◌+◌, ◌<◌, ◌≤◌, 
 use Rattle.std.specs.List.{position_or_len}
 use Rattle.std.proofs.lemmas.List.{take_rest}
 use Rattle.std.specs.Str.Lines.{strip_carriage_return}
-use Rattle.std.specs.Prelude.{Option, Some, None, Result, Ok, Err, IfErr, IsErrAnd}
-use Rattle.ir_stream.specs.Answers.{SplitBytes, last_line, lines_of, onto, split_lines}
+use Rattle.std.specs.Prelude.{Some, None, Result, Ok, Err, IfErr, IsErrAnd}
+use Rattle.ir_stream.specs.Answers.{SplitBytes, last_line, onto, split_lines}
 use Rattle.ir_names.specs.Lines.{IsLineFault, IsNamesFault, names_from, read_on, text_lines, with_line}
 use Rattle.ir_names.specs.Things.{NameTable}
 use Rattle.ir_names.specs.declared.names_err.NamesErr.{NamesErr}

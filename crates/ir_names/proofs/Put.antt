@@ -1,5 +1,5 @@
 -- What a writer took of an answer with names, by what is known of the plain answer.
-use Rattle.std.proofs.Common.{◌≡◌, ◌-◌, ℕ, Bool, true, false, cond, List, [], ◌∷◌, ◌++◌, length, take, refl, sym, ap, ◌∙◌, subst, append-nil}
+use Rattle.std.proofs.Common.{◌≡◌, ◌-◌, ℕ, Bool, true, false, List, [], ◌++◌, length, take, refl, sym, ap, ◌∙◌, subst, append-nil}
 use Rattle.std.specs.Prelude.{Option, Some, None, option_map}
 use Rattle.ir_names.specs.Naming.{Reached, after, answer_start, named, tag}
 use Rattle.ir_names.specs.Taken.{begun_numbers, known_plain, plain_taken, with_part}
@@ -19,8 +19,8 @@ named_by_test : (names : NameTable) (r : Reached) (failed : Bool) (lists : Bool)
 named_by_test names r true lists bytes text l e f = (
   length bytes - length (named names (answer_start lists) text),
   ap Some (e ∙ ap (λ (m : Bool). named names (answer_start m) text ++ take (length bytes - length (named names (answer_start m) text)) (tag names r)) l
-  ∙ ap (λ (z : Reached). named names (answer_start lists) text ++ take (length bytes - length (named names (answer_start lists) text)) (tag names z))
-    (sym f ∙ ap (λ (m : Bool). after (answer_start m) text) l)),
+      ∙ ap (λ (z : Reached). named names (answer_start lists) text ++ take (length bytes - length (named names (answer_start lists) text)) (tag names z))
+      (sym f ∙ ap (λ (m : Bool). after (answer_start m) text) l)),
   λ g. absurd (cc g),
 )
 named_by_test names r false lists bytes text l e f = (

@@ -1,12 +1,12 @@
 -- What each way out of a write of a writer with names leaves known.
 use Rattle.std.proofs.Common.{◌≡◌, ◌≤◌, ◌<◌, ℕ, zero, suc, Bool, true, false, cond, List, [], ◌∷◌, ◌++◌, length, take}
-use Rattle.std.proofs.Common.{refl, sym, ap, ◌∙◌, subst, arith, append_assoc, append-nil}
+use Rattle.std.proofs.Common.{refl, sym, ap, ◌∙◌, subst, arith, append-nil}
 use Rattle.std.specs.Prelude.{Option, Some, None}
 use Rattle.std.specs.Io.KnownBytes.{Appends, Keeps}
 use Rattle.std.proofs.KnownBytes.{Appends-trans}
 use Rattle.ir_stream.specs.Answers.{AppendsPrefix}
 use Rattle.ir_names.specs.Naming.{Reached, after, is_end, named, shown, tag}
-use Rattle.ir_names.specs.Taken.{is_nil, known_plain, passes}
+use Rattle.ir_names.specs.Taken.{known_plain, passes}
 use Rattle.ir_names.specs.Things.{NameTable}
 use Rattle.ir_names.proofs.Back.{name_if_none_passes, named_of_passing}
 use Rattle.ir_names.proofs.Grown.{kept_by_nothing, known_grows, no_part, nothing_by_kept, part_of}

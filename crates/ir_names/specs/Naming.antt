@@ -1,5 +1,5 @@
 -- An answer with names: behind each number that names something its name is put in.
-use Rattle.std.specs.Prelude.{ℕ, ◌+◌, ◌==◌, ◌||◌, ◌&&◌, nat_lt, Bool, true, false, List, [], ◌∷◌, ◌++◌, codes, bytes_eq, take, fold}
+use Rattle.std.specs.Prelude.{ℕ, ◌+◌, ◌==◌, ◌||◌, ◌&&◌, nat_lt, Bool, List, [], ◌∷◌, ◌++◌, codes, bytes_eq, take, fold}
 use Rattle.std.specs.Prelude.{Option, Some, None, option_map, option_and_then, if◌then◌else◌}
 use Rattle.std.specs.Option.{is_some}
 use Rattle.ir_names.specs.Lines.{address_in, decimal_in}
@@ -115,7 +115,7 @@ after_word r b = record {
   word = [];
   place = place_after r.lists r.place r.word b;
   object = next_object r.place r.object r.word;
-  lists = r.lists
+  lists = r.lists;
 }
 
 -- after a byte

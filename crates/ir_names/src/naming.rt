@@ -9,12 +9,19 @@ use crate::thing::Thing;
 
 // The words that say what is behind them.
 const THREAD: &[u8] = b"thread";
+
 const OBJECT: &[u8] = b"object";
+
 const READ: &[u8] = b"read";
+
 const WRITE: &[u8] = b"write";
+
 const TRY: &[u8] = b"try";
+
 const WORD: &[u8] = b"word";
+
 const WORDS: &[u8] = b"words";
+
 const PC: &[u8] = b"pc";
 
 // The most words of an object whose values are named in a line.

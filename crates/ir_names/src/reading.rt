@@ -19,7 +19,9 @@ const DIGITS: usize = 8;
 
 // The words of lines.
 const THREAD: &[u8] = b"thread";
+
 const OBJECT: &[u8] = b"object";
+
 const WORD: &[u8] = b"word";
 
 // A thing and its name.
@@ -145,12 +147,7 @@ fn first_line(text: &[u8]) -> (&[u8], &[u8])
 
 // Adds the name of a line, the line of this number.
 #[tactic(auto, unfolding(crate::specs::Lines::with_line))]
-fn add_line(
-    alloc: Global,
-    names: &mut Names,
-    line: &[u8],
-    number: usize,
-) -> Result<(), NamesErr>
+fn add_line(alloc: Global, names: &mut Names, line: &[u8], number: usize) -> Result<(), NamesErr>
     ensures added { OnOk result (with_line names.old line.now ≡ Some names.new) }
     ensures faulty { IfErr result (λ error. IsLineFault number error (with_line names.old line.now)) }
 {

@@ -20,24 +20,71 @@ object 3 word 1 limit
 type Answer = (&'static str, bool, &'static str);
 
 const ANSWERS: [Answer; 14] = [
-    ("thread 0 end 1 code 0\n", false, "thread 0 <adder> end 1 code 0\n"),
-    ("thread 2 end 1\nthread 1\n", false, "thread 2 end 1\nthread 1 <main>\n"),
-    ("object 3 versions 3\nversion 0 by first words word 0 00000000\n", false,
-     "object 3 <count> versions 3\nversion 0 by first words word 0 <the-count> 00000000\n"),
-    ("object 3 words 00000001 00000002 00000003\n", false,
-     "object 3 <count> words 00000001 <the-count> 00000002 <limit> 00000003\n"),
-    ("thread 1 event 1 write 0 version 1 read event 0 version 0 overwritten by thread 0 event 1\n", false,
-     "thread 1 <main> event 1 write 0 <lock> version 1 read event 0 version 0 overwritten by thread 0 <adder> event 1\n"),
-    ("thread 0 event 3 step 9 write 3 version 1 word 1 was 00000000\n", false,
-     "thread 0 <adder> event 3 step 9 write 3 <count> version 1 word 1 <limit> was 00000000\n"),
-    ("thread 0 event 0 step 2 pc 00010008 <load+8> try 3 version 0\n", false,
-     "thread 0 <adder> event 0 step 2 pc 00010008 <load bank.c:12> <load+8> try 3 <count> version 0\n"),
-    ("0001000c 00a00513 addi a0, zero, 10\n", true, "0001000c <store bank.c:40> 00a00513 addi a0, zero, 10\n"),
-    ("0001000c 00a00513 addi a0, zero, 10\n", false, "0001000c 00a00513 addi a0, zero, 10\n"),
-    ("threads 2 objects 1 budget 1\n", false, "threads 2 objects 1 budget 1\n"),
-    ("thread 00000000000 thread 0000000000", false, "thread 00000000000 thread 0000000000"),
-    ("thread 00000000000 thread 0000000000 ", false, "thread 00000000000 thread 0000000000 <adder> "),
-    ("word 0 x\nobject 3\nword 0, word 1,", false, "word 0 x\nobject 3 <count>\nword 0 <the-count>, word 1 <limit>,"),
+    (
+        "thread 0 end 1 code 0\n",
+        false,
+        "thread 0 <adder> end 1 code 0\n",
+    ),
+    (
+        "thread 2 end 1\nthread 1\n",
+        false,
+        "thread 2 end 1\nthread 1 <main>\n",
+    ),
+    (
+        "object 3 versions 3\nversion 0 by first words word 0 00000000\n",
+        false,
+        "object 3 <count> versions 3\nversion 0 by first words word 0 <the-count> 00000000\n",
+    ),
+    (
+        "object 3 words 00000001 00000002 00000003\n",
+        false,
+        "object 3 <count> words 00000001 <the-count> 00000002 <limit> 00000003\n",
+    ),
+    (
+        "thread 1 event 1 write 0 version 1 read event 0 version 0 overwritten by thread 0 event 1\n",
+        false,
+        "thread 1 <main> event 1 write 0 <lock> version 1 read event 0 version 0 overwritten by thread 0 <adder> event 1\n",
+    ),
+    (
+        "thread 0 event 3 step 9 write 3 version 1 word 1 was 00000000\n",
+        false,
+        "thread 0 <adder> event 3 step 9 write 3 <count> version 1 word 1 <limit> was 00000000\n",
+    ),
+    (
+        "thread 0 event 0 step 2 pc 00010008 <load+8> try 3 version 0\n",
+        false,
+        "thread 0 <adder> event 0 step 2 pc 00010008 <load bank.c:12> <load+8> try 3 <count> version 0\n",
+    ),
+    (
+        "0001000c 00a00513 addi a0, zero, 10\n",
+        true,
+        "0001000c <store bank.c:40> 00a00513 addi a0, zero, 10\n",
+    ),
+    (
+        "0001000c 00a00513 addi a0, zero, 10\n",
+        false,
+        "0001000c 00a00513 addi a0, zero, 10\n",
+    ),
+    (
+        "threads 2 objects 1 budget 1\n",
+        false,
+        "threads 2 objects 1 budget 1\n",
+    ),
+    (
+        "thread 00000000000 thread 0000000000",
+        false,
+        "thread 00000000000 thread 0000000000",
+    ),
+    (
+        "thread 00000000000 thread 0000000000 ",
+        false,
+        "thread 00000000000 thread 0000000000 <adder> ",
+    ),
+    (
+        "word 0 x\nobject 3\nword 0, word 1,",
+        false,
+        "word 0 x\nobject 3 <count>\nword 0 <the-count>, word 1 <limit>,",
+    ),
     ("", true, ""),
 ];
 
@@ -99,7 +146,11 @@ fn answers_have_names(rt: HostRuntime) -> Result<(), NamesErr> {
             let mut writer = NamedSink::new(rt.alloc(), sink(rt.alloc(), size, 1000));
             writer.begin(read_names(rt.alloc(), NAMES.as_bytes())?, lists);
             assert!(rt; write_pieces(&mut writer, plain.as_bytes(), size).is_ok());
-            assert_eq!(rt; writer.sink.bytes.as_slice(), named.as_bytes(), "at {plain:?}");
+            assert_eq!(rt;
+                writer.sink.bytes.as_slice(),
+                named.as_bytes(),
+                "at {plain:?}"
+            );
         }
     }
     Ok(())
@@ -114,7 +165,11 @@ fn failed_writer_has_the_first_bytes(rt: HostRuntime) -> Result<(), NamesErr> {
             assert!(rt; write_pieces(&mut writer, plain.as_bytes(), 5).is_err());
             assert!(rt; writer.failed());
             assert!(rt; write_all(&mut writer, b"more").is_err());
-            assert_eq!(rt; writer.sink.bytes.as_slice(), named.as_bytes().get(..most).unwrap_or_default(), "at {plain:?}");
+            assert_eq!(rt;
+                writer.sink.bytes.as_slice(),
+                named.as_bytes().get(..most).unwrap_or_default(),
+                "at {plain:?}"
+            );
         }
     }
     Ok(())
@@ -169,7 +224,11 @@ fn names_have_at_most_4096_bytes(rt: HostRuntime) -> Result<(), NamesErr> {
         for _ in 0..size {
             line.push(b'n')?;
         }
-        assert_eq!(rt; read_names(rt.alloc(), line.as_slice()).is_ok(), is_read, "at {size}");
+        assert_eq!(rt;
+            read_names(rt.alloc(), line.as_slice()).is_ok(),
+            is_read,
+            "at {size}"
+        );
     }
     Ok(())
 }

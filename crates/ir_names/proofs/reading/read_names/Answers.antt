@@ -1,4 +1,4 @@
-use Rattle.std.proofs.Common.{◌≡◌, ◌∙◌, ◌+◌, ◌<◌, ◌≤◌, sym, ap, arith, length, Ok, Err}
+use Rattle.std.proofs.Common.{◌∙◌, ◌+◌, sym, arith, length}
 use Rattle.std.proofs.lemmas.Bool.{eqb-true}
 use Rattle.ir_names.specs.Lines.{names_at}
 use Rattle.ir_names.proofs.Feeds.{names_of_first_line, names_of_no_text, read_fault}
