@@ -1,5 +1,5 @@
 -- What searches leave that record what they find.
-use Rattle.std.proofs.Common.{◌≡◌, ◌∙◌, ◌⊎◌, List, ℕ, zero, suc, Some, ap, inl, inr, map, refl, subst, sym}
+use Rattle.std.proofs.Common.{◌≡◌, ◌∙◌, ◌⊎◌, List, ℕ, [], zero, suc, Some, ap, inl, inr, map, refl, subst, sym}
 use Rattle.std.specs.Prelude.{Bool, Option, None, length, IfErr, IfOk, OnErr, OnOk, Result, Ok, Err, true, false}
 use Rattle.std.specs.String.{string_bytes}
 use Rattle.ir_explore.specs.Faults.{HasNoGuest, explore_fault_status, explore_fault_words}
@@ -170,16 +170,16 @@ hang_is_found {hang} {image} {one} {plan} {recorded} conditions order text print
     (order, subst (λ p. IsHangRecorded image p order text recorded printed) same found)
 
 -- or it has an outcome
-pub outcome_is_found : {hang : Bool} {image : List ℕ} {plan : ExplorePlan} {conditions : List Condition} {recorded : Recorded} (list text : List ℕ)
+pub outcome_is_found : {hang : Bool} {image : List ℕ} {plan : ExplorePlan} {recorded : Recorded} (conditions : List Condition) (list text : List ℕ)
     (printed : List (List ℕ)) → hang ≡ false → IsOutcomeFinding image plan (map as_condition conditions) list text recorded printed
     → IsRunFound hang image plan conditions recorded printed text
-outcome_is_found {hang} {image} {plan} {conditions} {recorded} list text printed asked found =
+outcome_is_found {hang} {image} {plan} {recorded} conditions list text printed asked found =
     subst (λ b. IsRunFound b image plan conditions recorded printed text) (sym asked) (list, found)
 
 -- there is no such run, by a plan that is the same
-pub until_missed : {hang is : Bool} {image : List ℕ} {one plan : ExplorePlan} {conditions : List Condition} (answered : ExitStatus) (out reports : Writer)
+pub until_missed : {hang is : Bool} {image : List ℕ} {one plan : ExplorePlan} (conditions : List Condition) (answered : ExitStatus) (out reports : Writer)
     → hang ≡ is → one ≡ plan → UntilMisses is image one conditions answered out reports → UntilMisses hang image plan conditions answered out reports
-until_missed {hang} {is} {image} {one} {plan} {conditions} answered out reports asked same h =
+until_missed {hang} {is} {image} {one} {plan} conditions answered out reports asked same h =
     subst (λ b. UntilMisses b image plan conditions answered out reports) (sym asked)
     (subst (λ p. UntilMisses is image p conditions answered out reports) same h)
 
@@ -327,11 +327,11 @@ search_comes_to at stored arguments answered out told faults (Err e) found (inr 
     (subst (λ w. TellsNoSearch (RefusesUntil at arguments) (IsSearchAnswerTo at arguments) e out w) kept none)))
 
 -- which run is shrunk, by what was read
-pub shrink_asked : {at : Paths} {arguments : ShrinkArguments} {image bytes file input read : List ℕ} {given : Recorded} {plan : ShrinkPlan} {texts : List Condition}
-    → image ≡ bytes → IsImageIn (at (string_bytes arguments.image)) bytes → IsFileIn (at (string_bytes arguments.trace)) file → recorded_at file ≡ Ok given
+pub shrink_asked : {at : Paths} {arguments : ShrinkArguments} {image bytes input read : List ℕ} {given : Recorded} {plan : ShrinkPlan} {texts : List Condition}
+    (file : List ℕ) → image ≡ bytes → IsImageIn (at (string_bytes arguments.image)) bytes → IsFileIn (at (string_bytes arguments.trace)) file → recorded_at file ≡ Ok given
     → IsInput at arguments.input input → read ≡ input → plan.record ≡ plan_like given arguments.random read → plan.conditions.now ≡ texts
     → AreWritten arguments.until.items texts → plan.stale ≡ arguments.stale → plan.seconds ≡ arguments.seconds → AsksShrink at arguments image given plan
-shrink_asked {at} {arguments} {image} {bytes} {file} {input} {read} {given} {plan} same is_image is_file is_given is_input got how conditions are stale seconds = record {
+shrink_asked {at} {arguments} {image} {bytes} {input} {read} {given} {plan} file same is_image is_file is_given is_input got how conditions are stale seconds = record {
   file = file;
   input = input;
   is_image = subst (λ z. IsImageIn (at (string_bytes arguments.image)) z) (sym same) is_image;

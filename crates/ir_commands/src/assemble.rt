@@ -13,7 +13,7 @@ ghost use Rattle.ir_files.specs.Writers.{writer_of};
 ghost use Rattle.ir_commands.specs.Files.{IsTold, TellsFault};
 ghost use Rattle.ir_commands.specs.Writing.{Assembles, Makes, RefusesSource, storing};
 
-use crate::files::{bytes_of, is_lost, shown_path, told_of_file};
+use crate::files::{bytes_of, is_lost, shown_path, tells_failed, told_of_file};
 use crate::maps::labels_into;
 use ir_arguments::AssembleArguments;
 use ir_asm::Labels;
@@ -93,8 +93,7 @@ pub fn assemble_file<D: Folder, E: Sink>(
         Ok(labels) => labels,
         Err(status) => return told_of_file(&file, status, source, faults),
     };
-    let status = told_of_file(&file, ExitStatus::Done, source, faults);
-    if status != ExitStatus::Done {
+    if tells_failed(&file, faults) {
         return ExitStatus::Failed;
     }
     match &arguments.map {

@@ -151,6 +151,20 @@ pub fn shown_path<'a>(path: &'a str, called: &'a str) -> &'a str {
     }
 }
 
+// Whether writing a file failed, which is told.
+pub fn tells_failed<W: WholeSink, E: Sink>(file: &W, faults: &mut E) -> bool
+    ensures failed { result ≡ W.broken file.now }
+    ensures told { result ≡ true → IsTold (writer_of (E.written faults.old) (E.written faults.new) (E.broken faults.new)) }
+    ensures kept { result ≡ false → faults.new ≡ faults.old }
+    ensures stays { E.broken faults.old ≡ true → E.broken faults.new ≡ true }
+{
+    let has_failed = file.failed();
+    if has_failed {
+        say(faults, file.name(), " can't be written: ", file.why());
+    }
+    has_failed
+}
+
 // Says what failed of writing a file; the exit status.
 pub fn told_of_file<W: WholeSink, E: Sink>(
     file: &W,
@@ -166,8 +180,7 @@ pub fn told_of_file<W: WholeSink, E: Sink>(
     ensures kept { result ≢ exit.Failed → faults.new ≡ faults.old }
     ensures stays { E.broken faults.old ≡ true → E.broken faults.new ≡ true }
 {
-    if file.failed() {
-        say(faults, file.name(), " can't be written: ", file.why());
+    if tells_failed(file, faults) {
         return ExitStatus::Failed;
     }
     if status == ExitStatus::Failed {

@@ -24,7 +24,7 @@ returns-in-Some-map g c =
     let put = c.put_labels.ensures in
     let written = g.E.Sink.written in
     let broken = g.E.Sink.broken in
-    let begins = c.told_of_file-status.ensures.kept (λ f. search) ∙ done.3 ∙ c.in-Some.ensures.kept ∙ c.if-loses_file.ensures.kept refl in
+    let begins = c.if-tells_failed.ensures.kept refl ∙ done.3 ∙ c.in-Some.ensures.kept ∙ c.if-loses_file.ensures.kept refl in
     record {
       one = labels_are_one put.status;
       made = λ e. let labels = put.done e in record {

@@ -30,7 +30,7 @@ returns-clause-done g c =
       given = c.in_ok-trace.trace;
       plan = plan;
       recorded = shrunk.trace;
-      asked = shrink_asked (c.new-image.ensures ∙ c.as_slice.ensures.value) c.in_ok-given.ensures.image c.in_ok-given.ensures.trace c.in_ok-trace.ensures.reads
+      asked = shrink_asked c.in_ok-given.given.trace.items (c.new-image.ensures ∙ c.as_slice.ensures.value) c.in_ok-given.ensures.image c.in_ok-given.ensures.trace c.in_ok-trace.ensures.reads
           (subst (λ f. IsInput (g.D.Folder.bytes_at folder) f files.input.items) c.paths.ensures.input c.in_ok-files.ensures.input)
           c.as_slice-4.ensures.value c.plan_like.ensures c.as_slice-5.ensures.value
           (subst (λ t. AreWritten t files.conditions.items) c.as_slice-until.ensures.value c.in_ok-files.ensures.read) refl refl;
@@ -51,7 +51,7 @@ returns-clause-stopped g c =
       seconds = arguments.seconds;
       is_shown = c.args.explains;
     } in
-    let asked = shrink_asked {plan = plan} (c.new-image.ensures ∙ c.as_slice.ensures.value) c.in_ok-given.ensures.image c.in_ok-given.ensures.trace c.in_ok-trace.ensures.reads
+    let asked = shrink_asked {plan = plan} c.in_ok-given.given.trace.items (c.new-image.ensures ∙ c.as_slice.ensures.value) c.in_ok-given.ensures.image c.in_ok-given.ensures.trace c.in_ok-trace.ensures.reads
     (subst (λ f. IsInput (g.D.Folder.bytes_at folder) f files.input.items) c.paths.ensures.input c.in_ok-files.ensures.input)
     c.as_slice-4.ensures.value c.plan_like.ensures c.as_slice-5.ensures.value
     (subst (λ t. AreWritten t files.conditions.items) c.as_slice-until.ensures.value c.in_ok-files.ensures.read) refl refl in
