@@ -32,7 +32,7 @@ use Rattle.ir_commands.proofs.Stored.{stops_because}
 refused_is_not_bad : {A : Type 0} → status.Refused ≡ status.BadArguments → A
 refused_is_not_bad e = let bad : 3 ≡ 2 = ap status_number e in absurd (omega (arith, bad))
 
-failed_is_not_bad : {A : Type 0} → status.Failed ≡ status.BadArguments → A
+pub failed_is_not_bad : {A : Type 0} → status.Failed ≡ status.BadArguments → A
 failed_is_not_bad e = let bad : 1 ≡ 2 = ap status_number e in absurd (omega (arith, bad))
 
 -- no fault of a recording is that of the arguments

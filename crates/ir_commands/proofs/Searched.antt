@@ -19,6 +19,7 @@ use Rattle.ir_hunt.specs.Finding.{by_list}
 use Rattle.ir_hunt.specs.Lines.{found_line}
 use Rattle.ir_hunt.specs.Stopping.{StopsHunt, TellsLeftOut}
 use Rattle.ir_hunt.specs.declared.plan.HuntPlan.{HuntPlan}
+use Rattle.ir_opened.specs.Answers.{IsUnfitRefusal}
 use Rattle.ir_record_command.specs.Faults.{fault_status, record_fault_words}
 use Rattle.ir_record_command.specs.Order.{order_of}
 use Rattle.ir_record_command.specs.Plan.{Plan}
@@ -39,12 +40,12 @@ use Rattle.ir_commands.specs.Conditions.{AreWritten}
 use Rattle.ir_commands.specs.Exploring.{IsInput, IsPlanOf}
 use Rattle.ir_commands.specs.Searching.{AsksHunt, AsksSearch, AsksShrink, EndsFound, HangHasNoOrder, HuntsFile, IsHuntAnswer, IsHuntAnswerTo, IsRunFound, IsSearchAnswer}
 use Rattle.ir_commands.specs.Searching.{IsSearchAnswerTo, IsShrinkAnswer, IsShrinkAnswerTo, IsShrinkPlanOfHunt, RecordsHunted, StopsFound}
-use Rattle.ir_commands.specs.Searching.{RecordsShrunkRun, RefusesFound, RefusesGiven, RefusesSearch, RefusesShrinking, RefusesUntil, UntilMisses, plan_like}
+use Rattle.ir_commands.specs.Searching.{PrintsUnfit, RecordsShrunkRun, RefusesFound, RefusesGiven, RefusesSearch, RefusesShrinking, RefusesUntil, UntilMisses, plan_like}
 use Rattle.ir_commands.specs.Searching.{SearchFinds, SearchMisses, SearchesFile, ShrinksFound, ShrinksNothing, TellsNoSearch, TellsNoSeed}
 use Rattle.ir_commands.specs.Sought.{PrintsPart, RecordsRun}
 use Rattle.ir_commands.specs.Writing.{IsStatusOfNoRecording, KeptAsAsked, Keeping, Storing}
 use Rattle.ir_commands.proofs.Kept.{ends_kept, run_kept}
-use Rattle.ir_commands.proofs.Printed.{explore_fault_is_not_bad, fault_is_not_bad, leaves_in_part, none_since, nothing_searched, part_since, same_is_nothing}
+use Rattle.ir_commands.proofs.Printed.{explore_fault_is_not_bad, failed_is_not_bad, fault_is_not_bad, leaves_in_part, none_since, nothing_searched, part_since, same_is_nothing}
 use Rattle.ir_commands.proofs.Refused.{answer_lacks_guest, explore_fault_is, failed_is_not_refused, fault_is_no_recording, hang_lacks_guest, hunt_lacks_guest}
 use Rattle.ir_commands.proofs.Refused.{refused_since, spelled_lacks_guest, stopped_lacks_guest}
 use Rattle.ir_commands.proofs.Stored.{reported_is_told}
@@ -384,14 +385,32 @@ found_shrinks {image} {hunt} {view} {given} {recorded} {plan} same is_plan h =
     record { plan = plan; recorded = recorded; is_plan = subst (λ z. IsShrinkPlanOfHunt z given plan) same is_plan; shrunk = h }
 
 -- or it isn't
-pub found_refuses : {image : List ℕ} {hunt view : HuntPlan} {given : Recorded} {plan : ShrinkPlan} {answered : ExitStatus} {out faults : Writer}
-    → view ≡ hunt → IsShrinkPlanOfHunt view given plan
-    → RefusesGiven image given plan answered out faults
-    ⊎ TellsNoSearch (LacksGuest image plan.record.profile) (IsShrinkAnswer image given plan) answered out faults
+pub found_refuses : {image : List ℕ} {hunt view : HuntPlan} {given : Recorded} {plan : ShrinkPlan} {answered : ExitStatus} {out told faults : Writer}
+    → view ≡ hunt → IsShrinkPlanOfHunt view given plan → told ≡ faults
+    → RefusesGiven image given plan answered out told
+    ⊎ TellsNoSearch (LacksGuest image plan.record.profile) (IsShrinkAnswer image given plan) answered out told
     → RefusesFound image hunt given answered out faults ⊎ StopsFound image hunt given answered out
-found_refuses {image} {hunt} {view} {given} {plan} same is_plan (inl h) =
-    inl (record { plan = plan; is_plan = subst (λ z. IsShrinkPlanOfHunt z given plan) same is_plan; why = h })
-found_refuses {image} {hunt} {view} {given} {plan} {answered} {out} same is_plan (inr h) = inr (
+found_refuses {image} {hunt} {view} {given} {plan} {answered} {out} same is_plan at (inl h) = inl (record {
+  plan = plan;
+  is_plan = subst (λ z. IsShrinkPlanOfHunt z given plan) same is_plan;
+  why = subst (λ w. RefusesGiven image given plan answered out w) at h;
+})
+found_refuses {image} {hunt} {view} {given} {plan} {answered} {out} same is_plan at (inr h) = inr (
   refused_since (λ lacks. subst (λ (p : Plan). LacksGuest image p.profile) is_plan.how lacks) h.because,
   part_since out (λ text x. (plan, subst (λ z. IsShrinkPlanOfHunt z given plan) same is_plan, x)) h.printed,
 )
+
+-- there is no run to shrink
+pub unfit_shrinks_nothing : {at : Paths} {arguments : ShrinkArguments} {image trace : List ℕ} {answered : ExitStatus} {out told faults : Writer}
+    → IsImageIn (at (string_bytes arguments.image)) image → IsFileIn (at (string_bytes arguments.trace)) trace → told ≡ faults
+    → PrintsUnfit image trace answered out
+    ⊎ ((answered ≡ status.Failed) × TellsFault told × PrintsPart (λ text. (s : ExitStatus) × IsUnfitRefusal image trace s text) out)
+    → ShrinksNothing at arguments answered out faults
+unfit_shrinks_nothing {image = image} {trace = trace} is_image is_trace same (inl h) =
+    inr (inl (record { image = image; trace = trace; is_image = is_image; is_trace = is_trace; unfit = h }))
+unfit_shrinks_nothing {image = image} {trace = trace} {out = out} is_image is_trace same (inr h) = inr (inr (record {
+  because = inr (inl h.0);
+  told = subst (λ w. TellsFault w) same h.1;
+  printed = part_since out (λ text x. inr (image, trace, is_image, is_trace, x.0, x.1)) h.2;
+  unprinted = λ bad. failed_is_not_bad (sym h.0 ∙ bad);
+}))

@@ -10,9 +10,10 @@ ghost use Rattle.ir_commands.specs.Printing.{LeavesUnread};
 ghost use Rattle.ir_commands.specs.Writing.{AreOutputPaths, IsListIn, IsNoText, IsOrderAsked, IsStatusOfNoRecording, Records, RecordsFile, RefusesRecording, StopsRecords, recorded_status, storing};
 
 use crate::ends::{all_ended, tell_ends};
-use crate::files::{bytes_of, say};
-use crate::recording::{Places, RecordingPaths, input_of, output_places, record_files};
-use crate::search_files::image_of;
+use crate::files::{bytes_of, image_in, say};
+use crate::recording::{
+    Places, RecordingPaths, input_of, loses_input, output_places, record_files,
+};
 use crate::surroundings::Surroundings;
 use ir_arguments::{Chaos, RecordArguments};
 use ir_files::{ExitStatus, Folder, MOST_FILE_BYTES};
@@ -243,7 +244,10 @@ where
 {
     let (rt, folder) = (around.rt, around.folder);
     let alloc = rt.alloc();
-    let image = image_of(around, faults, &paths(arguments))?;
+    if loses_input(folder, faults, &paths(arguments)) {
+        return Err(ExitStatus::BadArguments);
+    }
+    let image = image_in(alloc, folder, faults, arguments.image.as_str())?;
     let image = ParsedImage::new(alloc, image.as_slice());
     let beside = Beside::of(alloc, rt, folder, faults, arguments, &image)?;
     let input = beside.input.as_slice();

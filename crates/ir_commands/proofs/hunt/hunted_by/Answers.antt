@@ -1,9 +1,18 @@
-use Rattle.std.proofs.Common.{◌∙◌, List, ℕ, ap, refl, subst, sym}
+use Rattle.std.specs.Prelude.{IfSome}
+use Rattle.std.proofs.KnownBytes.{Appends-nil}
+use Rattle.ir_files.proofs.CallerLemmas.{if_err_handed_on}
+use Rattle.ir_commands.specs.Conditions.{AreAboutNothing}
+use Rattle.ir_commands.specs.Files.{IsImageIn, IsNoGuest, TellsFault}
+use Rattle.ir_commands.specs.Writing.{IsStatusOfNoRecording}
+use Rattle.ir_commands.proofs.Printed.{nothing_searched}
+use Rattle.ir_commands.proofs.Refused.{refused_since}
+use Rattle.std.proofs.Common.{◌≡◌, ◌∙◌, List, ℕ, ap, false, inl, inr, refl, subst, sym}
+use Rattle.std.specs.String.{string_bytes}
+use Rattle.std.proofs.lemmas.Result.{err_from_is_err_and}
 use Rattle.ir_files.specs.Writers.{writer_of}
 use Rattle.ir_hunt.specs.declared.plan.HuntPlan.{HuntPlan}
 use Rattle.ir_commands.specs.Conditions.{AreWritten}
 use Rattle.ir_commands.specs.Exploring.{IsInput}
-use Rattle.ir_commands.specs.Files.{IsImageIn}
 use Rattle.ir_commands.specs.Searching.{AsksHunt, HuntsFile, hunt_plan_asked}
 use Rattle.ir_commands.specs.Writing.{KeptAt, storing, texts_of_paths}
 use Rattle.ir_commands.proofs.Kept.{kept_as_asked, output_paths_as_asked}
@@ -55,3 +64,28 @@ returns-clause-done g c =
     (kept_as_asked stored _ _ (c.new-places.ensures.trace ∙ c.paths-paths.ensures.trace) outs)
     c.hunted_into-found.ensures.found c.hunted_into-found.ensures.none c.ended.ensures.stopped c.ended.ensures.quiet c.ended.ensures.kept c.ended.ensures.done
     c.ended.ensures.shrunk)
+
+pub returns-in_err-image-clause-stopped : goal.returns-in_err-image-clause-stopped
+returns-in_err-image-clause-stopped g c =
+    let at = g.D.Folder.bytes_at c.args.around.now.folder.now in
+    let arguments = c.args.arguments.now in
+    let p = err_from_is_err_and c.from_residual.result c.from_residual.ensures.1 in
+    let e = c.in_err-image.field-0.0 in
+    let because = subst (λ b. IsStatusOfNoRecording (IfSome (at b) IsNoGuest) e) c.paths-paths.ensures.image c.in_err-image.ensures.status in
+    if_err_handed_on _ c.from_residual.result e p.0 p.1 p.2
+    (nothing_searched (refused_since (λ n. inl (inl n)) because) (c.in_err-image.ensures.told c.requires.reports) (Appends-nil (g.O.Sink.written c.args.out.now)))
+
+pub returns-in_err-files-clause-stopped : goal.returns-in_err-files-clause-stopped
+returns-in_err-files-clause-stopped g c =
+    let at = g.D.Folder.bytes_at c.args.around.now.folder.now in
+    let arguments = c.args.arguments.now in
+    let p = err_from_is_err_and c.from_residual.result c.from_residual.ensures.1 in
+    let image = c.new-image.result in
+    let kept = c.in_ok-image.ensures.kept in
+    let told : TellsFault (writer_of (g.E.Sink.written c.args.faults.now) (g.E.Sink.written c.of-files.new.faults) (g.E.Sink.broken c.of-files.new.faults)) =
+        subst (λ f. TellsFault (writer_of (g.E.Sink.written f) (g.E.Sink.written c.of-files.new.faults) (g.E.Sink.broken c.of-files.new.faults))) kept
+        (c.in_err-files.ensures.told (subst (λ f. g.E.Sink.broken f ≡ false) (sym kept) c.requires.reports)) in
+    let is_image : IsImageIn (at (string_bytes arguments.image)) image = subst (λ b. IsImageIn (at b) image) c.paths-paths.ensures.image
+        (subst (λ z. IsImageIn (at c.paths-paths.result.image.now) z) (sym (c.new-image.ensures ∙ c.as_slice.ensures.value)) c.in_ok-image.ensures.bytes) in
+    if_err_handed_on _ c.from_residual.result c.in_err-files.field-0.0 p.0 p.1 p.2
+    (nothing_searched (refused_since (λ about. inr (image, is_image, subst (λ t. AreAboutNothing t image) c.as_slice-2.ensures.value about)) c.in_err-files.ensures.status) told (Appends-nil (g.O.Sink.written c.args.out.now)))

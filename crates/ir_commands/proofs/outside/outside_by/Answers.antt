@@ -6,9 +6,12 @@ use Rattle.ir_within.specs.Plans.{aspects_of}
 use Rattle.ir_commands.specs.Exploring.{AsksComparison}
 use Rattle.ir_files.proofs.CallerLemmas.{if_err_handed_on}
 use Rattle.ir_commands.specs.Files.{TellsFault}
+use Rattle.std.proofs.KnownBytes.{Appends-nil}
 use Rattle.ir_commands.specs.Writing.{storing}
 use Rattle.ir_commands.proofs.Kept.{kept_as_asked, output_paths_as_asked, run_kept}
 use Rattle.ir_commands.proofs.Outsides.{comparison_asked, no_comparison_no_recording, outside_misses}
+use Rattle.ir_commands.proofs.Printed.{nothing_searched}
+use Rattle.ir_commands.proofs.Refused.{refused_since}
 use Rattle.ir_commands.proofs.Searched.{ok_gives}
 use Rattle.ir_commands.proofs.outside.outside_by.Goals as goal
 
@@ -54,4 +57,15 @@ returns-in_err-files-clause-none g c =
     (g.E.Sink.broken c.compared_files.new.faults))) kept
     (c.in_err-files.ensures.told (subst (λ f. g.E.Sink.broken f ≡ false) (sym kept) c.requires.reports)) in
     if_err_handed_on _ c.from_residual.result c.in_err-files.field-0.0 p.0 p.1 p.2
-    (inr (no_comparison_no_recording (g.D.Folder.bytes_at c.args.around.now.folder.now) c.args.arguments.now.within c.in_err-files.ensures.status, told))
+    (inr (nothing_searched (no_comparison_no_recording (g.D.Folder.bytes_at c.args.around.now.folder.now) c.args.arguments.now.within c.in_err-files.ensures.status)
+    told (Appends-nil (g.O.Sink.written c.args.out.now))))
+
+pub returns-in_err-outputs-clause-none : goal.returns-in_err-outputs-clause-none
+returns-in_err-outputs-clause-none g c =
+    let p = err_from_is_err_and c.from_residual.result c.from_residual.ensures.1 in
+    let kept = c.if-lacks_either.ensures.kept refl ∙ c.in_ok-files.ensures.kept ∙ c.if-loses_input.ensures.kept refl in
+    let told : TellsFault (writer_of (g.E.Sink.written c.args.faults.now) (g.E.Sink.written c.output_places.new.faults) (g.E.Sink.broken c.output_places.new.faults)) =
+        subst (λ f. TellsFault (writer_of (g.E.Sink.written f) (g.E.Sink.written c.output_places.new.faults) (g.E.Sink.broken c.output_places.new.faults))) kept
+        (c.in_err-outputs.ensures.told (subst (λ f. g.E.Sink.broken f ≡ false) (sym kept) c.requires.reports)) in
+    if_err_handed_on _ c.from_residual.result c.in_err-outputs.field-0.0 p.0 p.1 p.2
+    (inr (nothing_searched (refused_since (λ never. absurd never) c.in_err-outputs.ensures.status) told (Appends-nil (g.O.Sink.written c.args.out.now))))

@@ -62,7 +62,7 @@ returns-clause-stopped g c =
       is_order = c.in_ok-beside.ensures.order;
       is_plan = c.plan-plan.ensures ∙ ap₂ (plan_asked arguments) c.text_in-order.ensures c.as_slice-input.ensures.value;
     } in
-    let kept = c.in_ok-beside.ensures.kept ∙ c.in_ok-image.ensures.kept in
+    let kept = c.in_ok-beside.ensures.kept ∙ c.in_ok-image.ensures.kept ∙ c.if-loses_input.ensures.kept refl in
     IfErr-weaker c.record_run.result _ _ (λ answered h. inl (record {
       image = image;
       plan = c.plan-plan.result;

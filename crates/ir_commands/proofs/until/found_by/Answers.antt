@@ -1,5 +1,14 @@
-use Rattle.std.proofs.Common.{◌∙◌, List, ℕ, ap, refl, subst}
-use Rattle.std.proofs.lemmas.Result.{IfErr-weaker}
+use Rattle.std.specs.Prelude.{IfSome}
+use Rattle.std.proofs.KnownBytes.{Appends-nil}
+use Rattle.ir_files.proofs.CallerLemmas.{if_err_handed_on}
+use Rattle.ir_commands.specs.Conditions.{AreAboutNothing}
+use Rattle.ir_commands.specs.Files.{IsImageIn, IsNoGuest, TellsFault}
+use Rattle.ir_commands.specs.Writing.{IsStatusOfNoRecording}
+use Rattle.ir_commands.proofs.Printed.{nothing_searched}
+use Rattle.ir_commands.proofs.Refused.{refused_since}
+use Rattle.std.proofs.Common.{◌≡◌, ◌∙◌, List, ℕ, ap, false, inl, inr, refl, subst, sym}
+use Rattle.std.specs.String.{string_bytes}
+use Rattle.std.proofs.lemmas.Result.{IfErr-weaker, err_from_is_err_and}
 use Rattle.ir_files.specs.Writers.{writer_of}
 use Rattle.ir_commands.specs.Conditions.{AreWritten}
 use Rattle.ir_commands.specs.Exploring.{IsInput}
@@ -40,3 +49,28 @@ returns-clause-none g c =
     (subst (λ t. AreWritten t files.conditions.items) c.as_slice-2.ensures.value c.in_ok-files.ensures.read))
     (ap (λ f. writer_of (g.E.Sink.written f) (g.E.Sink.written c.recorded_into.new.faults) (g.E.Sink.broken c.recorded_into.new.faults)) kept) h)
     c.recorded_into.ensures.none
+
+pub returns-in_err-image-clause-none : goal.returns-in_err-image-clause-none
+returns-in_err-image-clause-none g c =
+    let at = g.D.Folder.bytes_at c.args.around.now.folder.now in
+    let arguments = c.args.arguments.now in
+    let p = err_from_is_err_and c.from_residual.result c.from_residual.ensures.1 in
+    let e = c.in_err-image.field-0.0 in
+    let because = subst (λ b. IsStatusOfNoRecording (IfSome (at b) IsNoGuest) e) c.paths-paths.ensures.image c.in_err-image.ensures.status in
+    if_err_handed_on _ c.from_residual.result e p.0 p.1 p.2
+    (inr (nothing_searched (refused_since (λ n. inl (inl (inl n))) because) (c.in_err-image.ensures.told c.requires.reports) (Appends-nil (g.O.Sink.written c.args.out.now))))
+
+pub returns-in_err-files-clause-none : goal.returns-in_err-files-clause-none
+returns-in_err-files-clause-none g c =
+    let at = g.D.Folder.bytes_at c.args.around.now.folder.now in
+    let arguments = c.args.arguments.now in
+    let p = err_from_is_err_and c.from_residual.result c.from_residual.ensures.1 in
+    let image = c.new-image.result in
+    let kept = c.in_ok-image.ensures.kept in
+    let told : TellsFault (writer_of (g.E.Sink.written c.args.faults.now) (g.E.Sink.written c.of-files.new.faults) (g.E.Sink.broken c.of-files.new.faults)) =
+        subst (λ f. TellsFault (writer_of (g.E.Sink.written f) (g.E.Sink.written c.of-files.new.faults) (g.E.Sink.broken c.of-files.new.faults))) kept
+        (c.in_err-files.ensures.told (subst (λ f. g.E.Sink.broken f ≡ false) (sym kept) c.requires.reports)) in
+    let is_image : IsImageIn (at (string_bytes arguments.explore.image)) image = subst (λ b. IsImageIn (at b) image) c.paths-paths.ensures.image
+        (subst (λ z. IsImageIn (at c.paths-paths.result.image.now) z) (sym (c.new-image.ensures ∙ c.as_slice.ensures.value)) c.in_ok-image.ensures.bytes) in
+    if_err_handed_on _ c.from_residual.result c.in_err-files.field-0.0 p.0 p.1 p.2
+    (inr (nothing_searched (refused_since (λ about. inl (inr (image, is_image, subst (λ t. AreAboutNothing t image) c.as_slice-2.ensures.value about))) c.in_err-files.ensures.status) told (Appends-nil (g.O.Sink.written c.args.out.now))))
