@@ -1,5 +1,5 @@
 -- Answers to questions about what is always there.
-use Rattle.std.proofs.Common.{◌≡◌, ◌⊎◌, ℕ, inl, inr, List, Option, Some, None, String, subst}
+use Rattle.std.proofs.Common.{◌≡◌, ◌⊎◌, ℕ, inl, inr, List}
 use Rattle.ir_files.specs.Writers.{Writer, Reports, fault_text}
 use Rattle.ir_files.specs.declared.exit_status.ExitStatus.{ExitStatus}
 use Rattle.ir_files.specs.declared.exit_status.ExitStatus.TheVariants as status
@@ -8,8 +8,7 @@ use Rattle.ir_past.specs.Replies.{IsReply, IsReplyless, ask_status, ask_words}
 use Rattle.ir_past.specs.declared.ask_err.AskErr.{AskErr}
 use Rattle.ir_past.specs.declared.ask_err.AskErr.TheVariants as ask
 use Rattle.ir_past.specs.declared.past_err.PastErr.{PastErr}
-use Rattle.ir_commands.specs.Files.{IsFileIn}
-use Rattle.ir_commands.specs.Printing.{IsPrinted, Paths, PrintedIfThere, PrintsOfFiles}
+use Rattle.ir_commands.specs.Printing.{IsPrinted, PrintedIfThere}
 
 -- an answer that there is none of is one of what isn't there, or a failure
 no_reply_is_failure : {X : Type 0} (Are : X → Type 0) (A : X → ExitStatus → List ℕ → Type 0) (R : ExitStatus → List ℕ → Type 0) (s : ExitStatus) (e : AskErr)
@@ -39,19 +38,3 @@ printed_if_always_there Are A R s out faults h = (
   (λ works. h.0 works (never_bad_arguments Are A R s out faults h.1 works)),
   (λ failed. let e = h.1 (inl failed) in fault_of_no_reply Are A R e.0 out faults e.2 e.3),
 )
-
--- what is printed of files, where what is printed of each is the same by other words, and the trace's path too
-pub printed_of_files : {Z : Type 0} {at : Paths} {trace other : List ℕ} (image : Option (String Z)) {A A' : List ℕ → ExitStatus → Writer → Writer → Type 0}
-    {B B' : List ℕ → List ℕ → ExitStatus → Writer → Writer → Type 0} {s : ExitStatus} {out faults : Writer} {unread : Type 0} → trace ≡ other
-    → ((bytes : List ℕ) → A bytes s out faults → A' bytes s out faults) → ((bytes others : List ℕ) → B bytes others s out faults → B' bytes others s out faults)
-    → PrintsOfFiles at trace image A B s out faults ⊎ unread → PrintsOfFiles at other image A' B' s out faults ⊎ unread
-printed_of_files {Z} {at} None {A} {A'} {B} {B'} {s} {out} {faults} same to_trace to_run (inl h) =
-    inl (record { trace = h.trace; is_trace = subst (λ p. IsFileIn (at p) h.trace) same h.is_trace; so = to_trace h.trace h.so })
-printed_of_files {Z} {at} (Some path) {A} {A'} {B} {B'} {s} {out} {faults} same to_trace to_run (inl h) = inl (record {
-  image = h.image;
-  trace = h.trace;
-  is_image = h.is_image;
-  is_trace = subst (λ p. IsFileIn (at p) h.trace) same h.is_trace;
-  so = to_run h.image h.trace h.so;
-})
-printed_of_files image same to_trace to_run (inr h) = inr h

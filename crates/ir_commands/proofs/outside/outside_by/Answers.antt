@@ -1,4 +1,4 @@
-use Rattle.std.proofs.Common.{◌≡◌, false, inr, ◌∙◌, List, ℕ, ap, refl, subst, sym}
+use Rattle.std.proofs.Common.{◌≡◌, false, inl, inr, ◌∙◌, List, ℕ, ap, refl, subst, sym}
 use Rattle.std.proofs.lemmas.Result.{IfErr-weaker, err_from_is_err_and}
 use Rattle.ir_files.specs.Writers.{writer_of}
 use Rattle.ir_within.specs.Faults.{Comparison}
@@ -69,3 +69,11 @@ returns-in_err-outputs-clause-none g c =
         (c.in_err-outputs.ensures.told (subst (λ f. g.E.Sink.broken f ≡ false) (sym kept) c.requires.reports)) in
     if_err_handed_on _ c.from_residual.result c.in_err-outputs.field-0.0 p.0 p.1 p.2
     (inr (nothing_searched (refused_since (λ never. absurd never) c.in_err-outputs.ensures.status) told (Appends-nil (g.O.Sink.written c.args.out.now))))
+
+pub returns-then-lacks_either-clause-none : goal.returns-then-lacks_either-clause-none
+returns-then-lacks_either-clause-none g c =
+    let kept = c.in_ok-files.ensures.kept ∙ c.if-loses_input.ensures.kept refl in
+    let told : TellsFault (writer_of (g.E.Sink.written c.args.faults.now) (g.E.Sink.written c.lacks_either.new.faults) (g.E.Sink.broken c.lacks_either.new.faults)) =
+        subst (λ f. TellsFault (writer_of (g.E.Sink.written f) (g.E.Sink.written c.lacks_either.new.faults) (g.E.Sink.broken c.lacks_either.new.faults))) kept
+        (c.if-lacks_either.ensures.told refl (subst (λ f. g.E.Sink.broken f ≡ false) (sym kept) c.requires.reports)) in
+    inr (nothing_searched (inl refl) told (Appends-nil (g.O.Sink.written c.args.out.now)))
