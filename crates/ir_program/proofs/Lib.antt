@@ -1,4 +1,2 @@
 mod Held
-mod NamedOutput
-mod ServedWords
 mod TakenLines

@@ -11,9 +11,7 @@ mod gdb;
 mod hints;
 mod laws;
 mod line;
-mod names_use;
 mod prompting;
-mod words;
 
 pub use bundles::{bundle, bundled};
 pub use dispatch::{Invocation, Terminals, program};

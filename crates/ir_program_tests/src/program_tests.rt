@@ -4,7 +4,6 @@
 use crate::device_tests::{Bytes, ENDLESS, Page, empty_page};
 use crate::shelf::Shelf;
 use ir_commands::Surroundings;
-use ir_names::NamedSink;
 use ir_object::Gate;
 use ir_program::{Invocation, Terminals, program};
 use ir_runs::Access;
@@ -66,7 +65,7 @@ pub fn ran_at<R: Threads + Wait + Sync + Clock + Eprint + AllocGlobal>(
         calls_left: ENDLESS,
         failed: false,
     };
-    let mut out = NamedSink::new(rt.alloc(), empty_page(rt, 1000, out_calls));
+    let mut out = empty_page(rt, 1000, out_calls);
     let mut faults = empty_page(rt, 1000, ENDLESS);
     let status = program(
         Surroundings {
@@ -85,7 +84,7 @@ pub fn ran_at<R: Threads + Wait + Sync + Clock + Eprint + AllocGlobal>(
         &mut out,
         &mut faults,
     );
-    Ok((status.number(), out.sink, faults))
+    Ok((status.number(), out, faults))
 }
 
 // The same, without a terminal.

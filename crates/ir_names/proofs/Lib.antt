@@ -1,8 +1,0 @@
-mod Back
-mod CallerLemmas
-mod Codes
-mod Feeds
-mod Grown
-mod Put
-mod Rows
-mod Written

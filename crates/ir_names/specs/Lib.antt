@@ -1,4 +1,0 @@
-pub mod Things
-pub mod Lines
-pub mod Naming
-pub mod Taken
