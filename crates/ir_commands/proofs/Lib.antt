@@ -8,5 +8,6 @@ mod Printed
 mod Refused
 mod Searched
 mod Stored
+mod Versions
 mod Written
 mod Asked
