@@ -91,13 +91,18 @@ returns-in_err-files-clause-stopped g c =
     let image = c.new-image.result in
     let kept = c.in_ok-trace.ensures.kept ∙ c.in_ok-given.ensures.kept in
     let told : TellsFault (writer_of (g.E.Sink.written c.args.faults.now) (g.E.Sink.written c.of-files.new.faults) (g.E.Sink.broken c.of-files.new.faults)) =
-        subst (λ f. TellsFault (writer_of (g.E.Sink.written f) (g.E.Sink.written c.of-files.new.faults) (g.E.Sink.broken c.of-files.new.faults))) kept
-        (c.in_err-files.ensures.told (subst (λ f. g.E.Sink.broken f ≡ false) (sym kept) c.requires.reports)) in
+    subst (λ f. TellsFault (writer_of (g.E.Sink.written f) (g.E.Sink.written c.of-files.new.faults) (g.E.Sink.broken c.of-files.new.faults))) kept
+    (c.in_err-files.ensures.told (subst (λ f. g.E.Sink.broken f ≡ false) (sym kept) c.requires.reports)) in
     let is_image : IsImageIn (at (string_bytes arguments.image)) image = subst (λ z. IsImageIn (at (string_bytes arguments.image)) z)
-        (sym (c.new-image.ensures ∙ c.as_slice.ensures.value)) c.in_ok-given.ensures.image in
+    (sym (c.new-image.ensures ∙ c.as_slice.ensures.value)) c.in_ok-given.ensures.image in
     if_err_handed_on _ c.from_residual.result c.in_err-files.field-0.0 p.0 p.1 p.2
-    (inr (inr (nothing_searched (refused_since (λ about. inr (c.in_ok-given.given.trace.items, c.in_ok-trace.trace, c.in_ok-given.ensures.trace, c.in_ok-trace.ensures.reads,
-    inr (image, is_image, subst (λ t. AreAboutNothing t image) c.as_slice-until.ensures.value about))) c.in_err-files.ensures.status) told
+    (inr (inr (nothing_searched (refused_since (λ about. inr (
+      c.in_ok-given.given.trace.items,
+      c.in_ok-trace.trace,
+      c.in_ok-given.ensures.trace,
+      c.in_ok-trace.ensures.reads,
+      inr (image, is_image, subst (λ t. AreAboutNothing t image) c.as_slice-until.ensures.value about),
+    )) c.in_err-files.ensures.status) told
     (subst (λ o. Appends (g.O.Sink.written c.args.out.now) (g.O.Sink.written o) []) (sym c.in_ok-trace.ensures.quiet) (Appends-nil (g.O.Sink.written c.args.out.now))))))
 
 pub returns-in_err-texts-clause-stopped : goal.returns-in_err-texts-clause-stopped
@@ -105,7 +110,7 @@ returns-in_err-texts-clause-stopped g c =
     let p = err_from_is_err_and c.from_residual.result c.from_residual.ensures.1 in
     let kept = c.in_ok-files.ensures.kept ∙ c.in_ok-trace.ensures.kept ∙ c.in_ok-given.ensures.kept in
     let told : TellsFault (writer_of (g.E.Sink.written c.args.faults.now) (g.E.Sink.written c.texts_of.new.faults) (g.E.Sink.broken c.texts_of.new.faults)) =
-        subst (λ f. TellsFault (writer_of (g.E.Sink.written f) (g.E.Sink.written c.texts_of.new.faults) (g.E.Sink.broken c.texts_of.new.faults))) kept
-        (c.in_err-texts.ensures.told (subst (λ f. g.E.Sink.broken f ≡ false) (sym kept) c.requires.reports)) in
+    subst (λ f. TellsFault (writer_of (g.E.Sink.written f) (g.E.Sink.written c.texts_of.new.faults) (g.E.Sink.broken c.texts_of.new.faults))) kept
+    (c.in_err-texts.ensures.told (subst (λ f. g.E.Sink.broken f ≡ false) (sym kept) c.requires.reports)) in
     if_err_handed_on _ c.from_residual.result c.in_err-texts.field-0.0 p.0 p.1 p.2
     (inr (inr (nothing_searched (inr (inl c.in_err-texts.ensures.status)) told (subst (λ o. Appends (g.O.Sink.written c.args.out.now) (g.O.Sink.written o) []) (sym c.in_ok-trace.ensures.quiet) (Appends-nil (g.O.Sink.written c.args.out.now))))))
