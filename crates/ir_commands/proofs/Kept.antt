@@ -8,7 +8,7 @@ use Rattle.std.specs.String.{string_bytes}
 use Rattle.std.proofs.lemmas.List.FromFn.{get_or-map-range_with_len, length-map-range_with_len}
 use Rattle.std.proofs.lemmas.Option.{slice_get-get_or, slice_get_within}
 use Rattle.ir_files.specs.Given.{KnownFile, IsStored}
-use Rattle.ir_files.specs.Outputs.{Gains, Printed, StandEach, by_thread, output_path, outputs_given}
+use Rattle.ir_files.specs.Outputs.{Gains, StandEach, by_thread, output_path, outputs_given}
 use Rattle.ir_files.specs.Writers.{Writer}
 use Rattle.ir_files.specs.declared.exit_status.ExitStatus.{ExitStatus}
 use Rattle.ir_files.proofs.CallerLemmas.{taken_outputs_stand}

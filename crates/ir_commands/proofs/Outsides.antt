@@ -23,7 +23,7 @@ use Rattle.ir_commands.specs.Sought.{PrintsPart}
 use Rattle.ir_commands.specs.Writing.{IsStatusOfNoRecording}
 use Rattle.ir_commands.proofs.Printed.{explore_fault_is_not_bad, fault_is_not_bad, leaves_in_part, none_since}
 use Rattle.ir_commands.proofs.Searched.{nothing_without_guest}
-use Rattle.ir_commands.proofs.Refused.{explore_fault_is, explored_lacks_guest, failed_is_not_refused, fault_is_no_recording, none_is_no_recording, refused_since}
+use Rattle.ir_commands.proofs.Refused.{explore_fault_is, explored_lacks_guest, failed_is_not_refused, fault_is_no_recording, none_is_no_recording}
 use Rattle.ir_commands.proofs.Refused.{spelled_lacks_guest, stopped_lacks_guest}
 use Rattle.ir_commands.proofs.Stored.{reported_is_told}
 

@@ -1,12 +1,12 @@
 -- What was printed where no run was recorded.
-use Rattle.std.proofs.Common.{◌≡◌, ◌∙◌, ◌⊎◌, ◌++◌, List, ℕ, Bool, Option, [], ap, append-nil, append_assoc, arith, inl, inr, refl, subst, sym}
+use Rattle.std.proofs.Common.{◌≡◌, ◌∙◌, ◌⊎◌, ◌++◌, List, ℕ, Option, [], ap, append-nil, append_assoc, arith, inl, inr, refl, subst, sym}
 use Rattle.std.proofs.KnownBytes.{Appends-nil, Appends-trans}
 use Rattle.std.specs.Io.KnownBytes.{Appends}
 use Rattle.ir_explore.specs.Faults.{explore_fault_status}
 use Rattle.ir_explore.specs.declared.fault.ExploreFault.{ExploreFault}
 use Rattle.ir_explore.specs.declared.fault.ExploreFault.TheVariants as explore
 use Rattle.ir_files.specs.Statuses.{status_number}
-use Rattle.ir_files.specs.Writers.{Writer, Took, writer_of}
+use Rattle.ir_files.specs.Writers.{Writer, Took}
 use Rattle.ir_files.specs.declared.exit_status.ExitStatus.{ExitStatus}
 use Rattle.ir_files.specs.declared.exit_status.ExitStatus.TheVariants as status
 use Rattle.ir_past.specs.Answers.{Stops}

@@ -2,7 +2,7 @@
 use Rattle.std.proofs.Common.{◌≡◌, ◌∙◌, ◌⊎◌, List, ℕ, [], zero, suc, Some, ap, inl, inr, map, refl, subst, sym}
 use Rattle.std.specs.Prelude.{Bool, Option, None, length, IfErr, IfOk, OnErr, OnOk, Result, Ok, Err, true, false}
 use Rattle.std.specs.String.{string_bytes}
-use Rattle.ir_explore.specs.Faults.{HasNoGuest, explore_fault_status, explore_fault_words}
+use Rattle.ir_explore.specs.Faults.{HasNoGuest, explore_fault_words}
 use Rattle.ir_explore.specs.Hang.{HasNoHangAnswer, IsHangAnswer, IsHangRecorded, StopsHang, hang_plan}
 use Rattle.ir_explore.specs.Plan.{ExplorePlan}
 use Rattle.ir_explore.specs.Until.{HasNoAnswer, IsOutcomeFinding, StopsUntil, recording}
@@ -24,8 +24,7 @@ use Rattle.ir_record_command.specs.Faults.{fault_status, record_fault_words}
 use Rattle.ir_record_command.specs.Order.{order_of}
 use Rattle.ir_record_command.specs.Plan.{Plan}
 use Rattle.ir_record_command.specs.Stopping.{Tellings, Devices, lines_between}
-use Rattle.ir_record_command.specs.declared.record_fault.RecordFault.{RecordFault}
-use Rattle.ir_record_command.specs.declared.record_fault.RecordFault.TheVariants.{Clock, Image, TooLarge, Order, NoMem, Trace, Output, Lines}
+use Rattle.ir_record_command.specs.declared.record_fault.RecordFault.TheVariants.{Image, TooLarge, NoMem, Lines}
 use Rattle.ir_schedule.specs.Conditions.{as_condition}
 use Rattle.ir_schedule.specs.declared.condition.Condition.{Condition}
 use Rattle.ir_shrink.specs.Lines.{shrunk_lines}
@@ -43,7 +42,7 @@ use Rattle.ir_commands.specs.Searching.{IsSearchAnswerTo, IsShrinkAnswer, IsShri
 use Rattle.ir_commands.specs.Searching.{PrintsUnfit, RecordsShrunkRun, RefusesFound, RefusesGiven, RefusesSearch, RefusesShrinking, RefusesUntil, UntilMisses, plan_like}
 use Rattle.ir_commands.specs.Searching.{SearchFinds, SearchMisses, SearchesFile, ShrinksFound, ShrinksNothing, TellsNoSearch, TellsNoSeed}
 use Rattle.ir_commands.specs.Sought.{PrintsPart, RecordsRun}
-use Rattle.ir_commands.specs.Writing.{IsStatusOfNoRecording, KeptAsAsked, Keeping, Storing}
+use Rattle.ir_commands.specs.Writing.{KeptAsAsked, Keeping, Storing}
 use Rattle.ir_commands.proofs.Kept.{ends_kept, run_kept}
 use Rattle.ir_commands.proofs.Printed.{explore_fault_is_not_bad, failed_is_not_bad, fault_is_not_bad, leaves_in_part, none_since, nothing_searched, part_since, same_is_nothing}
 use Rattle.ir_commands.proofs.Refused.{answer_lacks_guest, explore_fault_is, failed_is_not_refused, fault_is_no_recording, hang_lacks_guest, hunt_lacks_guest}
