@@ -1,6 +1,6 @@
 -- What was printed where no run was recorded.
-use Rattle.std.proofs.Common.{◌≡◌, ◌∙◌, ◌⊎◌, ◌++◌, List, ℕ, Option, [], ap, append-nil, append_assoc, arith, inl, inr, refl, subst, sym}
-use Rattle.std.proofs.KnownBytes.{Appends-nil, Appends-trans}
+use Rattle.std.proofs.Common.{◌≡◌, ◌⊎◌, ◌++◌, List, ℕ, Option, [], ap, append-nil, arith, inl, inr, refl, subst, sym}
+use Rattle.std.proofs.KnownBytes.{Appends-nil}
 use Rattle.std.specs.Io.KnownBytes.{Appends}
 use Rattle.ir_explore.specs.Faults.{explore_fault_status}
 use Rattle.ir_explore.specs.declared.fault.ExploreFault.{ExploreFault}
@@ -19,6 +19,7 @@ use Rattle.ir_record_command.specs.Stopping.{Devices, LeavesRecording, Tellings,
 use Rattle.ir_record_command.specs.declared.record_fault.RecordFault.{RecordFault}
 use Rattle.ir_record_command.specs.declared.record_fault.RecordFault.TheVariants.{Clock, Image, TooLarge, Order, NoMem, Trace, Output, Lines}
 use Rattle.ir_stream.specs.Answers.{AppendsPrefix}
+use Rattle.ir_stream.proofs.CallerLemmas.{appends_prefix_append}
 use Rattle.ir_trace.specs.Recorded.{Recorded}
 use Rattle.ir_commands.specs.Files.{TellsFault}
 use Rattle.ir_commands.specs.Searching.{TellsNoSearch}
@@ -54,15 +55,6 @@ explore_fault_is_not_bad explore.Write p = failed_is_not_bad p
 
 -- ---- what is printed in part
 
--- a text and the beginning of another are the beginning of both
-prefix_behind : (a b c : Option (List ℕ)) (first second : List ℕ) → Appends a b first → AppendsPrefix b c second → AppendsPrefix a c (first ++ second)
-prefix_behind a b c first second p q = record {
-  part = first ++ q.part;
-  more = q.more;
-  splits = ap (λ z. first ++ z) q.splits ∙ sym (append_assoc first q.part q.more);
-  grown = Appends-trans a b c first q.part p q.grown;
-}
-
 all_is_prefix : (a b : Option (List ℕ)) (text : List ℕ) → Appends a b text → AppendsPrefix a b text
 all_is_prefix a b text p = record { part = text; more = []; splits = sym (append-nil text); grown = p }
 
@@ -73,7 +65,7 @@ printed_by : (before between after : Option (List ℕ)) (e : RecordFault) (image
 printed_by before between after e image plan text same first (inl r) =
     (text, inl refl, all_is_prefix before after text (subst (λ z. Appends before z text) (same r.1) first))
 printed_by before between after e image plan text same first (inr s) =
-    (text ++ recording_lines s.0, inr (s.0, s.1, s.2, refl), prefix_behind before between after text (recording_lines s.0) first s.3)
+    (text ++ recording_lines s.0, inr (s.0, s.1, s.2, refl), appends_prefix_append before between after text (recording_lines s.0) first s.3)
 
 -- a recording that stopped behind a text left the beginning of that text and the lines of a recording
 pub leaves_in_part : {W P O : Type 0} (d : Tellings W P O) (e : RecordFault) (image : List ℕ) (plan : Plan) (old new : Devices W P O) (said : O) (reports : Writer)

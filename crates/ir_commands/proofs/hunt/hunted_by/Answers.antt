@@ -88,4 +88,5 @@ returns-in_err-files-clause-stopped g c =
     let is_image : IsImageIn (at (string_bytes arguments.image)) image = subst (λ b. IsImageIn (at b) image) c.paths-paths.ensures.image
     (subst (λ z. IsImageIn (at c.paths-paths.result.image.now) z) (sym (c.new-image.ensures ∙ c.as_slice.ensures.value)) c.in_ok-image.ensures.bytes) in
     if_err_handed_on _ c.from_residual.result c.in_err-files.field-0.0 p.0 p.1 p.2
-    (nothing_searched (refused_since (λ about. inr (image, is_image, subst (λ t. AreAboutNothing t image) c.as_slice-2.ensures.value about)) c.in_err-files.ensures.status) told (Appends-nil (g.O.Sink.written c.args.out.now)))
+    (nothing_searched (refused_since (λ about. inr (image, is_image, subst (λ t. AreAboutNothing t image) c.as_slice-2.ensures.value about)) c.in_err-files.ensures.status)
+    told (Appends-nil (g.O.Sink.written c.args.out.now)))

@@ -59,7 +59,8 @@ returns-clause-stopped g c =
       seconds = arguments.seconds;
       is_shown = c.args.explains;
     } in
-    let asked = shrink_asked {plan = plan} c.in_ok-given.given.trace.items (c.new-image.ensures ∙ c.as_slice.ensures.value) c.in_ok-given.ensures.image c.in_ok-given.ensures.trace c.in_ok-trace.ensures.reads
+    let asked = shrink_asked {plan = plan} c.in_ok-given.given.trace.items (c.new-image.ensures ∙ c.as_slice.ensures.value)
+    c.in_ok-given.ensures.image c.in_ok-given.ensures.trace c.in_ok-trace.ensures.reads
     (subst (λ f. IsInput (g.D.Folder.bytes_at folder) f files.input.items) c.paths.ensures.input c.in_ok-files.ensures.input)
     c.as_slice-4.ensures.value c.plan_like.ensures c.as_slice-5.ensures.value
     (subst (λ t. AreWritten t files.conditions.items) c.as_slice-until.ensures.value c.in_ok-files.ensures.read) refl refl in
@@ -113,4 +114,5 @@ returns-in_err-texts-clause-stopped g c =
     subst (λ f. TellsFault (writer_of (g.E.Sink.written f) (g.E.Sink.written c.texts_of.new.faults) (g.E.Sink.broken c.texts_of.new.faults))) kept
     (c.in_err-texts.ensures.told (subst (λ f. g.E.Sink.broken f ≡ false) (sym kept) c.requires.reports)) in
     if_err_handed_on _ c.from_residual.result c.in_err-texts.field-0.0 p.0 p.1 p.2
-    (inr (inr (nothing_searched (inr (inl c.in_err-texts.ensures.status)) told (subst (λ o. Appends (g.O.Sink.written c.args.out.now) (g.O.Sink.written o) []) (sym c.in_ok-trace.ensures.quiet) (Appends-nil (g.O.Sink.written c.args.out.now))))))
+    (inr (inr (nothing_searched (inr (inl c.in_err-texts.ensures.status)) told
+    (subst (λ o. Appends (g.O.Sink.written c.args.out.now) (g.O.Sink.written o) []) (sym c.in_ok-trace.ensures.quiet) (Appends-nil (g.O.Sink.written c.args.out.now))))))
