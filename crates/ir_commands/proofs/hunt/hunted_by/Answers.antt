@@ -59,7 +59,7 @@ returns-clause-done g c =
     (writer_of (g.O.Sink.written c.args.out.now) (g.O.Sink.written c.ended.new.out) (g.O.Sink.broken c.ended.new.out))
     (writer_of (g.E.Sink.written f) (g.E.Sink.written c.ended.new.faults) (g.E.Sink.broken c.ended.new.faults))) kept
     (hunt_comes_to g.O.Sink.written g.O.Sink.broken g.E.Sink.written g.E.Sink.broken at stored arguments image plan
-    c.args.out.now c.hunted_into-found.new.out c.ended.new.out c.of-files.new.faults c.hunted_into-found.new.faults c.ended.new.faults c.ended.result
+    c.args.out.now c.hunted_into-found.new.out c.ended.new.out c.of.new.faults c.hunted_into-found.new.faults c.ended.new.faults c.ended.result
     (KeptAt stored c.new-places.result.trace.now (texts_of_paths c.new-places.result.outputs)) c.hunted_into-found.result asked
     (kept_as_asked stored _ _ (c.new-places.ensures.trace ∙ c.paths-paths.ensures.trace) outs)
     c.hunted_into-found.ensures.found c.hunted_into-found.ensures.none c.ended.ensures.stopped c.ended.ensures.quiet c.ended.ensures.kept c.ended.ensures.done
@@ -79,14 +79,14 @@ pub returns-in_err-files-clause-stopped : goal.returns-in_err-files-clause-stopp
 returns-in_err-files-clause-stopped g c =
     let at = g.D.Folder.bytes_at c.args.around.now.folder.now in
     let arguments = c.args.arguments.now in
-    let p = err_from_is_err_and c.from_residual.result c.from_residual.ensures.1 in
+    let p = err_from_is_err_and c.from_residual-in_err-files.result c.from_residual-in_err-files.ensures.1 in
     let image = c.new-image.result in
     let kept = c.in_ok-image.ensures.kept in
-    let told : TellsFault (writer_of (g.E.Sink.written c.args.faults.now) (g.E.Sink.written c.of-files.new.faults) (g.E.Sink.broken c.of-files.new.faults)) =
-    subst (λ f. TellsFault (writer_of (g.E.Sink.written f) (g.E.Sink.written c.of-files.new.faults) (g.E.Sink.broken c.of-files.new.faults))) kept
+    let told : TellsFault (writer_of (g.E.Sink.written c.args.faults.now) (g.E.Sink.written c.of.new.faults) (g.E.Sink.broken c.of.new.faults)) =
+    subst (λ f. TellsFault (writer_of (g.E.Sink.written f) (g.E.Sink.written c.of.new.faults) (g.E.Sink.broken c.of.new.faults))) kept
     (c.in_err-files.ensures.told (subst (λ f. g.E.Sink.broken f ≡ false) (sym kept) c.requires.reports)) in
     let is_image : IsImageIn (at (string_bytes arguments.image)) image = subst (λ b. IsImageIn (at b) image) c.paths-paths.ensures.image
     (subst (λ z. IsImageIn (at c.paths-paths.result.image.now) z) (sym (c.new-image.ensures ∙ c.as_slice.ensures.value)) c.in_ok-image.ensures.bytes) in
-    if_err_handed_on _ c.from_residual.result c.in_err-files.field-0.0 p.0 p.1 p.2
+    if_err_handed_on _ c.from_residual-in_err-files.result c.in_err-files.field-0.0 p.0 p.1 p.2
     (nothing_searched (refused_since (λ about. inr (image, is_image, subst (λ t. AreAboutNothing t image) c.as_slice-2.ensures.value about)) c.in_err-files.ensures.status)
     told (Appends-nil (g.O.Sink.written c.args.out.now)))

@@ -62,12 +62,12 @@ returns-in_err-files-clause-none g c =
 
 pub returns-in_err-outputs-clause-none : goal.returns-in_err-outputs-clause-none
 returns-in_err-outputs-clause-none g c =
-    let p = err_from_is_err_and c.from_residual.result c.from_residual.ensures.1 in
+    let p = err_from_is_err_and c.from_residual-in_err-outputs.result c.from_residual-in_err-outputs.ensures.1 in
     let kept = c.if-lacks_either.ensures.kept refl ∙ c.in_ok-files.ensures.kept ∙ c.if-loses_input.ensures.kept refl in
     let told : TellsFault (writer_of (g.E.Sink.written c.args.faults.now) (g.E.Sink.written c.output_places.new.faults) (g.E.Sink.broken c.output_places.new.faults)) =
     subst (λ f. TellsFault (writer_of (g.E.Sink.written f) (g.E.Sink.written c.output_places.new.faults) (g.E.Sink.broken c.output_places.new.faults))) kept
     (c.in_err-outputs.ensures.told (subst (λ f. g.E.Sink.broken f ≡ false) (sym kept) c.requires.reports)) in
-    if_err_handed_on _ c.from_residual.result c.in_err-outputs.field-0.0 p.0 p.1 p.2
+    if_err_handed_on _ c.from_residual-in_err-outputs.result c.in_err-outputs.field-0.0 p.0 p.1 p.2
     (inr (nothing_searched (refused_since (λ never. absurd never) c.in_err-outputs.ensures.status) told (Appends-nil (g.O.Sink.written c.args.out.now))))
 
 pub returns-then-lacks_either-clause-none : goal.returns-then-lacks_either-clause-none

@@ -25,8 +25,8 @@ returns-clause-done g c =
     let files = c.in_ok-files.files in
     let plan : ShrinkPlan = record {
       «record» = c.plan_like.result;
-      conditions = c.as_slice-conditions.result;
-      texts = c.as_slice-texts.result;
+      conditions = c.as_slice-3.result;
+      texts = c.as_slice-4.result;
       stale = arguments.stale;
       seconds = arguments.seconds;
       is_shown = c.args.explains;
@@ -40,7 +40,7 @@ returns-clause-done g c =
       recorded = shrunk.trace;
       asked = shrink_asked c.in_ok-given.given.trace.items (c.new-image.ensures ∙ c.as_slice.ensures.value) c.in_ok-given.ensures.image c.in_ok-given.ensures.trace c.in_ok-trace.ensures.reads
           (subst (λ f. IsInput (g.D.Folder.bytes_at folder) f files.input.items) c.paths.ensures.input c.in_ok-files.ensures.input)
-          c.as_slice-4.ensures.value c.plan_like.ensures c.as_slice-5.ensures.value
+          c.as_slice-2.ensures.value c.plan_like.ensures c.as_slice-3.ensures.value
           (subst (λ t. AreWritten t files.conditions.items) c.as_slice-until.ensures.value c.in_ok-files.ensures.read) refl refl;
       shrunk = run_kept_at (kept_as_asked stored _ _ (c.new-places.ensures.trace ∙ c.as_str.ensures.value) outs) (ap (λ o. writer_of (g.O.Sink.written o) (g.O.Sink.written
           c.recorded_into.new.out) (g.O.Sink.broken c.recorded_into.new.out)) c.in_ok-trace.ensures.quiet) h;
@@ -53,8 +53,8 @@ returns-clause-stopped g c =
     let files = c.in_ok-files.files in
     let plan : ShrinkPlan = record {
       «record» = c.plan_like.result;
-      conditions = c.as_slice-conditions.result;
-      texts = c.as_slice-texts.result;
+      conditions = c.as_slice-3.result;
+      texts = c.as_slice-4.result;
       stale = arguments.stale;
       seconds = arguments.seconds;
       is_shown = c.args.explains;
@@ -62,7 +62,7 @@ returns-clause-stopped g c =
     let asked = shrink_asked {plan = plan} c.in_ok-given.given.trace.items (c.new-image.ensures ∙ c.as_slice.ensures.value)
     c.in_ok-given.ensures.image c.in_ok-given.ensures.trace c.in_ok-trace.ensures.reads
     (subst (λ f. IsInput (g.D.Folder.bytes_at folder) f files.input.items) c.paths.ensures.input c.in_ok-files.ensures.input)
-    c.as_slice-4.ensures.value c.plan_like.ensures c.as_slice-5.ensures.value
+    c.as_slice-2.ensures.value c.plan_like.ensures c.as_slice-3.ensures.value
     (subst (λ t. AreWritten t files.conditions.items) c.as_slice-until.ensures.value c.in_ok-files.ensures.read) refl refl in
     let kept = c.in_ok-texts.ensures.kept ∙ c.in_ok-files.ensures.kept ∙ c.in_ok-trace.ensures.kept ∙ c.in_ok-given.ensures.kept in
     IfErr-weaker c.recorded_into.result _ _ (λ answered h. shrink_refuses answered asked (ap (λ o. writer_of (g.O.Sink.written o) (g.O.Sink.written
@@ -78,9 +78,9 @@ returns-in_err-given-clause-stopped g c =
 
 pub returns-in_err-trace-clause-stopped : goal.returns-in_err-trace-clause-stopped
 returns-in_err-trace-clause-stopped g c =
-    let p = err_from_is_err_and c.from_residual.result c.from_residual.ensures.1 in
+    let p = err_from_is_err_and c.from_residual-in_err-trace.result c.from_residual-in_err-trace.ensures.1 in
     let new = c.fitting_trace.new.faults in
-    if_err_handed_on _ c.from_residual.result c.in_err-trace.field-0.0 p.0 p.1 p.2
+    if_err_handed_on _ c.from_residual-in_err-trace.result c.in_err-trace.field-0.0 p.0 p.1 p.2
     (unfit_shrinks_nothing c.in_ok-given.ensures.image c.in_ok-given.ensures.trace
     (ap (λ f. writer_of (g.E.Sink.written f) (g.E.Sink.written new) (g.E.Sink.broken new)) c.in_ok-given.ensures.kept) c.in_err-trace.ensures.stopped)
 
@@ -88,15 +88,15 @@ pub returns-in_err-files-clause-stopped : goal.returns-in_err-files-clause-stopp
 returns-in_err-files-clause-stopped g c =
     let at = g.D.Folder.bytes_at c.args.around.now.folder.now in
     let arguments = c.args.arguments.now in
-    let p = err_from_is_err_and c.from_residual.result c.from_residual.ensures.1 in
+    let p = err_from_is_err_and c.from_residual-in_err-files.result c.from_residual-in_err-files.ensures.1 in
     let image = c.new-image.result in
     let kept = c.in_ok-trace.ensures.kept ∙ c.in_ok-given.ensures.kept in
-    let told : TellsFault (writer_of (g.E.Sink.written c.args.faults.now) (g.E.Sink.written c.of-files.new.faults) (g.E.Sink.broken c.of-files.new.faults)) =
-    subst (λ f. TellsFault (writer_of (g.E.Sink.written f) (g.E.Sink.written c.of-files.new.faults) (g.E.Sink.broken c.of-files.new.faults))) kept
+    let told : TellsFault (writer_of (g.E.Sink.written c.args.faults.now) (g.E.Sink.written c.of.new.faults) (g.E.Sink.broken c.of.new.faults)) =
+    subst (λ f. TellsFault (writer_of (g.E.Sink.written f) (g.E.Sink.written c.of.new.faults) (g.E.Sink.broken c.of.new.faults))) kept
     (c.in_err-files.ensures.told (subst (λ f. g.E.Sink.broken f ≡ false) (sym kept) c.requires.reports)) in
     let is_image : IsImageIn (at (string_bytes arguments.image)) image = subst (λ z. IsImageIn (at (string_bytes arguments.image)) z)
     (sym (c.new-image.ensures ∙ c.as_slice.ensures.value)) c.in_ok-given.ensures.image in
-    if_err_handed_on _ c.from_residual.result c.in_err-files.field-0.0 p.0 p.1 p.2
+    if_err_handed_on _ c.from_residual-in_err-files.result c.in_err-files.field-0.0 p.0 p.1 p.2
     (inr (inr (nothing_searched (refused_since (λ about. inr (
       c.in_ok-given.given.trace.items,
       c.in_ok-trace.trace,
@@ -108,11 +108,11 @@ returns-in_err-files-clause-stopped g c =
 
 pub returns-in_err-texts-clause-stopped : goal.returns-in_err-texts-clause-stopped
 returns-in_err-texts-clause-stopped g c =
-    let p = err_from_is_err_and c.from_residual.result c.from_residual.ensures.1 in
+    let p = err_from_is_err_and c.from_residual-in_err-texts.result c.from_residual-in_err-texts.ensures.1 in
     let kept = c.in_ok-files.ensures.kept ∙ c.in_ok-trace.ensures.kept ∙ c.in_ok-given.ensures.kept in
     let told : TellsFault (writer_of (g.E.Sink.written c.args.faults.now) (g.E.Sink.written c.texts_of.new.faults) (g.E.Sink.broken c.texts_of.new.faults)) =
     subst (λ f. TellsFault (writer_of (g.E.Sink.written f) (g.E.Sink.written c.texts_of.new.faults) (g.E.Sink.broken c.texts_of.new.faults))) kept
     (c.in_err-texts.ensures.told (subst (λ f. g.E.Sink.broken f ≡ false) (sym kept) c.requires.reports)) in
-    if_err_handed_on _ c.from_residual.result c.in_err-texts.field-0.0 p.0 p.1 p.2
+    if_err_handed_on _ c.from_residual-in_err-texts.result c.in_err-texts.field-0.0 p.0 p.1 p.2
     (inr (inr (nothing_searched (inr (inl c.in_err-texts.ensures.status)) told
     (subst (λ o. Appends (g.O.Sink.written c.args.out.now) (g.O.Sink.written o) []) (sym c.in_ok-trace.ensures.quiet) (Appends-nil (g.O.Sink.written c.args.out.now))))))

@@ -64,14 +64,14 @@ pub returns-in_err-files-clause-none : goal.returns-in_err-files-clause-none
 returns-in_err-files-clause-none g c =
     let at = g.D.Folder.bytes_at c.args.around.now.folder.now in
     let arguments = c.args.arguments.now in
-    let p = err_from_is_err_and c.from_residual.result c.from_residual.ensures.1 in
+    let p = err_from_is_err_and c.from_residual-in_err-files.result c.from_residual-in_err-files.ensures.1 in
     let image = c.new-image.result in
     let kept = c.in_ok-image.ensures.kept in
-    let told : TellsFault (writer_of (g.E.Sink.written c.args.faults.now) (g.E.Sink.written c.of-files.new.faults) (g.E.Sink.broken c.of-files.new.faults)) =
-    subst (λ f. TellsFault (writer_of (g.E.Sink.written f) (g.E.Sink.written c.of-files.new.faults) (g.E.Sink.broken c.of-files.new.faults))) kept
+    let told : TellsFault (writer_of (g.E.Sink.written c.args.faults.now) (g.E.Sink.written c.of.new.faults) (g.E.Sink.broken c.of.new.faults)) =
+    subst (λ f. TellsFault (writer_of (g.E.Sink.written f) (g.E.Sink.written c.of.new.faults) (g.E.Sink.broken c.of.new.faults))) kept
     (c.in_err-files.ensures.told (subst (λ f. g.E.Sink.broken f ≡ false) (sym kept) c.requires.reports)) in
     let is_image : IsImageIn (at (string_bytes arguments.explore.image)) image = subst (λ b. IsImageIn (at b) image) c.paths-paths.ensures.image
     (subst (λ z. IsImageIn (at c.paths-paths.result.image.now) z) (sym (c.new-image.ensures ∙ c.as_slice.ensures.value)) c.in_ok-image.ensures.bytes) in
-    if_err_handed_on _ c.from_residual.result c.in_err-files.field-0.0 p.0 p.1 p.2
+    if_err_handed_on _ c.from_residual-in_err-files.result c.in_err-files.field-0.0 p.0 p.1 p.2
     (inr (nothing_searched (refused_since (λ about. inl (inr (image, is_image, subst (λ t. AreAboutNothing t image) c.as_slice-2.ensures.value about))) c.in_err-files.ensures.status)
     told (Appends-nil (g.O.Sink.written c.args.out.now))))
