@@ -1,5 +1,5 @@
 use Rattle.ir_commands.proofs.CallerLemmas.{unchanged_goes_on}
 use Rattle.ir_program.proofs.dispatch.explain_if.Goals as goal
 
-pub returns-in-None-clause-grows : goal.returns-in-None-clause-grows
-returns-in-None-clause-grows g c = unchanged_goes_on _
+pub returns-in_default-clause-grows : goal.returns-in_default-clause-grows
+returns-in_default-clause-grows g c = unchanged_goes_on _
