@@ -1,6 +1,5 @@
 -- The words of a command line that name a file of names, and the others.
-use Rattle.std.specs.Prelude.{ℕ, ◌==◌, ◌||◌, Bool, true, false, List, [], ◌∷◌, ◌++◌, codes, bytes_eq, drop, fold, Option, Some, None, if◌then◌else◌}
-use Rattle.std.specs.List.{starts_with}
+use Rattle.std.specs.Prelude.{ℕ, ◌||◌, Bool, true, false, List, [], ◌∷◌, ◌++◌, codes, bytes_eq, drop, take, fold, Option, Some, None, if◌then◌else◌}
 use Rattle.std.specs.Option.{is_some}
 use Rattle.clap.specs.Words.{Text}
 
@@ -24,11 +23,15 @@ with_other s word = record s { others = s.others ++ word ∷ [] }
 abbrev pub with_file : NamesSplit → Text → NamesSplit
 with_file s path = record s { file = Some path; takes = false; twice = s.twice || is_some s.file }
 
+-- a word has the file in it
+abbrev pub has_file : Text → Bool
+has_file word = bytes_eq (take 8 word) (codes "--names=")
+
 -- a word that may be an option: `--names`, behind which comes the file, `--names=FILE`, `--`, behind which no word is an option, or another
 abbrev pub with_option : NamesSplit → Text → NamesSplit
 with_option s word =
     if bytes_eq word (codes "--names") then record s { takes = true } else
-    (if starts_with ◌==◌ word (codes "--names=") then with_file s (drop 8 word) else
+    (if has_file word then with_file s (drop 8 word) else
     (if bytes_eq word (codes "--") then with_other (record s { places = true }) word else with_other s word))
 
 -- one more word
