@@ -17,7 +17,6 @@ use crate::debug::{debug_files, gdb_files};
 use crate::ends_once::EndsOnce;
 use crate::names_use::NamesUse;
 use crate::prompting::Prompting;
-use crate::words::{NamesSplit, split_words};
 use ir_arguments::{Asked, DebugArguments, Explored, Make, Print, parsed};
 use ir_commands::{
     Surroundings, assemble_file, bytes_of, classes_file, convert_file, diff_files, events_file,
@@ -25,7 +24,7 @@ use ir_commands::{
     stale_file, trace_file, until_file, view_file, who_file, why_file, within_file,
 };
 use ir_files::{ExitStatus, Folder, MOST_FILE_BYTES};
-use ir_names::{NamedSink, NamesErr, read_names};
+use ir_names::{NamedSink, NamesErr, NamesSplit, read_names, split_words};
 use ir_object::{Gate, Given};
 use ir_search::Observer;
 use ir_stream::{Sink, Source, write_all};

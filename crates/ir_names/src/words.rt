@@ -1,8 +1,8 @@
 //! The words that name a file of names, and the others.
 
-ghost use Rattle.std.specs.Prelude.{◌≡◌, [], ◌∷◌, ◌++◌, drop, true, false, IfOk, MatchOption, OnOk, map, option_map};
+ghost use Rattle.std.specs.Prelude.{◌≡◌, [], ◌∷◌, ◌++◌, drop, fold, true, false, IfOk, MatchOption, OnOk, map, option_map};
 ghost use Rattle.std.specs.String.{string_bytes};
-ghost use Rattle.ir_program.specs.Words.{has_file, split_words};
+ghost use Rattle.ir_names.specs.Words.{has_file, split_word, split_words};
 
 use std::alloc::{AllocError, Global};
 use std::marker::Model;
@@ -23,7 +23,7 @@ pub struct NamesSplit<'a> {
 impl<'a> Model for NamesSplit<'a> {
     ghost use Rattle.std.specs.Prelude.{map, option_map};
     ghost use Rattle.std.specs.String.{string_bytes};
-    ghost use Rattle.ir_program.specs.Words.{NamesSplit};
+    ghost use Rattle.ir_names.specs.Words.{NamesSplit};
 
     ghost Value = { NamesSplit };
 
@@ -47,7 +47,7 @@ fn file_in(word: &str) -> Option<&str>
 }
 
 impl<'a> NamesSplit<'a> {
-    ghost use Rattle.ir_program.specs.Words.{no_words, with_file, with_other, with_option, split_word, wants_names, only_file};
+    ghost use Rattle.ir_names.specs.Words.{no_words, with_file, with_other, with_option, split_word, wants_names, only_file};
 
     // Before the first word.
     fn new(alloc: Global) -> NamesSplit<'a>
@@ -136,6 +136,20 @@ impl<'a> NamesSplit<'a> {
     }
 }
 
+// Adds these words, of which none is the program's name.
+fn add_all<'a>(
+    alloc: Global,
+    split: &mut NamesSplit<'a>,
+    words: &'a [String],
+) -> Result<(), AllocError>
+    ensures { OnOk result (split.new ≡ fold split_word split.old (map string_bytes words.now)) }
+{
+    for word in words {
+        split.add(alloc, word.as_str())?;
+    }
+    Ok(())
+}
+
 /// The words, of which the first is the program's name, in two parts.
 ///
 /// # Errors
@@ -144,12 +158,10 @@ pub fn split_words(alloc: Global, words: &[String]) -> Result<NamesSplit<'_>, Al
     ensures { IfOk result (λ split. split ≡ split_words (map string_bytes words.now)) }
 {
     let mut split = NamesSplit::new(alloc);
-    let [name, words @ ..] = words else {
+    let Some((name, others)) = words.split_first() else {
         return Ok(split);
     };
     split.add_other(alloc, name.as_str())?;
-    for word in words {
-        split.add(alloc, word.as_str())?;
-    }
+    add_all(alloc, &mut split, others)?;
     Ok(split)
 }

@@ -1,8 +1,8 @@
 use Rattle.std.proofs.Common.{◌≡◌, ◌∙◌, ◌++◌, Bool, true, false, List, ℕ, Option, Some, None, Bor, MatchOption, ap, sym, refl, take, drop, bytes_eq, codes, take-append-drop}
 use Rattle.std.proofs.lemmas.Slice.Eq.{bytes_eq-Decides}
 use Rattle.std.specs.Str.Pattern.{FindsTextPrefix, LacksTextAt, StripsPrefix}
-use Rattle.ir_program.specs.Words.{has_file}
-use Rattle.ir_program.proofs.words.file_in.Goals as goal
+use Rattle.ir_names.specs.Words.{has_file}
+use Rattle.ir_names.proofs.words.file_in.Goals as goal
 
 no_file : (word : List ℕ) (b : Bool) → has_file word ≡ b → LacksTextAt (codes "--names=") word 0 → b ≡ false
 no_file word true e lacks = absurd (lacks (drop 8 word) (sym (take-append-drop 8 word)
