@@ -353,14 +353,7 @@ where
 {
     let alloc = around.rt.alloc();
     let mut asked = parsed(alloc, invocation.arguments);
-    let status = serve(
-        around,
-        invocation.terminals,
-        &mut asked,
-        input,
-        out,
-        faults,
-    );
+    let status = serve(around, invocation.terminals, &mut asked, input, out, faults);
     explain(alloc, around.folder, &asked, status, faults);
     status
 }
