@@ -420,7 +420,7 @@ where
     requires writes { O.broken out.old.sink ≡ false }
     requires reports { E.broken faults.old ≡ false }
     ensures { (told : Writer) × DoesByFile (D.bytes_at around.now.folder.now) (storing D.known D.known_closed (D.knows around.now.folder.now) (D.was_put around.now.folder.now))
-        (option_map (λ file. file.now) request.file) request.lists asked.old result (I.left input)
+        (option_map (λ file. file.now) request.entry.file) request.entry.lists asked.old result (I.left input)
         (writer_of (O.written out.old.sink) (O.written out.new.sink) (O.broken out.new.sink)) told (out.new.sink ≡ out.old.sink)
         × (result ≢ exit.Refused → told ≡ writer_of (E.written faults.old) (E.written faults.new) (E.broken faults.new)) }
 {
