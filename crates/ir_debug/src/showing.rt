@@ -51,13 +51,8 @@ pub fn write_shown<W: Sink>(
             size,
         } => {
             let memory = thread_here(debugger, thread).mach().memory();
-            write_memory(
-                debugger.fitted().image().code(),
-                memory,
-                address,
-                size.get(),
-                writer,
-            )
+            let code = debugger.fitted().image().code();
+            write_memory(code, memory, address, size.get(), writer)
         }
         Show::Object { object } => {
             let number = object as usize;

@@ -73,6 +73,10 @@ impl Connection {
 
     /// Reads bytes, and writes the replies to the packets in them, until one ends the connection, the input ends, a device fails, or
     /// `limit` bytes were read.
+    ///
+    /// # Errors
+    /// After a failed read the replies to all that was read were written, none of which ends the connection. After a failed write those to all but the
+    /// last item were, and a prefix of that item's: a reply is written before a byte after its packet is read.
     pub fn serve<H: Hands, R: Source, W: Sink>(
         &mut self,
         hands: &H,
@@ -90,12 +94,9 @@ impl Connection {
         // If the reader makes its bytes known, all of them together lead to it.
         ensures known { IfEnded result (IfSome (R.left reader.old)
             (LeadsToLink self.old.link limit result (W.written writer.old) (W.written writer.new))) }
-        // After a failed read, the replies to all that was read, none of which ends the connection.
         ensures read { result ≡ Err Fault.Read → (R.broken reader.new ≡ true) × (W.broken writer.new ≡ false)
             × ReadsUpTo limit (R.left reader.old) (R.left reader.new) (λ consumed.
             WroteReplies self.old.link (items consumed) false (W.written writer.old) (W.written writer.new)) }
-        // After a failed write, the replies to all but the last item, and a prefix of that one's: a reply is written before a byte
-        // after its packet is read.
         ensures write { result ≡ Err Fault.Write → (R.broken reader.new ≡ false) × (W.broken writer.new ≡ true)
             × ReadsUpTo limit (R.left reader.old) (R.left reader.new) (λ consumed.
             WroteRepliesInPart self.old.link (items consumed) (W.written writer.old) (W.written writer.new)) }

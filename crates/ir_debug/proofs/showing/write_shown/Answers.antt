@@ -17,7 +17,7 @@ pub write_memory-requires-clause-low : goal.write_memory-requires-clause-low
 write_memory-requires-clause-low g c =
     let last = last_of_equal_show c.args.debugger.now c.args.show _ c.in-Memory.is c.requires in
     guest_address_bound c.args.debugger.now.desk.fitted.guest c.in-Memory.size c.in-Memory.address
-    (subst (λ g. length g.code ≤ 16384) (c.image.ensures.value ∙ ap (λ f. f.guest) c.fitted.ensures.value) c.code.ensures.within.short_code)
+    (subst (λ g. length g.code ≤ 16384) (c.image.ensures.value ∙ ap (λ f. f.guest) c.fitted.ensures.value) c.code-code.ensures.within.short_code)
     (permitted_passes_tests c.args.debugger.now.desk _ last.0).address
 
 pub bounds-objects-number : goal.bounds-objects-number
