@@ -6,7 +6,7 @@ use Rattle.ir_world.specs.Sources.{made_with, origins}
 use Rattle.ir_world.proofs.CallerLemmas.{answered_by_own_origin}
 use Rattle.ir_shrink.specs.Stale.{IsTraceInTurns}
 use Rattle.ir_shrink.proofs.Recorded.{fresh_trace_in_turns}
-use Rattle.ir_shrink.proofs.stale.Judge.trace_of.Goals as goal
+use Rattle.ir_shrink.proofs.judging.Judge.trace_of.Goals as goal
 
 pub returns-in-Ok-clause-by : goal.returns-in-Ok-clause-by
 returns-in-Ok-clause-by g c =
