@@ -1,13 +1,15 @@
 #!/usr/bin/env python3
 """Tries the edits of crates/X/must-fail and crates/X/edits many at once: the prover has to refuse each at the function that it changes.
 
-python3 scripts/edits.py [--jobs N] [CRATE ...]
+python3 scripts/edits.py [--jobs N] [--log FILE] [CRATE | CRATE/EDIT ...]
 
 Wants the crates proved (scripts/prove.py). Works in N copies of the crates, in folders .edits-PID-0 and so on: else as many as there are processors with
-5 GiB of memory each. Edits of different functions of a crate are tried by one check of their methods and modules alone, and each counts as refused where its
-own function is, for another reason than a call of one that is not proved. An edit of a constant is tried by a check of its module.
-What isn't refused so is tried alone by a check of the whole crate, where any function of it may be: its line then says `alone` first, and what came of it
-later. A line an edit, as soon as it is tried; the last line counts them. Fails where one is proved, or doesn't apply.
+5 GiB of memory each. Edits of different functions of a crate are tried by one check of these functions alone, and each counts as refused where its own
+function is, for another reason than a call of one that is not proved. An edit of a constant is tried by a check of its module.
+What isn't refused so is tried by itself, and what isn't refused then by a check of the whole crate, where any function of it may be: its lines then say
+`alone` and `whole` first, and what came of it later. A line an edit, as soon as it is tried, with the goal that the prover names and the processor seconds
+of its check; the last line counts them. With --log all that the checks say goes behind what FILE has. Fails where one is proved, has no verdict, or doesn't
+apply.
 """
 import argparse
 import os
@@ -19,7 +21,7 @@ from concurrent.futures import FIRST_COMPLETED, ThreadPoolExecutor, wait
 from pathlib import Path
 from queue import SimpleQueue
 
-from prove import default_jobs
+from prove import default_jobs, listed, needed
 
 TOP = Path(__file__).resolve().parent.parent
 PARTS = ("src", "specs", "proofs")
@@ -28,15 +30,26 @@ FUNCTION = re.compile(r"^ *(?:pub(?:\([a-z]+\))? )?(?:const )?fn (\w+)", re.MULT
 IMPL = re.compile(r"^impl(?:<.*?>)? (?:(?:\w+::)*(\w+)(?:<[^{]*?>)? for )?&?(?:\w+::)*(\w+)[^\n]*$|^(\})$", re.MULTILINE)
 # `not proved` says that a goal of the function fails; `no proof` that it lacks something, which may be the proof of what it calls alone.
 FAILED = re.compile(r"^fn (\S+): (no proof|not proved)(.*)$", re.MULTILINE)
-# What is printed of an edit, by whether it is refused; none where it is tried alone next.
-SAID = {True: "refused", False: "NOT REFUSED", None: "alone"}
+# The part of a goal's name in what the prover says of a function.
+GOAL = re.compile(r"`([a-z]\w*-[\w-]+)`")
+# What is printed of an edit, by whether it is refused; where it isn't yet, how it is tried next.
+ALONE, WHOLE, NO_VERDICT = "alone", "whole", "NO VERDICT"
+SAID = {True: "refused", False: "NOT REFUSED", ALONE: ALONE, WHOLE: WHOLE, NO_VERDICT: NO_VERDICT}
 # How many edits one check tries at most, so that those of a large crate take several processors.
 MOST = 12
 CALLS = re.compile(r"^:? ?(?:it calls `[^`]*`(?:, `[^`]*`| and `[^`]*`)*, which (?:is|are) not proved)?$")
 
 
+# Where all goes that the checks say, if it is wanted.
+LOG = []
+
+
 class BadEdit(Exception):
     """An edit that doesn't apply."""
+
+
+class NoVerdict(Exception):
+    """A check that said nothing of a function."""
 
 
 def pairs_of(edit):
@@ -119,62 +132,98 @@ def laid(crate, room):
     return folder
 
 
-def refused(crate, edits, room, modules=()):
-    """Checks the copy of the crate with these edits, of these modules alone if there are any; the functions that are refused for themselves, and whether any
-    of the crate's own is. Then the copy has the crate's own files again, since crates above it are checked over it. What was kept of the crate's proof
-    (`out/incremental`) is lent to the check, which then proves again what the edits change and what rests on it."""
+def ran(words, folder):
+    """Runs a command in a folder; its exit status, what it said, and the processor seconds of all that it started."""
+    with subprocess.Popen(words, cwd=folder, text=True, errors="replace", stdout=subprocess.PIPE, stderr=subprocess.STDOUT) as run:
+        said = run.stdout.read()
+        _, status, used = os.wait4(run.pid, 0)
+        run.returncode = os.waitstatus_to_exitcode(status)
+    return run.returncode, said, round(used.ru_utime + used.ru_stime)
+
+
+def refused(crate, edits, room, asked=()):
+    """Checks the copy of the crate with these edits, of these functions and modules alone if there are any; the functions that are refused for themselves with
+    what is said of each, whether any of the crate's own is, and the processor seconds. Then the copy has the crate's own files again, since crates above it are
+    checked over it. What was kept of the crate's proof (`out/incremental`) is lent to the check as links, since a check replaces such a file and changes none;
+    the check then proves again what the edits change and what rests on it."""
     folder = laid(crate, room)
     kept = folder / "out" / "incremental"
     shutil.rmtree(kept, ignore_errors=True)
     if (crate / "out" / "incremental").is_dir():
-        shutil.copytree(crate / "out" / "incremental", kept)
+        subprocess.run(["cp", "-al", crate / "out" / "incremental", kept], check=True)
     for path, text in changed(crate, edits).items():
         (folder / path).write_text(text, encoding="utf-8")
-    only = [word for module in modules for word in ("--only", module)]
-    ran = subprocess.run([sys.executable, TOP / "scripts" / "rt.py", "check", "--jobs", "1", *only], cwd=folder, text=True, errors="replace",
-                         stdout=subprocess.PIPE, stderr=subprocess.STDOUT, check=False)
+    only = [word for path in asked for word in ("--only", path)]
+    status, said, seconds = ran([sys.executable, TOP / "scripts" / "rt.py", "check", "--jobs", "1", *only], folder)
     laid(crate, room)
     shutil.rmtree(kept, ignore_errors=True)
-    failed = FAILED.findall(ran.stdout)
-    is_refused = ran.returncode == 1 and any(name.startswith(f"{crate.name}::") for name, _, _ in failed)
-    return {name for name, what, why in failed if what == "not proved" or not CALLS.match(why)}, is_refused
+    for log in LOG:
+        with log.open("a", encoding="utf-8") as file:
+            file.write(f"== {crate.name} {' '.join(edit.stem for edit in edits)}\n{said}")
+    failed = FAILED.findall(said)
+    if status not in (0, 1) or status == 1 and not failed:
+        raise NoVerdict(f"{crate.name} {' '.join(edit.stem for edit in edits)}: {said[-1000:]}")
+    is_refused = status == 1 and any(name.startswith(f"{crate.name}::") for name, _, _ in failed)
+    return {name: why for name, what, why in failed if what == "not proved" or not CALLS.match(why)}, is_refused, seconds
 
 
 def checked(crate, place):
-    """What a check of an edit's function is asked for: the method, or the module of any other function."""
+    """What a check of an edit's function is asked for: the method, or any other function in its module; the module of a constant."""
     owner, function = place
     module = owner.removeprefix(f"{crate.name}::")
-    return f"{owner}{function}" if function and module == owner else module.removesuffix("::")
+    return f"{module}{function}" if function else module.removesuffix("::")
 
 
-def is_named(place, names):
-    """Whether the function of an edit is among these."""
+def reason(place, names):
+    """What is said of the function of an edit, if it is among these."""
     owner, function = place
-    return any(name.startswith(owner) and name.endswith(f"::{function}") or name.endswith(f"::{owner}{function}") for name in names)
+    said = [why for name, why in names.items() if name.startswith(owner) and name.endswith(f"::{function}") or name.endswith(f"::{owner}{function}")]
+    return said[0] if said else None
+
+
+def goal_in(why):
+    """The goals that are named in what is said of a function, or else its first words."""
+    return " ".join(dict.fromkeys(GOAL.findall(why))) or why.lstrip(": ")[:100]
 
 
 def tried(crate, batch, room):
-    """Each edit of the batch with whether it is refused; none where a check of the whole crate has to say."""
-    modules = sorted({checked(crate, place) for _, place in batch})
-    names, is_refused = refused(crate, [edit for edit, _ in batch], room, modules)
+    """Each edit of the batch with whether it is refused, or how it is tried next; and what is said of it."""
+    asked = sorted({checked(crate, place) for _, place in batch})
+    left = WHOLE if len(batch) == 1 else ALONE
+    try:
+        names, is_refused, seconds = refused(crate, [edit for edit, _ in batch], room, asked)
+    except NoVerdict as why:
+        return [(edit, left, str(why)[-200:]) for edit, _ in batch]
+    cost = f"{seconds} s for {len(batch)}"
     # A constant, which is tried alone, may be any function's: those of its module are tried first.
     if not batch[0][1][1] and is_refused:
-        return [(batch[0][0], True)]
-    return [(edit, is_named(place, names) or None) for edit, place in batch]
+        return [(batch[0][0], True, f"{goal_in(next(iter(names.values()), ''))}, {cost}")]
+    reasons = [(edit, reason(place, names)) for edit, place in batch]
+    return [(edit, left if why is None else True, cost if why is None else f"{goal_in(why)}, {cost}") for edit, why in reasons]
 
 
-def tried_alone(crate, edit, room):
-    """An edit with whether any function of its crate is refused."""
-    return [(edit, refused(crate, [edit], room)[1])]
+def tried_whole(crate, edit, room):
+    """An edit with whether any function of its crate is refused, and which."""
+    try:
+        names, is_refused, seconds = refused(crate, [edit], room)
+    except NoVerdict as why:
+        return [(edit, NO_VERDICT, str(why)[-400:])]
+    return [(edit, is_refused, f"{' '.join(f'{name} {goal_in(why)}' for name, why in names.items())[:200]}, {seconds} s")]
 
 
-def copied(room):
-    """Copies what a check reads: the crates' files, and their libraries as links, since a check replaces such a library and changes no file of it."""
+def copied(room, names):
+    """Copies what checks of these crates read: the files of crates, and their libraries as links, since a check replaces such a library and changes no file of
+    it."""
     shutil.rmtree(room, ignore_errors=True)
     (room / "crates").mkdir(parents=True)
-    for name in ("crates.txt", "HANDLES"):
-        shutil.copy(TOP / name, room / name)
-    for crate in sorted((TOP / "crates").iterdir()):
+    shutil.copy(TOP / "HANDLES", room / "HANDLES")
+    below = listed()
+    read = set().union(*(needed(name, below) for name in names))
+    # The list names no crate that has no folder here.
+    lines = (TOP / "crates.txt").read_text(encoding="utf-8").splitlines(keepends=True)
+    (room / "crates.txt").write_text("".join(line for line in lines if re.split(r"[ :]", line)[0] in read or line.startswith("#")), encoding="utf-8")
+    for name in sorted(read):
+        crate = TOP / "crates" / name
         folder = laid(crate, room)
         folder.mkdir(exist_ok=True)
         if (crate / "out" / "rlib").is_dir():
@@ -183,8 +232,21 @@ def copied(room):
     subprocess.run(["git", "init", "-q", room], check=True)
 
 
-def all_tried(names, rooms):
-    """Each edit of these crates with whether it is refused, or none if it is yet to be tried alone, as soon as it is known."""
+def asked_for(words):
+    """The edits that are asked for, by their crates: of each crate that is named all, or those that are named with it."""
+    wanted = {}
+    for word in words:
+        name, _, edit = word.partition("/")
+        crate = TOP / "crates" / name
+        found = sorted([*crate.glob(f"must-fail/{edit or '*'}.edit"), *crate.glob(f"edits/{edit or '*'}.edit")])
+        if not crate.is_dir() or edit and not found:
+            sys.exit(f"no {'edit' if edit else 'crate'} {word}")
+        wanted.setdefault(crate, []).extend(found)
+    return wanted
+
+
+def all_tried(wanted, rooms):
+    """Each of these edits with whether it is refused, or how it is tried next, as soon as it is known."""
     free = SimpleQueue()
     for room in rooms:
         free.put(room)
@@ -196,41 +258,40 @@ def all_tried(names, rooms):
         finally:
             free.put(room)
 
-    crates = [TOP / "crates" / name for name in names]
-    tasks = [(crate, batch) for crate in crates for batch in batches(crate, sorted([*crate.glob("must-fail/*.edit"), *crate.glob("edits/*.edit")]))]
+    tasks = [(crate, batch) for crate, edits in wanted.items() for batch in batches(crate, edits)]
     with ThreadPoolExecutor(len(rooms)) as pool:
         running = {pool.submit(in_room, tried, crate, batch) for crate, batch in tasks}
         while running:
             ended, running = wait(running, return_when=FIRST_COMPLETED)
             for task in ended:
                 crate, found = task.result()
-                running |= {pool.submit(in_room, tried_alone, crate, edit) for edit, is_refused in found if is_refused is None}
+                running |= {pool.submit(in_room, tried, crate, [(edit, place_of(crate, edit))]) for edit, came, _ in found if came == ALONE}
+                running |= {pool.submit(in_room, tried_whole, crate, edit) for edit, came, _ in found if came == WHOLE}
                 yield from found
 
 
 def main():
     parser = argparse.ArgumentParser(description=__doc__, formatter_class=argparse.RawDescriptionHelpFormatter)
     parser.add_argument("--jobs", type=int, default=default_jobs(), help="how many checks at once")
-    parser.add_argument("crates", nargs="*", metavar="CRATE", help="only the edits of these crates")
+    parser.add_argument("--log", type=Path, metavar="FILE", help="where all goes that the checks say")
+    parser.add_argument("asked", nargs="*", metavar="CRATE", help="only the edits of this crate, or of CRATE/EDIT this one")
     asked = parser.parse_args()
+    LOG.extend([asked.log.resolve()] if asked.log else [])
     folders = [*TOP.glob("crates/*/must-fail"), *TOP.glob("crates/*/edits")]
-    names = asked.crates or sorted({folder.parent.name for folder in folders})
-    unknown = [name for name in names if not (TOP / "crates" / name).is_dir()]
-    if unknown:
-        parser.error(f"no crate {unknown[0]}")
+    wanted = asked_for(asked.asked or sorted({folder.parent.name for folder in folders}))
     rooms = [TOP / f".edits-{os.getpid()}-{number}" for number in range(max(1, asked.jobs))]
     counts = dict.fromkeys(SAID, 0)
     try:
         for room in rooms:
-            copied(room)
-        for edit, is_refused in all_tried(names, rooms):
-            counts[is_refused] += 1
-            print(f"{edit.relative_to(TOP)}: {SAID[is_refused]}", flush=True)
+            copied(room, [crate.name for crate in wanted])
+        for edit, came, said in all_tried(wanted, rooms):
+            counts[came] += 1
+            print(f"{edit.relative_to(TOP)}: {SAID[came]} ({said})", flush=True)
     finally:
         for room in rooms:
             shutil.rmtree(room, ignore_errors=True)
-    print(f"{counts[True]} refused, {counts[False]} not refused")
-    return 1 if counts[False] else 0
+    print(f"{counts[True]} refused, {counts[False]} not refused, {counts[NO_VERDICT]} without a verdict")
+    return 1 if counts[False] or counts[NO_VERDICT] else 0
 
 
 if __name__ == "__main__":
