@@ -18,6 +18,8 @@ import shutil
 import subprocess
 import sys
 from concurrent.futures import FIRST_COMPLETED, ThreadPoolExecutor, wait
+from functools import lru_cache
+from importlib.machinery import SourceFileLoader
 from pathlib import Path
 from queue import SimpleQueue
 
@@ -30,8 +32,8 @@ FUNCTION = re.compile(r"^ *(?:pub(?:\([a-z]+\))? )?(?:const )?fn (\w+)", re.MULT
 IMPL = re.compile(r"^impl(?:<.*?>)? (?:(?:\w+::)*(\w+)(?:<[^{]*?>)? for )?&?(?:\w+::)*(\w+)[^\n]*$|^(\})$", re.MULTILINE)
 # `not proved` says that a goal of the function fails; `no proof` that it lacks something, which may be the proof of what it calls alone.
 FAILED = re.compile(r"^fn (\S+): (no proof|not proved)(.*)$", re.MULTILINE)
-# The part of a goal's name in what the prover says of a function.
-GOAL = re.compile(r"`([a-z]\w*-[\w-]+)`")
+# The goals that the prover names in what it says of a function.
+GOALS = re.compile(r"did not prove ((?:`[^`]*`(?:, | and )?)+)")
 # What is printed of an edit, by whether it is refused; where it isn't yet, how it is tried next.
 ALONE, WHOLE, NO_VERDICT = "alone", "whole", "NO VERDICT"
 SAID = {True: "refused", False: "NOT REFUSED", ALONE: ALONE, WHOLE: WHOLE, NO_VERDICT: NO_VERDICT}
@@ -132,6 +134,15 @@ def laid(crate, room):
     return folder
 
 
+@lru_cache(maxsize=None)
+def check_of(folder):
+    """The prover's words for a check of a crate, as `rt check` makes them; that would sum all sources below the crate each time."""
+    kit = Path(shutil.which("rt") or sys.exit("there is no rt: the Rattle kit has it")).resolve().parent
+    rtlib = SourceFileLoader("rtlib", str(kit / "rtlib.py")).load_module()
+    crate = rtlib.Crate(str(folder), rtlib.root_above(str(folder)), {})
+    return (rtlib.RATTLE, "check", *crate.words(["--jobs", "1"]), *rtlib.KEPT)
+
+
 def ran(words, folder):
     """Runs a command in a folder; its exit status, what it said, and the processor seconds of all that it started."""
     with subprocess.Popen(words, cwd=folder, text=True, errors="replace", stdout=subprocess.PIPE, stderr=subprocess.STDOUT) as run:
@@ -154,7 +165,7 @@ def refused(crate, edits, room, asked=()):
     for path, text in changed(crate, edits).items():
         (folder / path).write_text(text, encoding="utf-8")
     only = [word for path in asked for word in ("--only", path)]
-    status, said, seconds = ran([sys.executable, TOP / "scripts" / "rt.py", "check", "--jobs", "1", *only], folder)
+    status, said, seconds = ran([*check_of(folder), *only], folder)
     laid(crate, room)
     shutil.rmtree(kept, ignore_errors=True)
     for log in LOG:
@@ -162,7 +173,7 @@ def refused(crate, edits, room, asked=()):
             file.write(f"== {crate.name} {' '.join(edit.stem for edit in edits)}\n{said}")
     failed = FAILED.findall(said)
     if status not in (0, 1) or status == 1 and not failed:
-        raise NoVerdict(f"{crate.name} {' '.join(edit.stem for edit in edits)}: {said[-1000:]}")
+        raise NoVerdict(" ".join(said.split())[-300:])
     is_refused = status == 1 and any(name.startswith(f"{crate.name}::") for name, _, _ in failed)
     return {name: why for name, what, why in failed if what == "not proved" or not CALLS.match(why)}, is_refused, seconds
 
@@ -183,7 +194,8 @@ def reason(place, names):
 
 def goal_in(why):
     """The goals that are named in what is said of a function, or else its first words."""
-    return " ".join(dict.fromkeys(GOAL.findall(why))) or why.lstrip(": ")[:100]
+    found = GOALS.search(why)
+    return found[1].replace("`", "") if found else why.lstrip(":; ")[:100] or "by its file of answers"
 
 
 def tried(crate, batch, room):
@@ -193,7 +205,7 @@ def tried(crate, batch, room):
     try:
         names, is_refused, seconds = refused(crate, [edit for edit, _ in batch], room, asked)
     except NoVerdict as why:
-        return [(edit, left, str(why)[-200:]) for edit, _ in batch]
+        return [(edit, left, str(why)) for edit, _ in batch]
     cost = f"{seconds} s for {len(batch)}"
     # A constant, which is tried alone, may be any function's: those of its module are tried first.
     if not batch[0][1][1] and is_refused:
@@ -207,7 +219,7 @@ def tried_whole(crate, edit, room):
     try:
         names, is_refused, seconds = refused(crate, [edit], room)
     except NoVerdict as why:
-        return [(edit, NO_VERDICT, str(why)[-400:])]
+        return [(edit, NO_VERDICT, str(why))]
     return [(edit, is_refused, f"{' '.join(f'{name} {goal_in(why)}' for name, why in names.items())[:200]}, {seconds} s")]
 
 
@@ -258,7 +270,8 @@ def all_tried(wanted, rooms):
         finally:
             free.put(room)
 
-    tasks = [(crate, batch) for crate, edits in wanted.items() for batch in batches(crate, edits)]
+    # The checks of many edits come first: each reads what its crate stands on.
+    tasks = sorted(((crate, batch) for crate, edits in wanted.items() for batch in batches(crate, edits)), key=lambda task: -len(task[1]))
     with ThreadPoolExecutor(len(rooms)) as pool:
         running = {pool.submit(in_room, tried, crate, batch) for crate, batch in tasks}
         while running:
