@@ -5,7 +5,7 @@ python3 scripts/edits.py [--jobs N] [--log FILE] [CRATE | CRATE/EDIT ...]
 
 Wants the crates proved (scripts/prove.py). Works in N copies of the crates, in folders .edits-PID-0 and so on: else as many as there are processors with
 5 GiB of memory each. Edits of different functions of a crate are tried by one check of these functions alone, and each counts as refused where its own
-function is, for another reason than a call of one that is not proved. An edit of a constant is tried by a check of its module.
+function is, for another reason than a call of one that is not proved. An edit of a constant is tried by a check of its module, of a definition by the whole.
 What isn't refused so is tried by itself, and what isn't refused then by a check of the whole crate, where any function of it may be: its lines then say
 `alone` and `whole` first, and what came of it later. A line an edit, as soon as it is tried, with the goal that the prover names and the processor seconds
 of its check; the last line counts them. With --log all that the checks say goes behind what FILE has. Fails where one is proved, has no verdict, or doesn't
@@ -200,6 +200,9 @@ def goal_in(why):
 
 def tried(crate, batch, room):
     """Each edit of the batch with whether it is refused, or how it is tried next; and what is said of it."""
+    # A definition, which is tried alone, is no function's.
+    if batch[0][1][0].endswith(".antt::"):
+        return [(batch[0][0], WHOLE, "a definition")]
     asked = sorted({checked(crate, place) for _, place in batch})
     left = WHOLE if len(batch) == 1 else ALONE
     try:
