@@ -11,7 +11,9 @@ mod gdb;
 mod hints;
 mod laws;
 mod line;
+mod names_use;
 mod prompting;
+mod words;
 
 pub use bundles::{bundle, bundled};
 pub use dispatch::{Invocation, Terminals, program};

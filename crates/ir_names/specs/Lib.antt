@@ -1,0 +1,4 @@
+pub mod Things
+pub mod Lines
+pub mod Naming
+pub mod Taken
