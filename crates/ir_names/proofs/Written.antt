@@ -3,6 +3,7 @@ use Rattle.std.proofs.Common.{◌≡◌, ◌≤◌, ◌<◌, ℕ, zero, suc, Boo
 use Rattle.std.proofs.Common.{refl, sym, ap, ◌∙◌, subst, arith, append-nil}
 use Rattle.std.specs.Prelude.{Option, Some, None}
 use Rattle.std.specs.Io.KnownBytes.{Appends, Keeps}
+use Rattle.std.proofs.lemmas.List.{take_all}
 use Rattle.std.proofs.KnownBytes.{Appends-trans}
 use Rattle.ir_stream.specs.Answers.{AppendsPrefix}
 use Rattle.ir_names.specs.Naming.{Reached, after, is_end, named, shown, tag}
@@ -38,17 +39,13 @@ kept_in_name names r was is old new e f a =
     ap (λ (z : Bool). part_of names r z (length a.part)) f ∙ ap (take (length a.part)) a.splits ∙ first_part a.part a.more in
     kept_in_part names r was is (length a.part) old new e (subst (λ p. Appends old new p) (sym part) a.grown)
 
-whole_part : (text : List ℕ) → take (length text) text ≡ text
-whole_part [] = refl
-whole_part (b ∷ text) = ap (λ (rest : List ℕ). b ∷ rest) (whole_part text)
-
 -- it took a name, and nothing more
 pub kept_after_name : (names : NameTable) (r : Reached) (was is : Bool) (old mid new : Option (List ℕ)) → was ≡ false → is ≡ true
     → Appends old mid (tag names r) → Keeps mid new → Keeps (known_plain names r was old) (known_plain names r is new)
 kept_after_name names r was is old mid new e f a kept =
     let whole = tag names r in
     let part : part_of names r is (length whole) ≡ whole ++ [] =
-    ap (λ (z : Bool). part_of names r z (length whole)) f ∙ whole_part whole ∙ sym (append-nil whole) in
+    ap (λ (z : Bool). part_of names r z (length whole)) f ∙ take_all (length whole) whole (omega arith) ∙ sym (append-nil whole) in
     kept_in_part names r was is (length whole) old new e
     (subst (λ p. Appends old new p) (sym part) (Appends-trans old mid new whole [] a (nothing_by_kept mid new kept)))
 

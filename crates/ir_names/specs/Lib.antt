@@ -2,3 +2,4 @@ pub mod Things
 pub mod Lines
 pub mod Naming
 pub mod Taken
+pub mod Words

@@ -13,6 +13,7 @@ mod table;
 #[cfg(test)]
 mod tests;
 mod thing;
+mod words;
 
 pub use names_err::NamesErr;
 pub use place::Place;
@@ -21,3 +22,4 @@ pub use reading::read_names;
 pub use sink::NamedSink;
 pub use table::Names;
 pub use thing::Thing;
+pub use words::{NamesSplit, split_words};

@@ -25,7 +25,7 @@ const WORDS: &[u8] = b"words";
 const PC: &[u8] = b"pc";
 
 // The most words of an object whose values are named in a line.
-const MOST_WORDS: u8 = 64;
+const MOST_SHOWN_WORDS: u8 = 64;
 
 /// Whether a word ends at a byte.
 pub fn is_end(byte: u8) -> bool
@@ -87,7 +87,7 @@ pub fn next_place(place: Place, word: &[u8]) -> Place
     match place {
         Place::Object if decimal(word).is_some() => Place::Held,
         Place::Held if word == WORDS => Place::Words(0),
-        Place::Words(index) if address(word).is_some() && index < MOST_WORDS - 1 => {
+        Place::Words(index) if address(word).is_some() && index < MOST_SHOWN_WORDS - 1 => {
             Place::Words(index + 1)
         }
         _ => place_behind(word),

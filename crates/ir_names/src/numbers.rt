@@ -7,13 +7,13 @@ use hex::FromHex;
 use ir_numerals::number_in;
 
 // The most decimal digits of a number.
-const MOST_DIGITS: usize = 10;
+const MOST_NUMBER_DIGITS: usize = 10;
 
 /// The number that 1 to 10 decimal digits write.
 pub fn decimal(word: &[u8]) -> Option<u64>
     ensures { result ≡ decimal_in word.now }
 {
-    match number_in(MOST_DIGITS, 0, word) {
+    match number_in(MOST_NUMBER_DIGITS, 0, word) {
         Some(number) => Some(number as u64),
         None => None,
     }

@@ -15,7 +15,7 @@ use ir_command::next_word;
 use std::alloc::Global;
 
 // How many digits an address has.
-const DIGITS: usize = 8;
+const ADDRESS_DIGITS: usize = 8;
 
 // The words of lines.
 const THREAD: &[u8] = b"thread";
@@ -104,10 +104,10 @@ fn row_behind(address: u32, behind: &[u8]) -> Option<Row<'_>>
 fn row_in(line: &[u8]) -> Option<Row<'_>>
     ensures { option_map (λ row. (row.0, row.1.now)) result ≡ row_in line.now }
 {
-    if line.len() < DIGITS {
+    if line.len() < ADDRESS_DIGITS {
         return row_by_words(line);
     }
-    let (digits, behind) = line.split_at(DIGITS);
+    let (digits, behind) = line.split_at(ADDRESS_DIGITS);
     match address(digits) {
         Some(address) => row_behind(address, behind),
         None => row_by_words(line),

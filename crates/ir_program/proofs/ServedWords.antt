@@ -21,7 +21,7 @@ use Rattle.ir_names.proofs.CallerLemmas.{TakesNamed}
 use Rattle.ir_program.specs.Doing.{Does}
 use Rattle.ir_program.specs.Named.{DoesNamed, HasFaultyName, LacksNames, PutsNames, Serves, ServesBy, ServesNamed, TookNamed, names_status, use_of}
 use Rattle.ir_program.specs.Serving.{ServesWords}
-use Rattle.ir_program.specs.Words.{NamesSplit, only_file, split_words, wants_names}
+use Rattle.ir_names.specs.Words.{NamesSplit, only_file, split_words, wants_names}
 
 -- without memory nothing is done
 pub serves_without_memory : (b : Bool) (at : Paths) (stored : Storing) (words : List Text) (input : Option (List ℕ)) (out faults : Writer)

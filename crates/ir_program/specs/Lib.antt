@@ -6,4 +6,3 @@ pub mod Named
 pub mod Refused
 pub mod Serving
 pub mod Taking
-pub mod Words

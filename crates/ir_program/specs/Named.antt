@@ -20,7 +20,7 @@ use Rattle.ir_names.specs.declared.names_err.NamesErr.{NamesErr}
 use Rattle.ir_names.specs.declared.names_err.NamesErr.TheVariants as fault
 use Rattle.ir_program.specs.Doing.{Does, TellsWhyNot}
 use Rattle.ir_program.specs.Serving.{ServesWords}
-use Rattle.ir_program.specs.Words.{NamesSplit, only_file, split_words, wants_names}
+use Rattle.ir_names.specs.Words.{NamesSplit, only_file, split_words, wants_names}
 use Rattle.ir_program.specs.declared.names_use.NamesUse.{NamesUse}
 use Rattle.ir_program.specs.declared.names_use.NamesUse.TheVariants.{Unasked, NotTaken, Named}
 

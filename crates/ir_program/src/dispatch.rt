@@ -17,7 +17,6 @@ use crate::debug::{debug_files, gdb_files};
 use crate::ends_once::EndsOnce;
 use crate::names_use::NamesUse;
 use crate::prompting::Prompting;
-use crate::words::{NamesSplit, split_words};
 use ir_arguments::{Asked, DebugArguments, Explored, Make, Print, parsed};
 use ir_commands::{
     Surroundings, assemble_file, bytes_of, classes_file, convert_file, diff_files, events_file,
@@ -25,7 +24,7 @@ use ir_commands::{
     stale_file, trace_file, until_file, view_file, who_file, why_file, within_file,
 };
 use ir_files::{ExitStatus, Folder, MOST_FILE_BYTES};
-use ir_names::{NamedSink, NamesErr, read_names};
+use ir_names::{NamedSink, NamesErr, NamesSplit, read_names, split_words};
 use ir_object::{Gate, Given};
 use ir_search::Observer;
 use ir_stream::{Sink, Source, write_all};
@@ -367,14 +366,7 @@ where
 {
     let alloc = around.rt.alloc();
     let mut asked = parsed(alloc, invocation.arguments);
-    let status = serve(
-        around,
-        invocation.terminals,
-        &mut asked,
-        input,
-        out,
-        faults,
-    );
+    let status = serve(around, invocation.terminals, &mut asked, input, out, faults);
     explain(alloc, around.folder, &asked, status, faults);
     status
 }
@@ -441,7 +433,7 @@ where
     requires writes { O.broken out.old.sink ≡ false }
     requires reports { E.broken faults.old ≡ false }
     ensures { (told : Writer) × DoesByFile (D.bytes_at around.now.folder.now) (storing D.known D.known_closed (D.knows around.now.folder.now) (D.was_put around.now.folder.now))
-        (option_map (λ file. file.now) request.file) request.lists asked.old result (I.left input)
+        (option_map (λ file. file.now) request.entry.file) request.entry.lists asked.old result (I.left input)
         (writer_of (O.written out.old.sink) (O.written out.new.sink) (O.broken out.new.sink)) told (out.new.sink ≡ out.old.sink)
         × (result ≢ exit.Refused → told ≡ writer_of (E.written faults.old) (E.written faults.new) (E.broken faults.new)) }
 {

@@ -13,7 +13,6 @@ mod laws;
 mod line;
 mod names_use;
 mod prompting;
-mod words;
 
 pub use bundles::{bundle, bundled};
 pub use dispatch::{Invocation, Terminals, program};

@@ -1,8 +1,8 @@
 //! The words that name a file of names, and the others.
 
-ghost use Rattle.std.specs.Prelude.{◌≡◌, IfOk, OnOk, map, option_map};
+ghost use Rattle.std.specs.Prelude.{◌≡◌, [], ◌∷◌, ◌++◌, drop, fold, true, false, IfOk, MatchOption, OnOk, map, option_map};
 ghost use Rattle.std.specs.String.{string_bytes};
-ghost use Rattle.ir_program.specs.Words.{split_words};
+ghost use Rattle.ir_names.specs.Words.{has_file, split_word, split_words};
 
 use std::alloc::{AllocError, Global};
 use std::marker::Model;
@@ -23,18 +23,31 @@ pub struct NamesSplit<'a> {
 impl<'a> Model for NamesSplit<'a> {
     ghost use Rattle.std.specs.Prelude.{map, option_map};
     ghost use Rattle.std.specs.String.{string_bytes};
-    ghost use Rattle.ir_program.specs.Words.{NamesSplit};
+    ghost use Rattle.ir_names.specs.Words.{NamesSplit};
 
     ghost Value = { NamesSplit };
 
     ghost view = { λ s. record { file = option_map (λ file. file.now) s.file; others = map string_bytes s.others.items; takes = s.takes; places = s.places; twice = s.twice } };
 }
 
-// What begins the word that has the file in it.
-const WITH_FILE: &str = "--names=";
+// Puts a word at the end of others.
+fn push_word(alloc: Global, words: &mut Vec<String>, word: &str) -> Result<(), AllocError>
+    ensures { OnOk result (map string_bytes words.new.items ≡ map string_bytes words.old.items ++ word.now ∷ []) }
+{
+    let word = String::from_str(alloc, word)?;
+    words.push(word)?;
+    Ok(())
+}
+
+// The file in a word, if it has one.
+fn file_in(word: &str) -> Option<&str>
+    ensures { MatchOption result (has_file word.now ≡ false) (λ file. (has_file word.now ≡ true) × (file.now ≡ drop 8 word.now)) }
+{
+    word.strip_prefix("--names=")
+}
 
 impl<'a> NamesSplit<'a> {
-    ghost use Rattle.ir_program.specs.Words.{no_words, with_file, with_other, with_option, split_word, wants_names, only_file};
+    ghost use Rattle.ir_names.specs.Words.{no_words, with_file, with_other, with_option, split_word, wants_names, only_file};
 
     // Before the first word.
     fn new(alloc: Global) -> NamesSplit<'a>
@@ -53,9 +66,7 @@ impl<'a> NamesSplit<'a> {
     fn add_other(&mut self, alloc: Global, word: &str) -> Result<(), AllocError>
         ensures { OnOk result (self.new ≡ with_other self.old word.now) }
     {
-        let word = String::from_str(alloc, word)?;
-        self.others.push(word)?;
-        Ok(())
+        push_word(alloc, &mut self.others, word)
     }
 
     // Adds a file of names.
@@ -75,7 +86,7 @@ impl<'a> NamesSplit<'a> {
             self.takes = true;
             return Ok(());
         }
-        if let Some(path) = word.strip_prefix(WITH_FILE) {
+        if let Some(path) = file_in(word) {
             self.add_file(path);
             return Ok(());
         }
@@ -125,6 +136,20 @@ impl<'a> NamesSplit<'a> {
     }
 }
 
+// Adds these words, of which none is the program's name.
+fn add_all<'a>(
+    alloc: Global,
+    split: &mut NamesSplit<'a>,
+    words: &'a [String],
+) -> Result<(), AllocError>
+    ensures { OnOk result (split.new ≡ fold split_word split.old (map string_bytes words.now)) }
+{
+    for word in words {
+        split.add(alloc, word.as_str())?;
+    }
+    Ok(())
+}
+
 /// The words, of which the first is the program's name, in two parts.
 ///
 /// # Errors
@@ -133,12 +158,10 @@ pub fn split_words(alloc: Global, words: &[String]) -> Result<NamesSplit<'_>, Al
     ensures { IfOk result (λ split. split ≡ split_words (map string_bytes words.now)) }
 {
     let mut split = NamesSplit::new(alloc);
-    let [name, words @ ..] = words else {
+    let Some((name, others)) = words.split_first() else {
         return Ok(split);
     };
     split.add_other(alloc, name.as_str())?;
-    for word in words {
-        split.add(alloc, word.as_str())?;
-    }
+    add_all(alloc, &mut split, others)?;
     Ok(split)
 }

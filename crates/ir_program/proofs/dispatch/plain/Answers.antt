@@ -1,6 +1,6 @@
 use Rattle.std.proofs.Common.{ap, refl, sym}
 use Rattle.ir_files.specs.Writers.{writer_of}
-use Rattle.ir_program.proofs.dispatch.program.Goals as goal
+use Rattle.ir_program.proofs.dispatch.plain.Goals as goal
 
 pub returns : goal.returns
 returns g c = record {
