@@ -9,6 +9,7 @@ use Rattle.ir_arguments.specs.declared.asked.Asked.TheVariants as asked
 use Rattle.ir_commands.specs.Files.{IsFileIn, TellsFault}
 use Rattle.ir_commands.specs.Printing.{Paths}
 use Rattle.ir_commands.specs.Writing.{Storing}
+use Rattle.ir_commands.proofs.CallerLemmas.{unchanged_goes_on}
 use Rattle.ir_files.specs.Writers.{Writer}
 use Rattle.ir_files.specs.declared.exit_status.ExitStatus.{ExitStatus}
 use Rattle.ir_files.specs.declared.exit_status.ExitStatus.TheVariants as status
@@ -20,16 +21,20 @@ use Rattle.ir_names.specs.declared.names_err.NamesErr.TheVariants as fault
 use Rattle.ir_names.proofs.CallerLemmas.{TakesNamed}
 use Rattle.ir_program.specs.Doing.{Does}
 use Rattle.ir_program.specs.Named.{DoesNamed, HasFaultyName, LacksNames, PutsNames, Serves, ServesBy, ServesNamed, TookNamed, names_status, use_of}
-use Rattle.ir_program.specs.Serving.{ServesWords}
+use Rattle.ir_program.specs.Serving.{MayExplain, ServesWords}
 use Rattle.ir_names.specs.Words.{NamesSplit, only_file, split_words, wants_names}
+
+-- nothing more is told
+explains_nothing : (answered : ExitStatus) (faults : Writer) → MayExplain answered faults faults
+explains_nothing answered faults = record { begins = refl; goes_on = unchanged_goes_on faults.after; no_more = λ _. refl; broken = λ _. refl }
 
 -- without memory nothing is done
 pub serves_without_memory : (b : Bool) (at : Paths) (stored : Storing) (words : List Text) (input : Option (List ℕ)) (out faults : Writer)
     (unprinted : Type 0) → unprinted → TellsFault faults → ServesBy b at stored words status.Failed input out faults unprinted
 serves_without_memory true at stored words input out faults unprinted kept told =
-    record { asked = asked.NoMem; is_asked = inl refl; told = faults; done = (refl, kept, told); no_more = λ _. refl }
+    record { asked = asked.NoMem; is_asked = inl refl; done = (refl, kept, told) }
 serves_without_memory false at stored words input out faults unprinted kept told =
-    record { asked = asked.NoMem; is_asked = inl refl; told = faults; done = (refl, kept, told); no_more = λ _. refl }
+    record { asked = asked.NoMem; is_asked = inl refl; told = faults; done = (refl, kept, told); explained = explains_nothing status.Failed faults }
 
 -- words that name no file of names are served as they are
 pub serves_plain : (at : Paths) (stored : Storing) (words : List Text) (split : NamesSplit) (b : Bool) (answered : ExitStatus) (input : Option (List ℕ))

@@ -1,5 +1,5 @@
 -- What the program does by words that may name a file of names.
-use Rattle.std.specs.Prelude.{◌≡◌, ◌≢◌, ◌⊎◌, ℕ, Bool, true, false, List, [], ◌∷◌, ◌++◌, take, Option, Some, None, IfSome, Ok, Err}
+use Rattle.std.specs.Prelude.{◌≡◌, ◌⊎◌, ℕ, Bool, true, false, List, [], ◌∷◌, ◌++◌, take, Option, Some, None, IfSome, Ok, Err}
 use Rattle.clap.specs.Words.{Text}
 use Rattle.ir_arguments.specs.Parsing.{IsAskedBy}
 use Rattle.ir_arguments.specs.Views.{request_view}
@@ -19,7 +19,7 @@ use Rattle.ir_names.specs.Things.{NameTable}
 use Rattle.ir_names.specs.declared.names_err.NamesErr.{NamesErr}
 use Rattle.ir_names.specs.declared.names_err.NamesErr.TheVariants as fault
 use Rattle.ir_program.specs.Doing.{Does, TellsWhyNot}
-use Rattle.ir_program.specs.Serving.{ServesWords}
+use Rattle.ir_program.specs.Serving.{MayExplain, ServesWords}
 use Rattle.ir_names.specs.Words.{NamesSplit, only_file, split_words, wants_names}
 use Rattle.ir_program.specs.declared.names_use.NamesUse.{NamesUse}
 use Rattle.ir_program.specs.declared.names_use.NamesUse.TheVariants.{Unasked, NotTaken, Named}
@@ -85,7 +85,7 @@ abbrev pub LacksNames : Option (List ℕ) → ExitStatus → Writer → Type 0 �
 LacksNames known answered faults unprinted =
     ((answered ≡ status.Failed) ⊎ ((answered ≡ status.Refused) × IfSome known HasFaultyName)) × unprinted × TellsFault faults
 
--- the names of the file were read, and the request was done with them
+-- The names of the file were read, and the request was done with them. After that standard error may say what a refused image is.
 pub record DoesWithNames (at : Paths) (stored : Storing) (known : Option (List ℕ)) (lists : Bool) (what : Asked) (answered : ExitStatus)
     (input : Option (List ℕ)) (out faults : Writer) (unprinted : Type 0) : Type 0 where
   pub file : List ℕ
@@ -93,8 +93,10 @@ pub record DoesWithNames (at : Paths) (stored : Storing) (known : Option (List �
   pub names : NameTable
   pub are_names : names_at file ≡ Ok names
   pub plain : Writer
-  pub done : Does at stored what answered input plain faults unprinted
+  pub told : Writer
+  pub done : Does at stored what answered input plain told unprinted
   pub puts : PutsNames names lists plain out
+  pub explained : MayExplain answered told faults
 
 -- a request that takes names, with the file that is named, if exactly one is
 abbrev pub DoesByFile : Paths → Storing → Option Text → Bool → Asked → ExitStatus → Option (List ℕ) → Writer → Writer → Type 0 → Type 0
@@ -110,14 +112,12 @@ DoesNamed (Named lists) at stored file what answered input out faults unprinted 
 
 -- ---- the words
 
--- The words but those about names, which these are, ask for a request, and it was done. After that standard error may say what a refused image is.
+-- the words but those about names ask for a request, and it was done with the file that is named
 pub record ServesNamed (at : Paths) (stored : Storing) (split : NamesSplit) (answered : ExitStatus) (input : Option (List ℕ)) (out faults : Writer)
     (unprinted : Type 0) : Type 0 where
   pub asked : Asked
   pub is_asked : IsAskedBy split.others (request_view asked)
-  pub told : Writer
-  pub done : DoesNamed (use_of asked) at stored (only_file split) asked answered input out told unprinted
-  pub no_more : answered ≢ status.Refused → told ≡ faults
+  pub done : DoesNamed (use_of asked) at stored (only_file split) asked answered input out faults unprinted
 
 -- words without a file of names are served as they are
 abbrev pub ServesBy : Bool → Paths → Storing → List Text → ExitStatus → Option (List ℕ) → Writer → Writer → Type 0 → Type 0

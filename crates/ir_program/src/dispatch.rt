@@ -1,8 +1,8 @@
 //! What the program does by its arguments, over streams and a folder.
 
-ghost use Rattle.std.specs.Prelude.{◌≡◌, ◌≢◌, false, map, option_map};
+ghost use Rattle.std.specs.Prelude.{◌≡◌, ◌≢◌, true, false, map, option_map};
 ghost use Rattle.std.specs.String.{string_bytes};
-ghost use Rattle.ir_files.specs.Writers.{Writer, writer_of};
+ghost use Rattle.ir_files.specs.Writers.{writer_of};
 ghost use Rattle.ir_files.specs.declared.exit_status.ExitStatus.TheVariants as exit;
 ghost use Rattle.ir_commands.specs.Files.{GoesOn, TellsFault};
 ghost use Rattle.ir_commands.specs.Writing.{storing};
@@ -269,7 +269,7 @@ fn other_of(asked: &Asked) -> Option<&str> {
     Some(within.other.as_str())
 }
 
-// Where an image was refused, it is reported what it is.
+// Where an image was refused, it is reported what it is, if faults can still be reported.
 fn explain_if<D: Folder, E: Sink>(
     alloc: Global,
     folder: &D,
@@ -278,8 +278,12 @@ fn explain_if<D: Folder, E: Sink>(
     faults: &mut E,
 )
     ensures kept { status ≢ exit.Refused → faults.new ≡ faults.old }
+    ensures broken { E.broken faults.old ≡ true → faults.new ≡ faults.old }
     ensures grows { GoesOn (E.written faults.old) (E.written faults.new) }
 {
+    if faults.failed() {
+        return;
+    }
     if let Some(image) = image {
         explain_image(alloc, folder, image, status, faults);
     }
@@ -294,6 +298,7 @@ fn explain<D: Folder, E: Sink>(
     faults: &mut E,
 )
     ensures kept { status ≢ exit.Refused → faults.new ≡ faults.old }
+    ensures broken { E.broken faults.old ≡ true → faults.new ≡ faults.old }
     ensures grows { GoesOn (E.written faults.old) (E.written faults.new) }
 {
     explain_if(alloc, folder, image_of(asked), status, faults);
@@ -432,10 +437,10 @@ where
     requires reads { I.broken input ≡ false }
     requires writes { O.broken out.old.sink ≡ false }
     requires reports { E.broken faults.old ≡ false }
-    ensures { (told : Writer) × DoesByFile (D.bytes_at around.now.folder.now) (storing D.known D.known_closed (D.knows around.now.folder.now) (D.was_put around.now.folder.now))
+    ensures { DoesByFile (D.bytes_at around.now.folder.now) (storing D.known D.known_closed (D.knows around.now.folder.now) (D.was_put around.now.folder.now))
         (option_map (λ file. file.now) request.entry.file) request.entry.lists asked.old result (I.left input)
-        (writer_of (O.written out.old.sink) (O.written out.new.sink) (O.broken out.new.sink)) told (out.new.sink ≡ out.old.sink)
-        × (result ≢ exit.Refused → told ≡ writer_of (E.written faults.old) (E.written faults.new) (E.broken faults.new)) }
+        (writer_of (O.written out.old.sink) (O.written out.new.sink) (O.broken out.new.sink))
+        (writer_of (E.written faults.old) (E.written faults.new) (E.broken faults.new)) (out.new.sink ≡ out.old.sink) }
 {
     let (alloc, folder) = (around.rt.alloc(), around.folder);
     let Some(path) = request.file else {
