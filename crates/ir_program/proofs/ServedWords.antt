@@ -66,12 +66,12 @@ serves_request at stored split words what names_are file answered input out faul
 }
 
 -- without a single file of names nothing is done
-pub tells_one_file : {X : Type 0} (text : X → Text) (file : Option X) (at : Paths) (stored : Storing) (lists : Bool) (what : Asked) (answered : ExitStatus)
+pub tells_one_file : {X : Type 0} (file : Option X) (text : X → Text) (at : Paths) (stored : Storing) (lists : Bool) (what : Asked) (answered : ExitStatus)
     (input : Option (List ℕ)) (out faults : Writer) (unprinted : Type 0) → ((path : X) → file ≡ Some path → ⊥)
     → TellsWhyNot status.BadArguments answered faults unprinted
     → DoesByFile at stored (option_map text file) lists what answered input out faults unprinted
-tells_one_file text None at stored lists what answered input out faults unprinted none told = told
-tells_one_file text (Some path) at stored lists what answered input out faults unprinted none told = absurd (none path refl)
+tells_one_file None text at stored lists what answered input out faults unprinted none told = told
+tells_one_file (Some path) text at stored lists what answered input out faults unprinted none told = absurd (none path refl)
 
 -- a file of names that isn't taken
 pub lacks_names : (known : Option (List ℕ)) (bytes : List ℕ) (why : NamesErr) (answered : ExitStatus) (faults : Writer) (unprinted : Type 0)

@@ -1,10 +1,14 @@
-use Rattle.std.proofs.Common.{◌≡◌, ◌∙◌, Some, ap, inl, inr, refl, subst, sym}
+use Rattle.std.proofs.Common.{◌≡◌, ◌∙◌, ℕ, List, Option, Some, ap, inl, inr, refl, subst, sym}
+use Rattle.std.specs.Borrow.{Bor}
 use Rattle.std.specs.Prelude.{option_map}
 use Rattle.ir_commands.specs.Files.{TellsFault}
 use Rattle.ir_commands.specs.Writing.{storing}
 use Rattle.ir_files.specs.Writers.{writer_of}
+use Rattle.ir_files.specs.declared.exit_status.ExitStatus.TheVariants as exit
+use Rattle.ir_names.specs.Lines.{IsNamesFault, names_at}
+use Rattle.ir_names.specs.Taken.{known_plain}
 use Rattle.ir_program.specs.Doing.{Does}
-use Rattle.ir_program.specs.Named.{DoesByFile}
+use Rattle.ir_program.specs.Named.{DoesByFile, PutsNames}
 use Rattle.ir_program.proofs.NamedOutput.{named_request_weaker}
 use Rattle.ir_program.proofs.ServedWords.{lacks_names, puts_from_start, tells_one_file}
 use Rattle.ir_program.proofs.dispatch.with_names.Goals as goal
@@ -13,7 +17,7 @@ pub returns-in_default : goal.returns-in_default
 returns-in_default g c =
     let folder = c.args.around.now.folder.now in
     let stored = storing g.D.Folder.known g.D.Folder.known_closed (g.D.Folder.knows folder) (g.D.Folder.was_put folder) in
-    tells_one_file (λ file. file.now) c.args.request.file (g.D.Folder.bytes_at folder) stored c.args.request.lists c.args.asked.now c.told.result
+    tells_one_file c.args.request.file (λ file. file.now) (g.D.Folder.bytes_at folder) stored c.args.request.lists c.args.asked.now c.told.result
     (g.I.Source.left c.args.input)
     (writer_of (g.O.Sink.written c.args.out.now.sink) (g.O.Sink.written c.args.out.now.sink) (g.O.Sink.broken c.args.out.now.sink))
     (writer_of (g.E.Sink.written c.args.faults.now) (g.E.Sink.written c.told.new.faults) (g.E.Sink.broken c.told.new.faults))
@@ -26,7 +30,7 @@ returns-in_default-2 g c =
     let stored = storing g.D.Folder.known g.D.Folder.known_closed (g.D.Folder.knows folder) (g.D.Folder.was_put folder) in
     let out = writer_of (g.O.Sink.written c.args.out.now.sink) (g.O.Sink.written c.args.out.now.sink) (g.O.Sink.broken c.args.out.now.sink) in
     let faults = writer_of (g.E.Sink.written c.args.faults.now) (g.E.Sink.written c.bytes_of.new.faults) (g.E.Sink.broken c.bytes_of.new.faults) in
-    subst (λ file. DoesByFile at stored (option_map (λ path. path.now) file) c.args.request.lists c.args.asked.now exit.Failed (g.I.Source.left c.args.input)
+    subst (λ (file : Option (Bor (List ℕ))). DoesByFile at stored (option_map (λ path. path.now) file) c.args.request.lists c.args.asked.now exit.Failed (g.I.Source.left c.args.input)
     out faults (c.args.out.now.sink ≡ c.args.out.now.sink)) (sym c.in-Some.is)
     (inl (inl refl, refl, c.bytes_of.ensures.told c.in_default-bytes_of.is c.requires.reports))
 
@@ -37,7 +41,7 @@ returns-in-Err g c =
     let stored = storing g.D.Folder.known g.D.Folder.known_closed (g.D.Folder.knows folder) (g.D.Folder.was_put folder) in
     let out = writer_of (g.O.Sink.written c.args.out.now.sink) (g.O.Sink.written c.args.out.now.sink) (g.O.Sink.broken c.args.out.now.sink) in
     let faults = writer_of (g.E.Sink.written c.args.faults.now) (g.E.Sink.written c.names_refused.new.faults) (g.E.Sink.broken c.names_refused.new.faults) in
-    subst (λ file. DoesByFile at stored (option_map (λ path. path.now) file) c.args.request.lists c.args.asked.now c.names_refused.result
+    subst (λ (file : Option (Bor (List ℕ))). DoesByFile at stored (option_map (λ path. path.now) file) c.args.request.lists c.args.asked.now c.names_refused.result
     (g.I.Source.left c.args.input) out faults (c.args.out.now.sink ≡ c.args.out.now.sink)) (sym c.in-Some.is)
     (inl (lacks_names (at c.in-Some.path.now) c.in-Some-bytes_of.bytes.items c.in-Err.why c.names_refused.result faults (c.args.out.now.sink ≡ c.args.out.now.sink)
     c.in-Some-bytes_of.ensures.bytes (subst (λ b. IsNamesFault c.in-Err.why (names_at b)) c.as_slice.ensures.value c.in-Err.ensures.faulty)
@@ -64,7 +68,7 @@ returns g c =
     let plain = writer_of (known_plain begun.names begun.reached (g.O.Sink.broken begun.sink) (g.O.Sink.written begun.sink))
     (known_plain ended.names ended.reached (g.O.Sink.broken ended.sink) (g.O.Sink.written ended.sink)) (g.O.Sink.broken ended.sink) in
     let told = writer_of (g.E.Sink.written c.args.faults.now) (g.E.Sink.written told_to) (g.E.Sink.broken told_to) in
-    subst (λ file. DoesByFile at stored (option_map (λ path. path.now) file) lists what answered input out faults (ended.sink ≡ same)) (sym c.in-Some.is)
+    subst (λ (file : Option (Bor (List ℕ))). DoesByFile at stored (option_map (λ path. path.now) file) lists what answered input out faults (ended.sink ≡ same)) (sym c.in-Some.is)
     (inr (record {
       file = c.in-Some-bytes_of.bytes.items;
       is_file = c.in-Some-bytes_of.ensures.bytes;
