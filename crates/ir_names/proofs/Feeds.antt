@@ -5,7 +5,7 @@ use Rattle.std.proofs.lemmas.List.{take_rest}
 use Rattle.std.specs.Str.Lines.{strip_carriage_return}
 use Rattle.std.specs.Prelude.{Some, None, Result, Ok, Err, IfErr, IsErrAnd}
 use Rattle.ir_stream.specs.Answers.{SplitBytes, last_line, onto, split_lines}
-use Rattle.ir_names.specs.Lines.{IsLineFault, IsNamesFault, names_from, read_on, text_lines, with_line}
+use Rattle.ir_names.specs.Lines.{IsLineFault, IsNamesFault, names_from, read_on, text_lines, with_names_of_line}
 use Rattle.ir_names.specs.Things.{NameTable}
 use Rattle.ir_names.specs.declared.names_err.NamesErr.{NamesErr}
 use Rattle.ir_names.specs.declared.names_err.NamesErr.TheVariants as fault
@@ -103,13 +103,13 @@ line_without_feed text line back n e some f l g =
 -- ---- the names of a text, line by line
 
 pub names_of_first_line : (names more : NameTable) (number : ℕ) (text line after : List ℕ) → text_lines text ≡ line ∷ text_lines after
-    → with_line names line ≡ Some more → names_from names number (text_lines text) ≡ names_from more (number + 1) (text_lines after)
+    → with_names_of_line names line ≡ Some more → names_from names number (text_lines text) ≡ names_from more (number + 1) (text_lines after)
 unfolding names_from
 names_of_first_line names more number text line after e f =
     ap (names_from names number) e ∙ ap (read_on number (λ z. names_from z (number + 1) (text_lines after))) f
 
 pub names_of_faulty_line : (names : NameTable) (number : ℕ) (text line after : List ℕ) → text_lines text ≡ line ∷ text_lines after
-    → with_line names line ≡ None → names_from names number (text_lines text) ≡ Err number
+    → with_names_of_line names line ≡ None → names_from names number (text_lines text) ≡ Err number
 unfolding names_from
 names_of_faulty_line names number text line after e f =
     ap (names_from names number) e ∙ ap (read_on number (λ z. names_from z (number + 1) (text_lines after))) f
@@ -120,7 +120,7 @@ names_of_no_text names number [] e = refl
 names_of_no_text names number (b ∷ text) e = absurd (cc e)
 
 line_fault : (read : Result NameTable ℕ) (names : NameTable) (number : ℕ) (text line after : List ℕ) (e : NamesErr) → text_lines text ≡ line ∷ text_lines after
-    → names_from names (number + 1) (text_lines text) ≡ read → IsLineFault (number + 1) e (with_line names line) → IsNamesFault e read
+    → names_from names (number + 1) (text_lines text) ≡ read → IsLineFault (number + 1) e (with_names_of_line names line) → IsNamesFault e read
 line_fault read names number text line after (fault.Line n) f done is =
     sym done ∙ names_of_faulty_line names (number + 1) text line after f is.1 ∙ ap Err (sym is.0)
 line_fault read names number text line after fault.NoMem f done is = tt
@@ -128,7 +128,7 @@ line_fault read names number text line after fault.NoMem f done is = tt
 -- the fault of a line is that of the whole text
 pub read_fault : {X : Type 0} (read : Result NameTable ℕ) (names : NameTable) (number : ℕ) (text line after : List ℕ) (result : Result X NamesErr) (e : NamesErr)
     → text_lines text ≡ line ∷ text_lines after → names_from names (number + 1) (text_lines text) ≡ read → IsErrAnd result (λ f. f ≡ e)
-    → IsLineFault (number + 1) e (with_line names line) → IfErr result (λ f. IsNamesFault f read)
+    → IsLineFault (number + 1) e (with_names_of_line names line) → IfErr result (λ f. IsNamesFault f read)
 read_fault read names number text line after (Ok x) e f done is fails = tt
 read_fault read names number text line after (Err g) e f done is fails =
     subst (λ z. IsNamesFault z read) (sym is) (line_fault read names number text line after e f done fails)

@@ -1,8 +1,8 @@
 -- What a writer took of an answer with names, by what is known of the plain answer.
 use Rattle.std.proofs.Common.{◌≡◌, ◌-◌, ℕ, Bool, true, false, List, [], ◌++◌, length, take, refl, sym, ap, ◌∙◌, subst, append-nil}
 use Rattle.std.specs.Prelude.{Option, Some, None, option_map}
-use Rattle.ir_names.specs.Naming.{Reached, after, answer_start, named, tag}
-use Rattle.ir_names.specs.Taken.{begun_numbers, known_plain, plain_taken, with_part}
+use Rattle.ir_names.specs.Naming.{Reached, after_bytes, answer_start, text_with_names, tag}
+use Rattle.ir_names.specs.Taken.{begun_numbers, known_plain, plain_taken, with_begun_name}
 use Rattle.ir_names.specs.Things.{NameTable}
 use Rattle.ir_names.proofs.Grown.{named_if_taken, nothing_taken_at_start}
 use Rattle.ir_names.proofs.Codes.{same_begun}
@@ -10,22 +10,22 @@ use Rattle.ir_names.proofs.Codes.{same_begun}
 -- a writer took a text with names, and the first bytes of a name after it, if it has failed
 abbrev pub TakesNamed : NameTable → Bool → List ℕ → Bool → Option (List ℕ) → Type 0
 TakesNamed names lists text failed known = (begun : ℕ)
-    × (known ≡ Some (named names (answer_start lists) text ++ take begun (tag names (after (answer_start lists) text))))
+    × (known ≡ Some (text_with_names names (answer_start lists) text ++ take begun (tag names (after_bytes (answer_start lists) text))))
     × (failed ≡ false → begun ≡ 0)
 
 named_by_test : (names : NameTable) (r : Reached) (failed : Bool) (lists : Bool) (bytes text : List ℕ) → r.lists ≡ lists
-    → bytes ≡ with_part names r failed (length bytes) (named names (answer_start r.lists) text) → after (answer_start r.lists) text ≡ r
+    → bytes ≡ with_begun_name names r failed (length bytes) (text_with_names names (answer_start r.lists) text) → after_bytes (answer_start r.lists) text ≡ r
     → TakesNamed names lists text failed (Some bytes)
 named_by_test names r true lists bytes text l e f = (
-  length bytes - length (named names (answer_start lists) text),
-  ap Some (e ∙ ap (λ (m : Bool). named names (answer_start m) text ++ take (length bytes - length (named names (answer_start m) text)) (tag names r)) l
-      ∙ ap (λ (z : Reached). named names (answer_start lists) text ++ take (length bytes - length (named names (answer_start lists) text)) (tag names z))
-      (sym f ∙ ap (λ (m : Bool). after (answer_start m) text) l)),
+  length bytes - length (text_with_names names (answer_start lists) text),
+  ap Some (e ∙ ap (λ (m : Bool). text_with_names names (answer_start m) text ++ take (length bytes - length (text_with_names names (answer_start m) text)) (tag names r)) l
+      ∙ ap (λ (z : Reached). text_with_names names (answer_start lists) text ++ take (length bytes - length (text_with_names names (answer_start lists) text)) (tag names z))
+      (sym f ∙ ap (λ (m : Bool). after_bytes (answer_start m) text) l)),
   λ g. absurd (cc g),
 )
 named_by_test names r false lists bytes text l e f = (
   0,
-  ap Some (e ∙ ap (λ (m : Bool). named names (answer_start m) text ++ []) l),
+  ap Some (e ∙ ap (λ (m : Bool). text_with_names names (answer_start m) text ++ []) l),
   λ g. refl,
 )
 

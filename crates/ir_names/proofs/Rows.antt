@@ -4,13 +4,13 @@ use Rattle.std.specs.Map.{lookup}
 use Rattle.std.specs.Prelude.{Option, Some, None, option_map}
 use Rattle.std.specs.Option.{is_some}
 use Rattle.ir_names.specs.Lines.{with_row}
-use Rattle.ir_names.specs.Things.{NameTable, is_same, name_of}
+use Rattle.ir_names.specs.Things.{NameTable, is_same_thing, name_among}
 use Rattle.ir_names.specs.declared.thing.Thing.{Thing}
 use Rattle.ir_names.specs.declared.thing.Thing.TheVariants.{Thread, Object, Word, Address}
 use Rattle.ir_names.specs.contracts.thing.ThingPartialEq.TheImpl as thing_eq
 
 -- a thing is compared by its kind and its numbers
-same_thing : (a b : Thing) → (thing_eq.ghosts).eq a b ≡ is_same a b
+same_thing : (a b : Thing) → (thing_eq.ghosts).eq a b ≡ is_same_thing a b
 same_thing (Thread a) (Thread b) = refl
 same_thing (Thread a) (Object b) = refl
 same_thing (Thread a) (Word b k) = refl
@@ -39,11 +39,11 @@ module _ {X : Type 0} (text : X → List ℕ) where
 
   -- what is found of rows is the name of the thing
   pub found_is_name : (thing : Thing) (rows : List (Thing × X))
-      → option_map text (lookup ((thing_eq.ghosts).eq thing) rows) ≡ name_of (map row_seen rows) thing
+      → option_map text (lookup ((thing_eq.ghosts).eq thing) rows) ≡ name_among (map row_seen rows) thing
   found_is_name thing [] = refl
   found_is_name thing (row ∷ rows) =
-      found_by_test ((thing_eq.ghosts).eq thing row.0) row.1 (lookup ((thing_eq.ghosts).eq thing) rows) (name_of (map row_seen rows) thing) (found_is_name thing rows)
-      ∙ ap (λ (b : Bool). cond b (Some (text row.1)) (name_of (map row_seen rows) thing)) (same_thing thing row.0)
+      found_by_test ((thing_eq.ghosts).eq thing row.0) row.1 (lookup ((thing_eq.ghosts).eq thing) rows) (name_among (map row_seen rows) thing) (found_is_name thing rows)
+      ∙ ap (λ (b : Bool). cond b (Some (text row.1)) (name_among (map row_seen rows) thing)) (same_thing thing row.0)
 
   pub rows_append : (rows more : List (Thing × X)) → map row_seen (rows ++ more) ≡ map row_seen rows ++ map row_seen more
   rows_append [] more = refl
@@ -55,10 +55,10 @@ module _ {X : Type 0} (text : X → List ℕ) where
   none_of_found (Some x) e = absurd (cc e)
 
 -- a row of a thing without a name is added, and no other
-pub row_if_unnamed : (names : NameTable) (row : Thing × List ℕ) → name_of names row.0 ≡ None → with_row names row ≡ names ++ row ∷ []
+pub row_if_unnamed : (names : NameTable) (row : Thing × List ℕ) → name_among names row.0 ≡ None → with_row names row ≡ names ++ row ∷ []
 row_if_unnamed names row e = ap (λ (o : Option (List ℕ)). cond (is_some o) names (names ++ row ∷ [])) e
 
-pub no_row_if_named : (names : NameTable) (row : Thing × List ℕ) → is_some (name_of names row.0) ≡ true → with_row names row ≡ names
+pub no_row_if_named : (names : NameTable) (row : Thing × List ℕ) → is_some (name_among names row.0) ≡ true → with_row names row ≡ names
 no_row_if_named names row e = ap (λ (is : Bool). cond is names (names ++ row ∷ [])) e
 
 -- a thing without a name

@@ -6,8 +6,8 @@ use Rattle.std.specs.Io.KnownBytes.{Appends, Keeps}
 use Rattle.std.proofs.lemmas.List.{take_all}
 use Rattle.std.proofs.KnownBytes.{Appends-trans}
 use Rattle.ir_stream.specs.Answers.{AppendsPrefix}
-use Rattle.ir_names.specs.Naming.{Reached, after, is_end, named, shown, tag}
-use Rattle.ir_names.specs.Taken.{known_plain, passes}
+use Rattle.ir_names.specs.Naming.{Reached, after_bytes, ends_word, text_with_names, byte_with_name, tag}
+use Rattle.ir_names.specs.Taken.{known_plain, bytes_before_name}
 use Rattle.ir_names.specs.Things.{NameTable}
 use Rattle.ir_names.proofs.Back.{name_if_none_passes, named_of_passing}
 use Rattle.ir_names.proofs.Grown.{kept_by_nothing, known_grows, no_part, nothing_by_kept, part_of}
@@ -65,35 +65,35 @@ taken_at_most (b ∷ bytes) (suc count) = let rest : length (take count bytes) �
 
 -- bytes that pass as they are
 pub grown_by_passing : (names : NameTable) (r r' : Reached) (was is : Bool) (bytes : List ℕ) (n count : ℕ) (old new : Option (List ℕ)) → was ≡ false
-    → is ≡ was → count ≡ passes names r bytes → n ≤ length (take count bytes) → r' ≡ after r (take n bytes) → Appends old new (take n (take count bytes))
+    → is ≡ was → count ≡ bytes_before_name names r bytes → n ≤ length (take count bytes) → r' ≡ after_bytes r (take n bytes) → Appends old new (take n (take count bytes))
     → Appends (known_plain names r was old) (known_plain names r' is new) (take n bytes)
 grown_by_passing names r r' was is bytes n count old new e f g l h a =
     let text = take n bytes in
     let at_most : length (take count bytes) ≤ count = taken_at_most bytes count in
     let within : n ≤ count = omega (arith, at_most, l) in
-    let as_is : take n (take count bytes) ≡ named names r text ++ part_of names r' is 0 =
-    taken_within bytes n count within ∙ sym (named_of_passing names r bytes n (subst (λ k. n ≤ k) g within)) ∙ sym (append-nil (named names r text))
-    ∙ ap (λ (part : List ℕ). named names r text ++ part) (sym (no_part names r' is)) in
+    let as_is : take n (take count bytes) ≡ text_with_names names r text ++ part_of names r' is 0 =
+    taken_within bytes n count within ∙ sym (named_of_passing names r bytes n (subst (λ k. n ≤ k) g within)) ∙ sym (append-nil (text_with_names names r text))
+    ∙ ap (λ (part : List ℕ). text_with_names names r text ++ part) (sym (no_part names r' is)) in
     subst (λ z. Appends (known_plain names r z old) (known_plain names r' is new) text) (sym e)
     (known_grows names r r' is 0 text old new h (subst (λ p. Appends old new p) as_is a))
 
-ended_text : (names : NameTable) (r : Reached) (b : ℕ) (ends : Bool) → is_end b ≡ ends → ends ≡ true → shown names r b ≡ tag names r ++ b ∷ []
+ended_text : (names : NameTable) (r : Reached) (b : ℕ) (ends : Bool) → ends_word b ≡ ends → ends ≡ true → byte_with_name names r b ≡ tag names r ++ b ∷ []
 ended_text names r b ends e f = ap (λ (z : Bool). cond z (tag names r ++ b ∷ []) (b ∷ [])) (e ∙ f)
 
 ended_by_byte : (names : NameTable) (r r' : Reached) (was is : Bool) (b : ℕ) (bytes : List ℕ) (old mid new : Option (List ℕ)) → was ≡ false
-    → passes names r (b ∷ bytes) ≡ 0 → r' ≡ after r (b ∷ []) → Appends old mid (tag names r) → Appends mid new (b ∷ [])
+    → bytes_before_name names r (b ∷ bytes) ≡ 0 → r' ≡ after_bytes r (b ∷ []) → Appends old mid (tag names r) → Appends mid new (b ∷ [])
     → Appends (known_plain names r was old) (known_plain names r' is new) (b ∷ [])
 ended_by_byte names r r' was is b bytes old mid new e none h a more =
     let ends = name_if_none_passes names r b bytes none in
-    let text : tag names r ++ b ∷ [] ≡ named names r (b ∷ []) ++ part_of names r' is 0 =
-    sym (ended_text names r b (is_end b) refl ends.0) ∙ sym (append-nil (shown names r b)) ∙ sym (append-nil (shown names r b ++ []))
-    ∙ ap (λ (part : List ℕ). named names r (b ∷ []) ++ part) (sym (no_part names r' is)) in
+    let text : tag names r ++ b ∷ [] ≡ text_with_names names r (b ∷ []) ++ part_of names r' is 0 =
+    sym (ended_text names r b (ends_word b) refl ends.0) ∙ sym (append-nil (byte_with_name names r b)) ∙ sym (append-nil (byte_with_name names r b ++ []))
+    ∙ ap (λ (part : List ℕ). text_with_names names r (b ∷ []) ++ part) (sym (no_part names r' is)) in
     subst (λ z. Appends (known_plain names r z old) (known_plain names r' is new) (b ∷ [])) (sym e)
     (known_grows names r r' is 0 (b ∷ []) old new h (subst (λ p. Appends old new p) text (Appends-trans old mid new (tag names r) (b ∷ []) a more)))
 
 -- the end of a word that has a name
 pub grown_by_end : (names : NameTable) (r r' : Reached) (was is : Bool) (bytes : List ℕ) (n : ℕ) (old mid new : Option (List ℕ)) → was ≡ false
-    → passes names r bytes ≡ 0 → 0 < length bytes → n ≤ length (take 1 bytes) → (n ≡ 0 → take 1 bytes ≡ []) → r' ≡ after r (take n bytes)
+    → bytes_before_name names r bytes ≡ 0 → 0 < length bytes → n ≤ length (take 1 bytes) → (n ≡ 0 → take 1 bytes ≡ []) → r' ≡ after_bytes r (take n bytes)
     → Appends old mid (tag names r) → Appends mid new (take n (take 1 bytes))
     → Appends (known_plain names r was old) (known_plain names r' is new) (take n bytes)
 grown_by_end names r r' was is [] n old mid new e none l m some h a more = absurd (omega (arith, l))

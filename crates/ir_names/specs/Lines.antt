@@ -1,16 +1,14 @@
 -- The lines of a file of names.
 use Rattle.std.specs.Prelude.{ℕ, ◌+◌, ◌==◌, ◌||◌, ◌&&◌, nat_le, not, Bool, true, false, List, [], ◌∷◌, ◌++◌, codes, bytes_eq, length, take, drop, map}
 use Rattle.std.specs.Prelude.{◌≡◌, Option, Some, None, option_map, option_and_then, Result, Ok, Err, if◌then◌else◌}
-use Rattle.std.specs.Result.{result_ok}
 use Rattle.std.specs.Option.{is_some}
-use Rattle.std.specs.Int.{w32, from_be_bytes}
 use Rattle.std.specs.Str.Lines.{strip_carriage_return}
-use Rattle.hex.specs.Hex.{decode_sized}
 use Rattle.ir_numerals.specs.Numerals.{number_in}
 use Rattle.ir_command.specs.Commands.{words_of}
 use Rattle.ir_stream.specs.Answers.{lines_of}
 use Rattle.ir_files.specs.Shown.{is_control, is_late_control}
-use Rattle.ir_names.specs.Things.{NameTable, name_of}
+use Rattle.ir_symbols.specs.Maps.{address_in}
+use Rattle.ir_names.specs.Things.{NameTable, name_among}
 use Rattle.ir_names.specs.declared.names_err.NamesErr.{NamesErr}
 use Rattle.ir_names.specs.declared.names_err.NamesErr.TheVariants as fault
 use Rattle.ir_names.specs.declared.thing.Thing.{Thing}
@@ -21,10 +19,6 @@ use Rattle.ir_names.specs.declared.thing.Thing.TheVariants.{Thread, Object, Word
 -- the number that 1 to 10 decimal digits write
 abbrev pub decimal_in : List ℕ → Option ℕ
 decimal_in word = number_in 10 0 word
-
--- the address that eight hexadecimal digits of either case write
-abbrev pub address_in : List ℕ → Option ℕ
-address_in word = option_map (from_be_bytes w32) (result_ok (decode_sized word 4))
 
 -- a text begins with a control character
 abbrev pub begins_with_control : List ℕ → Bool
@@ -42,14 +36,14 @@ abbrev pub most_name_bytes : ℕ
 most_name_bytes = 4096
 
 -- 1 to 4096 bytes without control characters
-abbrev pub is_name : List ℕ → Bool
-is_name bytes = nat_le 1 (length bytes) && (nat_le (length bytes) most_name_bytes && has_no_control bytes)
+abbrev pub is_name_of_thing : List ℕ → Bool
+is_name_of_thing bytes = nat_le 1 (length bytes) && (nat_le (length bytes) most_name_bytes && has_no_control bytes)
 
 -- ---- a line
 
 -- a thing and a name, if that is one
-abbrev pub row_of : Thing → List ℕ → Option (Thing × List ℕ)
-row_of thing name = if is_name name then Some (thing, name) else None
+abbrev pub row_if_name : Thing → List ℕ → Option (Thing × List ℕ)
+row_if_name thing name = if is_name_of_thing name then Some (thing, name) else None
 
 -- the thread or the object of this kind and number
 abbrev pub thing_by : List ℕ → ℕ → Option Thing
@@ -64,12 +58,12 @@ word_by kind object part index =
 -- the number and the name of the word of an object
 abbrev pub word_row : List ℕ → ℕ → List ℕ → List (List ℕ) → Option (Thing × List ℕ)
 word_row kind object part (index ∷ name ∷ []) =
-    option_and_then (λ k. option_and_then (λ thing. row_of thing name) (word_by kind object part k)) (decimal_in index)
+    option_and_then (λ k. option_and_then (λ thing. row_if_name thing name) (word_by kind object part k)) (decimal_in index)
 word_row kind object part words = None
 
 -- the name of a thread or an object, or what follows the number of an object
 abbrev pub row_behind_number : List ℕ → ℕ → List ℕ → List (List ℕ) → Option (Thing × List ℕ)
-row_behind_number kind number name [] = option_and_then (λ thing. row_of thing name) (thing_by kind number)
+row_behind_number kind number name [] = option_and_then (λ thing. row_if_name thing name) (thing_by kind number)
 row_behind_number kind number part (word ∷ words) = word_row kind number part (word ∷ words)
 
 -- `thread T NAME`, `object O NAME` and `object O word W NAME`
@@ -79,7 +73,7 @@ row_by_words words = None
 
 -- the name behind an address and a blank
 abbrev pub row_behind : ℕ → List ℕ → Option (Thing × List ℕ)
-row_behind address (b ∷ name) = if b == 32 then row_of (Address address) name else None
+row_behind address (b ∷ name) = if b == 32 then row_if_name (Address address) name else None
 row_behind address [] = None
 
 -- the same, or what the words of the line say
@@ -99,16 +93,16 @@ text_lines bytes = map strip_carriage_return (lines_of bytes)
 
 -- of several names of a thing the first counts
 abbrev pub with_row : NameTable → Thing × List ℕ → NameTable
-with_row names row = if is_some (name_of names row.0) then names else names ++ row ∷ []
+with_row names row = if is_some (name_among names row.0) then names else names ++ row ∷ []
 
 -- no word is in the line
-abbrev pub is_blank : List (List ℕ) → Bool
-is_blank [] = true
-is_blank (word ∷ words) = false
+abbrev pub has_no_word : List (List ℕ) → Bool
+has_no_word [] = true
+has_no_word (word ∷ words) = false
 
 -- the names so far and that of a line, unless the line is faulty
-unfoldable pub with_line : NameTable → List ℕ → Option NameTable
-with_line names line = if is_blank (words_of line) then Some names else option_map (with_row names) (row_in line)
+unfoldable pub with_names_of_line : NameTable → List ℕ → Option NameTable
+with_names_of_line names line = if has_no_word (words_of line) then Some names else option_map (with_row names) (row_in line)
 
 -- goes on with what was read, or ends at a faulty line
 abbrev pub read_on : ℕ → (NameTable → Result NameTable ℕ) → Option NameTable → Result NameTable ℕ
@@ -118,7 +112,7 @@ read_on number next (Some names) = next names
 -- the names so far and those of lines, or the number of the first faulty line, where the first line has this number
 unfoldable pub names_from : NameTable → ℕ → List (List ℕ) → Result NameTable ℕ
 names_from names number [] = Ok names
-names_from names number (line ∷ lines) = read_on number (λ more. names_from more (number + 1) lines) (with_line names line)
+names_from names number (line ∷ lines) = read_on number (λ more. names_from more (number + 1) lines) (with_names_of_line names line)
 
 -- the names of a file, or the number of the first faulty line, counted from 1
 abbrev pub names_at : List ℕ → Result NameTable ℕ

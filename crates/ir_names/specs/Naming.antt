@@ -2,8 +2,9 @@
 use Rattle.std.specs.Prelude.{ℕ, ◌+◌, ◌==◌, ◌||◌, ◌&&◌, nat_lt, Bool, List, [], ◌∷◌, ◌++◌, codes, bytes_eq, take, fold}
 use Rattle.std.specs.Prelude.{Option, Some, None, option_map, option_and_then, if◌then◌else◌}
 use Rattle.std.specs.Option.{is_some}
-use Rattle.ir_names.specs.Lines.{address_in, decimal_in}
-use Rattle.ir_names.specs.Things.{NameTable, name_of}
+use Rattle.ir_names.specs.Lines.{decimal_in}
+use Rattle.ir_symbols.specs.Maps.{address_in}
+use Rattle.ir_names.specs.Things.{NameTable, name_among}
 use Rattle.ir_names.specs.declared.place.Place.{Place}
 use Rattle.ir_names.specs.declared.place.Place.TheVariants as place
 use Rattle.ir_names.specs.declared.thing.Thing.{Thing}
@@ -18,8 +19,8 @@ pub record Reached : Type 0 where
   pub lists : Bool
 
 -- a word ends at a blank, a line feed or a comma
-abbrev pub is_end : ℕ → Bool
-is_end b = b == 32 || (b == 10 || b == 44)
+abbrev pub ends_word : ℕ → Bool
+ends_word b = b == 32 || (b == 10 || b == 44)
 
 -- how many bytes of a word are kept: one more than the longest number has
 abbrev pub most_word_bytes : ℕ
@@ -40,8 +41,8 @@ answer_start lists = record { word = []; place = line_start lists; object = None
 -- ---- what a word names
 
 -- the word of the object that was mentioned last
-abbrev pub word_of : Option ℕ → ℕ → Option Thing
-word_of object index = option_map (λ number. Word number index) object
+abbrev pub numbered_word : Option ℕ → ℕ → Option Thing
+numbered_word object index = option_map (λ number. Word number index) object
 
 -- what the word at a place names, if it is a number of something
 abbrev pub thing_at : Place → Option ℕ → List ℕ → Option Thing
@@ -49,9 +50,9 @@ thing_at place.Begin object word = option_map Address (address_in word)
 thing_at place.Thread object word = option_map Thread (decimal_in word)
 thing_at place.Object object word = option_map Object (decimal_in word)
 thing_at place.Entry object word = option_map Object (decimal_in word)
-thing_at place.Word object word = option_and_then (word_of object) (decimal_in word)
+thing_at place.Word object word = option_and_then (numbered_word object) (decimal_in word)
 thing_at place.Pc object word = option_map Address (address_in word)
-thing_at (place.Words index) object word = if is_some (address_in word) then word_of object index else None
+thing_at (place.Words index) object word = if is_some (address_in word) then numbered_word object index else None
 thing_at place.Held object word = None
 thing_at place.Other object word = None
 
@@ -62,7 +63,7 @@ tag_text (Some name) = codes " <" ++ (name ++ codes ">")
 
 -- what is put in before the end of the last word: ` <NAME>`, or nothing
 abbrev pub tag : NameTable → Reached → List ℕ
-tag names r = tag_text (option_and_then (name_of names) (thing_at r.place r.object r.word))
+tag names r = tag_text (option_and_then (name_among names) (thing_at r.place r.object r.word))
 
 -- ---- what comes after a word
 
@@ -106,33 +107,33 @@ next_object (place.Words index) before word = before
 next_object place.Other before word = before
 
 -- where the next word is, after a byte that ends a word at a place
-abbrev pub place_after : Bool → Place → List ℕ → ℕ → Place
-place_after lists p word b = if b == 10 then line_start lists else next_place p word
+abbrev pub place_of_next_word : Bool → Place → List ℕ → ℕ → Place
+place_of_next_word lists p word b = if b == 10 then line_start lists else next_place p word
 
 -- after the end of a word
 abbrev pub after_word : Reached → ℕ → Reached
 after_word r b = record {
   word = [];
-  place = place_after r.lists r.place r.word b;
+  place = place_of_next_word r.lists r.place r.word b;
   object = next_object r.place r.object r.word;
   lists = r.lists;
 }
 
 -- after a byte
-abbrev pub step : Reached → ℕ → Reached
-step r b = if is_end b then after_word r b else record r { word = take most_word_bytes (r.word ++ b ∷ []) }
+abbrev pub after_byte : Reached → ℕ → Reached
+after_byte r b = if ends_word b then after_word r b else record r { word = take most_word_bytes (r.word ++ b ∷ []) }
 
 -- after several
-abbrev pub after : Reached → List ℕ → Reached
-after r bytes = fold step r bytes
+abbrev pub after_bytes : Reached → List ℕ → Reached
+after_bytes r bytes = fold after_byte r bytes
 
 -- ---- the answer
 
 -- what stands for a byte: the byte, and before the end of a word its name
-abbrev pub shown : NameTable → Reached → ℕ → List ℕ
-shown names r b = if is_end b then tag names r ++ b ∷ [] else b ∷ []
+abbrev pub byte_with_name : NameTable → Reached → ℕ → List ℕ
+byte_with_name names r b = if ends_word b then tag names r ++ b ∷ [] else b ∷ []
 
 -- the rest of an answer with names
-abbrev pub named : NameTable → Reached → List ℕ → List ℕ
-named names r [] = []
-named names r (b ∷ bytes) = shown names r b ++ named names (step r b) bytes
+abbrev pub text_with_names : NameTable → Reached → List ℕ → List ℕ
+text_with_names names r [] = []
+text_with_names names r (b ∷ bytes) = byte_with_name names r b ++ text_with_names names (after_byte r b) bytes

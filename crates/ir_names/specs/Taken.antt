@@ -1,7 +1,7 @@
 -- What a writer with names took of a plain answer, by the bytes that the writer behind it took.
 use Rattle.std.specs.Prelude.{ℕ, ◌-◌, ◌&&◌, not, zero, suc, Bool, true, false, List, [], ◌∷◌, ◌++◌, bytes_eq, flat_map, length, take}
 use Rattle.std.specs.Prelude.{Option, Some, None, option_and_then, option_map, if◌then◌else◌}
-use Rattle.ir_names.specs.Naming.{Reached, answer_start, after, is_end, named, step, tag}
+use Rattle.ir_names.specs.Naming.{Reached, answer_start, after_bytes, ends_word, text_with_names, after_byte, tag}
 use Rattle.ir_names.specs.Things.{NameTable}
 use Rattle.ir_names.specs.declared.place.Place.{Place}
 use Rattle.ir_names.specs.declared.place.Place.TheVariants as place
@@ -31,14 +31,14 @@ begun_numbers names lists = bool_number lists ∷ length names ∷ flat_map row_
 
 -- ---- what passes as it is
 
-abbrev pub is_nil : List ℕ → Bool
-is_nil [] = true
-is_nil (b ∷ bytes) = false
+abbrev pub has_no_bytes : List ℕ → Bool
+has_no_bytes [] = true
+has_no_bytes (b ∷ bytes) = false
 
 -- how many of the bytes come before the first name
-unfoldable pub passes : NameTable → Reached → List ℕ → ℕ
-passes names r [] = 0
-passes names r (b ∷ bytes) = if is_end b && not (is_nil (tag names r)) then 0 else suc (passes names (step r b) bytes)
+unfoldable pub bytes_before_name : NameTable → Reached → List ℕ → ℕ
+bytes_before_name names r [] = 0
+bytes_before_name names r (b ∷ bytes) = if ends_word b && not (has_no_bytes (tag names r)) then 0 else suc (bytes_before_name names (after_byte r b) bytes)
 
 -- ---- the plain bytes of an answer with names
 
@@ -46,9 +46,9 @@ passes names r (b ∷ bytes) = if is_end b && not (is_nil (tag names r)) then 0 
 unfoldable pub unnamed : NameTable → Reached → Option ℕ → List ℕ → List ℕ
 unnamed names r skips [] = []
 unnamed names r (Some (suc n)) (b ∷ bytes) = unnamed names r (Some n) bytes
-unnamed names r (Some zero) (b ∷ bytes) = b ∷ unnamed names (step r b) None bytes
+unnamed names r (Some zero) (b ∷ bytes) = b ∷ unnamed names (after_byte r b) None bytes
 unnamed names r None (b ∷ bytes) =
-    if is_end b && not (is_nil (tag names r)) then unnamed names r (Some (length (tag names r) - 1)) bytes else b ∷ unnamed names (step r b) None bytes
+    if ends_word b && not (has_no_bytes (tag names r)) then unnamed names r (Some (length (tag names r) - 1)) bytes else b ∷ unnamed names (after_byte r b) None bytes
 
 -- ---- whether two are equal
 
@@ -71,19 +71,19 @@ option_number (Some n) = suc n
 abbrev pub reached_numbers : Reached → List ℕ
 reached_numbers r = place_number r.place ∷ option_number r.object ∷ bool_number r.lists ∷ r.word
 
-abbrev pub is_reached : Reached → Reached → Bool
-is_reached a b = bytes_eq (reached_numbers a) (reached_numbers b)
+abbrev pub reached_alike : Reached → Reached → Bool
+reached_alike a b = bytes_eq (reached_numbers a) (reached_numbers b)
 
 -- ---- what it took
 
 -- a text, and after it the first bytes of the name that was begun, as many as there are in all; only where the writer behind has failed
-abbrev pub with_part : NameTable → Reached → Bool → ℕ → List ℕ → List ℕ
-with_part names r failed total text = text ++ (if failed then take (total - length text) (tag names r) else [])
+abbrev pub with_begun_name : NameTable → Reached → Bool → ℕ → List ℕ → List ℕ
+with_begun_name names r failed total text = text ++ (if failed then take (total - length text) (tag names r) else [])
 
 -- a plain answer, if these bytes are the answer with names, and it comes so far
 abbrev pub plain_if : NameTable → Reached → Bool → List ℕ → List ℕ → Option (List ℕ)
 plain_if names r failed bytes plain =
-    if bytes_eq bytes (with_part names r failed (length bytes) (named names (answer_start r.lists) plain)) && is_reached (after (answer_start r.lists) plain) r
+    if bytes_eq bytes (with_begun_name names r failed (length bytes) (text_with_names names (answer_start r.lists) plain)) && reached_alike (after_bytes (answer_start r.lists) plain) r
     then Some plain else None
 
 -- the plain answer that these bytes are of

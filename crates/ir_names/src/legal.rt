@@ -1,7 +1,7 @@
 //! Which names there are.
 
 ghost use Rattle.std.specs.Prelude.{◌≡◌};
-ghost use Rattle.ir_names.specs.Lines.{begins_with_control, has_no_control, is_name};
+ghost use Rattle.ir_names.specs.Lines.{begins_with_control, has_no_control, is_name_of_thing};
 
 // The most bytes of a name.
 const MOST_NAME_BYTES: usize = 4096;
@@ -29,7 +29,7 @@ fn has_no_control(text: &[u8]) -> bool
 
 /// Whether the bytes are a name: 1 to 4096 of them, without control characters.
 pub fn is_name(bytes: &[u8]) -> bool
-    ensures { result ≡ is_name bytes.now }
+    ensures { result ≡ is_name_of_thing bytes.now }
 {
     !bytes.is_empty() && bytes.len() <= MOST_NAME_BYTES && has_no_control(bytes)
 }

@@ -1,7 +1,7 @@
 //! What the words of an answer name.
 
 ghost use Rattle.std.specs.Prelude.{◌≡◌, ◌<◌};
-ghost use Rattle.ir_names.specs.Naming.{is_end, next_object, next_place, place_behind, thing_at, word_of};
+ghost use Rattle.ir_names.specs.Naming.{ends_word, next_object, next_place, place_behind, thing_at, numbered_word};
 
 use crate::numbers::{address, decimal};
 use crate::place::Place;
@@ -29,14 +29,14 @@ const MOST_SHOWN_WORDS: u8 = 64;
 
 /// Whether a word ends at a byte.
 pub fn is_end(byte: u8) -> bool
-    ensures { result ≡ is_end byte }
+    ensures { result ≡ ends_word byte }
 {
     byte == b' ' || byte == b'\n' || byte == b','
 }
 
 // The word of the object that was mentioned last.
 fn word_of(object: Option<u64>, index: u64) -> Option<Thing>
-    ensures { result ≡ word_of object index }
+    ensures { result ≡ numbered_word object index }
 {
     match object {
         Some(number) => Some(Thing::Word(number, index)),

@@ -1,7 +1,8 @@
 //! The numbers that name something.
 
 ghost use Rattle.std.specs.Prelude.{◌≡◌};
-ghost use Rattle.ir_names.specs.Lines.{address_in, decimal_in};
+ghost use Rattle.ir_names.specs.Lines.{decimal_in};
+ghost use Rattle.ir_symbols.specs.Maps.{address_in};
 
 use hex::FromHex;
 use ir_numerals::number_in;

@@ -1,7 +1,7 @@
 //! How far an answer has come.
 
 ghost use Rattle.std.specs.Prelude.{◌≡◌, [], ◌∷◌, ◌++◌, take};
-ghost use Rattle.ir_names.specs.Naming.{line_start, most_word_bytes, place_after};
+ghost use Rattle.ir_names.specs.Naming.{line_start, most_word_bytes, place_of_next_word};
 
 use crate::naming::{is_end, next_object, next_place, thing_at};
 use crate::place::Place;
@@ -51,7 +51,7 @@ fn line_start(lists: bool) -> Place
 
 // Where the next word is, after a byte that ends a word at a place.
 fn place_after(lists: bool, place: Place, word: &[u8], byte: u8) -> Place
-    ensures { result ≡ place_after lists place word.now byte }
+    ensures { result ≡ place_of_next_word lists place word.now byte }
 {
     if byte == b'\n' {
         line_start(lists)
@@ -61,7 +61,7 @@ fn place_after(lists: bool, place: Place, word: &[u8], byte: u8) -> Place
 }
 
 impl Reached {
-    ghost use Rattle.ir_names.specs.Naming.{answer_start, after, after_word, step, thing_at};
+    ghost use Rattle.ir_names.specs.Naming.{answer_start, after_bytes, after_word, after_byte, thing_at};
 
     /// The start of an answer, whose lines may begin with addresses.
     pub fn new(lists: bool) -> Reached
@@ -109,7 +109,7 @@ impl Reached {
 
     /// After a byte.
     pub fn step(&mut self, byte: u8)
-        ensures { self.new ≡ step self.old byte }
+        ensures { self.new ≡ after_byte self.old byte }
     {
         if is_end(byte) {
             self.end_word(byte);
@@ -120,7 +120,7 @@ impl Reached {
 
     /// After several bytes.
     pub fn take(&mut self, bytes: &[u8])
-        ensures { self.new ≡ after self.old bytes.now }
+        ensures { self.new ≡ after_bytes self.old bytes.now }
     {
         for byte in bytes {
             self.step(*byte);

@@ -4,7 +4,7 @@ ghost use Rattle.std.specs.Prelude.{◌≡◌, ◌==◌, ◌<◌, ◌≤◌, ◌
 ghost use Rattle.std.specs.List.{position_or_len};
 ghost use Rattle.std.specs.Str.Lines.{strip_carriage_return};
 ghost use Rattle.ir_command.specs.Commands.{words_of};
-ghost use Rattle.ir_names.specs.Lines.{row_of, thing_by, word_by, word_row, row_by_words, row_behind, row_in, text_lines, with_line, names_at, IsLineFault, IsNamesFault};
+ghost use Rattle.ir_names.specs.Lines.{row_if_name, thing_by, word_by, word_row, row_by_words, row_behind, row_in, text_lines, with_names_of_line, names_at, IsLineFault, IsNamesFault};
 
 use crate::legal::is_name;
 use crate::names_err::NamesErr;
@@ -29,7 +29,7 @@ type Row<'a> = (Thing, &'a [u8]);
 
 // A thing and a name, if that is one.
 fn row(thing: Thing, name: &[u8]) -> Option<Row<'_>>
-    ensures { option_map (λ row. (row.0, row.1.now)) result ≡ row_of thing name.now }
+    ensures { option_map (λ row. (row.0, row.1.now)) result ≡ row_if_name thing name.now }
 {
     if is_name(name) {
         Some((thing, name))
@@ -146,10 +146,10 @@ fn first_line(text: &[u8]) -> (&[u8], &[u8])
 }
 
 // Adds the name of a line, the line of this number.
-#[tactic(auto, unfolding(crate::specs::Lines::with_line))]
+#[tactic(auto, unfolding(crate::specs::Lines::with_names_of_line))]
 fn add_line(alloc: Global, names: &mut Names, line: &[u8], number: usize) -> Result<(), NamesErr>
-    ensures added { OnOk result (with_line names.old line.now ≡ Some names.new) }
-    ensures faulty { IfErr result (λ error. IsLineFault number error (with_line names.old line.now)) }
+    ensures added { OnOk result (with_names_of_line names.old line.now ≡ Some names.new) }
+    ensures faulty { IfErr result (λ error. IsLineFault number error (with_names_of_line names.old line.now)) }
 {
     if next_word(line).is_none() {
         return Ok(());

@@ -2,7 +2,7 @@
 
 ghost use Rattle.std.specs.Prelude.{◌≡◌, ◌≤◌, [], length, not, MatchOption, Some};
 ghost use Rattle.ir_names.specs.Naming.{answer_start, tag, tag_text};
-ghost use Rattle.ir_names.specs.Taken.{is_nil, known_plain, passes};
+ghost use Rattle.ir_names.specs.Taken.{has_no_bytes, known_plain, bytes_before_name};
 ghost use Rattle.ir_stream.specs.Writing.{WritesText};
 
 use crate::naming::is_end;
@@ -30,7 +30,7 @@ fn name<'a>(names: &'a Names, reached: &Reached) -> Option<&'a [u8]>
 
 // Whether the last word has a name.
 fn has_name(names: &Names, reached: &Reached) -> bool
-    ensures { result ≡ not (is_nil (tag names.now reached.now)) }
+    ensures { result ≡ not (has_no_bytes (tag names.now reached.now)) }
 {
     match name(names, reached) {
         Some(_) => true,
@@ -39,9 +39,9 @@ fn has_name(names: &Names, reached: &Reached) -> bool
 }
 
 // How many of the bytes come before the first name.
-#[tactic(auto, unfolding(crate::specs::Taken::passes))]
+#[tactic(auto, unfolding(crate::specs::Taken::bytes_before_name))]
 fn passed(names: &Names, start: &Reached, bytes: &[u8]) -> usize
-    ensures value { result ≡ passes names.now start.now bytes.now }
+    ensures value { result ≡ bytes_before_name names.now start.now bytes.now }
     ensures within { result ≤ length bytes.now }
 {
     let mut reached = start.copied();

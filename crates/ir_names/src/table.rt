@@ -1,7 +1,7 @@
 //! Names by what they are of.
 
 ghost use Rattle.std.specs.Prelude.{◌≡◌, [], OnOk, option_map};
-ghost use Rattle.ir_names.specs.Things.{name_of};
+ghost use Rattle.ir_names.specs.Things.{name_among};
 ghost use Rattle.ir_names.specs.Lines.{with_row};
 
 use crate::thing::Thing;
@@ -36,7 +36,7 @@ impl Names {
 
     /// What a thing is called, if it has a name.
     pub fn get(&self, thing: Thing) -> Option<&[u8]>
-        ensures { option_map (λ name. name.now) result ≡ name_of self.now thing }
+        ensures { option_map (λ name. name.now) result ≡ name_among self.now thing }
     {
         match self.rows.get(&thing) {
             Some(name) => Some(name.as_slice()),

@@ -21,7 +21,7 @@ use Rattle.ir_names.specs.declared.names_err.NamesErr.{NamesErr}
 use Rattle.ir_names.specs.declared.names_err.NamesErr.TheVariants as fault
 use Rattle.ir_names.proofs.CallerLemmas.{known_at_start, takes_named_if_known}
 use Rattle.ir_program.specs.Doing.{Does, TellsWhyNot}
-use Rattle.ir_program.specs.Named.{DoesByFile, DoesNamed, HasFaultyName, LacksNames, PutsNames, Serves, ServesBy, ServesNamed, TookNamed, names_status, use_of}
+use Rattle.ir_program.specs.Named.{DoesByFile, DoesNamed, HasFaultyName, LacksNames, PutsNames, ServesBy, ServesCommandLine, ServesNamed, TookNamed, names_status, use_of}
 use Rattle.ir_program.specs.declared.names_use.NamesUse.{NamesUse}
 use Rattle.ir_program.specs.Serving.{MayExplain, ServesWords}
 use Rattle.ir_names.specs.Words.{NamesSplit, only_file, split_words, wants_names}
@@ -41,14 +41,14 @@ serves_without_memory false at stored words answered input out faults unprinted 
 -- words that name no file of names are served as they are
 pub serves_plain : (at : Paths) (stored : Storing) (words : List Text) (split : NamesSplit) (b : Bool) (answered : ExitStatus) (input : Option (List ℕ))
     (out faults : Writer) (unprinted : Type 0) → split ≡ split_words words → b ≡ wants_names split → b ≡ false
-    → ServesWords at stored words answered input out faults unprinted → Serves at stored words answered input out faults unprinted
+    → ServesWords at stored words answered input out faults unprinted → ServesCommandLine at stored words answered input out faults unprinted
 serves_plain at stored words split b answered input out faults unprinted e f g served =
     subst (λ z. ServesBy z at stored words answered input out faults unprinted) (sym g ∙ f ∙ ap wants_names e) served
 
 -- and others by the file that they name
 pub serves_named : (at : Paths) (stored : Storing) (words : List Text) (split : NamesSplit) (b : Bool) (answered : ExitStatus) (input : Option (List ℕ))
     (out faults : Writer) (unprinted : Type 0) → split ≡ split_words words → b ≡ wants_names split → b ≡ true
-    → ServesNamed at stored split answered input out faults unprinted → Serves at stored words answered input out faults unprinted
+    → ServesNamed at stored split answered input out faults unprinted → ServesCommandLine at stored words answered input out faults unprinted
 serves_named at stored words split b answered input out faults unprinted e f g served =
     subst (λ z. ServesBy z at stored words answered input out faults unprinted) (sym g ∙ f ∙ ap wants_names e)
     (subst (λ s. ServesNamed at stored s answered input out faults unprinted) e served)

@@ -14,7 +14,7 @@ use Rattle.ir_files.specs.Writers.{Writer}
 use Rattle.ir_files.specs.declared.exit_status.ExitStatus.{ExitStatus}
 use Rattle.ir_files.specs.declared.exit_status.ExitStatus.TheVariants as status
 use Rattle.ir_names.specs.Lines.{names_at}
-use Rattle.ir_names.specs.Naming.{after, answer_start, named, tag}
+use Rattle.ir_names.specs.Naming.{after_bytes, answer_start, text_with_names, tag}
 use Rattle.ir_names.specs.Things.{NameTable}
 use Rattle.ir_names.specs.declared.names_err.NamesErr.{NamesErr}
 use Rattle.ir_names.specs.declared.names_err.NamesErr.TheVariants as fault
@@ -58,7 +58,7 @@ use_of (asked.Outside a) = Named false
 -- The second writer took the text that the first took, with names. Where it failed, it may have taken the first bytes of a name after that.
 pub record TookNamed (names : NameTable) (lists : Bool) (text : List ℕ) (out : Writer) : Type 0 where
   pub begun : ℕ
-  pub took : out.after ≡ Some (named names (answer_start lists) text ++ take begun (tag names (after (answer_start lists) text)))
+  pub took : out.after ≡ Some (text_with_names names (answer_start lists) text ++ take begun (tag names (after_bytes (answer_start lists) text)))
   pub whole : out.failed ≡ false → begun ≡ 0
 
 -- The first writer takes a plain answer, and the second the same with names, where nothing was written before: what the first takes from then on is
@@ -125,6 +125,6 @@ ServesBy false at stored words answered input out faults unprinted = ServesWords
 ServesBy true at stored words answered input out faults unprinted = ServesNamed at stored (split_words words) answered input out faults unprinted
 
 -- what the program does by its words, of which the first is its name
-abbrev pub Serves : Paths → Storing → List Text → ExitStatus → Option (List ℕ) → Writer → Writer → Type 0 → Type 0
-Serves at stored words answered input out faults unprinted =
+abbrev pub ServesCommandLine : Paths → Storing → List Text → ExitStatus → Option (List ℕ) → Writer → Writer → Type 0 → Type 0
+ServesCommandLine at stored words answered input out faults unprinted =
     ServesBy (wants_names (split_words words)) at stored words answered input out faults unprinted

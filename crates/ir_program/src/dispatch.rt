@@ -7,7 +7,7 @@ ghost use Rattle.ir_files.specs.declared.exit_status.ExitStatus.TheVariants as e
 ghost use Rattle.ir_commands.specs.Files.{GoesOn, TellsFault};
 ghost use Rattle.ir_commands.specs.Writing.{storing};
 ghost use Rattle.ir_program.specs.Doing.{Does, HeldBundle, HoldsSession, HoldsConnection, MakesImage, Prints, PrintsOutcomes, Shows};
-ghost use Rattle.ir_program.specs.Named.{DoesByFile, Serves, ServesNamed, names_status, use_of, use_of_print};
+ghost use Rattle.ir_program.specs.Named.{DoesByFile, ServesCommandLine, ServesNamed, names_status, use_of, use_of_print};
 ghost use Rattle.ir_program.specs.Serving.{ServesWords};
 ghost use Rattle.ir_program.specs.Taking.{TakenReader};
 ghost use Rattle.ir_program.specs.declared.names_use.NamesUse.TheVariants.{Named};
@@ -516,7 +516,7 @@ where
     requires reads { I.broken input ≡ false }
     requires writes { O.broken out.old.sink ≡ false }
     requires reports { E.broken faults.old ≡ false }
-    ensures { Serves (D.bytes_at around.entry.folder.now) (storing D.known D.known_closed (D.knows around.entry.folder.now) (D.was_put around.entry.folder.now))
+    ensures { ServesCommandLine (D.bytes_at around.entry.folder.now) (storing D.known D.known_closed (D.knows around.entry.folder.now) (D.was_put around.entry.folder.now))
         (map string_bytes invocation.now.arguments.now) result (I.left input)
         (writer_of (O.written out.old.sink) (O.written out.new.sink) (O.broken out.new.sink))
         (writer_of (E.written faults.old) (E.written faults.new) (E.broken faults.new)) (out.new.sink ≡ out.old.sink) }
