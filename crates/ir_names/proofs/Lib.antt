@@ -1,5 +1,5 @@
 mod Back
-mod CallerLemmas
+pub mod CallerLemmas
 mod Codes
 mod Feeds
 mod Grown
