@@ -93,5 +93,5 @@ puts_from_start names begun taken lists was failed start end before after e f = 
   from_start = λ none. ap (λ (n : NameTable). known_plain n start was before) e ∙ ap (λ (r : Reached). known_plain names r was before) f
       ∙ ap (known_plain names (answer_start lists) was) none ∙ known_at_start names lists was;
   took = λ text is. let t = takes_named_if_known names taken lists end failed after text is in
-      record { begun = t.0; took = t.1.0; whole = t.1.1 };
+      record { begun = t.0; took = t.1; whole = t.2 };
 }

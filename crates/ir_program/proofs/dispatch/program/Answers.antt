@@ -27,8 +27,8 @@ returns-then-wants_names g c =
     (writer_of (g.E.Sink.written c.args.faults.now) (g.E.Sink.written c.named.new.faults) (g.E.Sink.broken c.named.new.faults))
     (c.named.new.out.sink ≡ c.args.out.now.sink) c.in-Ok.ensures c.wants_names.ensures c.if-wants_names.true c.named.ensures
 
-pub returns-else-wants_names : goal.returns-else-wants_names
-returns-else-wants_names g c =
+pub returns : goal.returns
+returns g c =
     let folder = c.args.around.folder.now in
     let stored = storing g.D.Folder.known g.D.Folder.known_closed (g.D.Folder.knows folder) (g.D.Folder.was_put folder) in
     serves_plain (g.D.Folder.bytes_at folder) stored (map string_bytes c.args.invocation.now.arguments.now) c.in-Ok.split c.wants_names.result c.plain.result

@@ -23,17 +23,6 @@ returns-in_default g c =
     (writer_of (g.E.Sink.written c.args.faults.now) (g.E.Sink.written c.told.new.faults) (g.E.Sink.broken c.told.new.faults))
     (c.args.out.now.sink ≡ c.args.out.now.sink) c.in_default.not-Some (c.told.ensures.status, refl, c.told.ensures.told)
 
-pub returns-in_default-2 : goal.returns-in_default-2
-returns-in_default-2 g c =
-    let folder = c.args.around.now.folder.now in
-    let at = g.D.Folder.bytes_at folder in
-    let stored = storing g.D.Folder.known g.D.Folder.known_closed (g.D.Folder.knows folder) (g.D.Folder.was_put folder) in
-    let out = writer_of (g.O.Sink.written c.args.out.now.sink) (g.O.Sink.written c.args.out.now.sink) (g.O.Sink.broken c.args.out.now.sink) in
-    let faults = writer_of (g.E.Sink.written c.args.faults.now) (g.E.Sink.written c.bytes_of.new.faults) (g.E.Sink.broken c.bytes_of.new.faults) in
-    subst (λ (file : Option (Bor (List ℕ))). DoesByFile at stored (option_map (λ path. path.now) file) c.args.request.lists c.args.asked.now exit.Failed (g.I.Source.left c.args.input)
-    out faults (c.args.out.now.sink ≡ c.args.out.now.sink)) (sym c.in-Some.is)
-    (inl (inl refl, refl, c.bytes_of.ensures.told c.in_default-bytes_of.is c.requires.reports))
-
 pub returns-in-Err : goal.returns-in-Err
 returns-in-Err g c =
     let folder = c.args.around.now.folder.now in
