@@ -1,7 +1,6 @@
 -- What the program does by words that may name a file of names, by what it does in each case.
 use Rattle.std.proofs.Common.{◌≡◌, ◌⊎◌, ◌++◌, ℕ, Bool, true, false, List, [], Option, Some, None, inl, inr, refl, sym, ap, ◌∙◌, subst}
 use Rattle.std.specs.Prelude.{IfSome, option_map}
-use Rattle.clap.specs.Words.{Text}
 use Rattle.ir_arguments.specs.Parsing.{IsAskedBy}
 use Rattle.ir_arguments.specs.Views.{request_view}
 use Rattle.ir_arguments.specs.declared.asked.Asked.{Asked}
@@ -31,7 +30,7 @@ explains_nothing : (answered : ExitStatus) (faults : Writer) → MayExplain answ
 explains_nothing answered faults = record { begins = refl; goes_on = unchanged_goes_on faults.after; no_more = λ _. refl; broken = λ _. refl }
 
 -- without memory nothing is done
-pub serves_without_memory : (b : Bool) (at : Paths) (stored : Storing) (words : List Text) (answered : ExitStatus) (input : Option (List ℕ))
+pub serves_without_memory : (b : Bool) (at : Paths) (stored : Storing) (words : List (List ℕ)) (answered : ExitStatus) (input : Option (List ℕ))
     (out faults : Writer) (unprinted : Type 0) → TellsWhyNot status.Failed answered faults unprinted
     → ServesBy b at stored words answered input out faults unprinted
 serves_without_memory true at stored words answered input out faults unprinted told = record { asked = asked.NoMem; is_asked = inl refl; done = told }
@@ -39,14 +38,14 @@ serves_without_memory false at stored words answered input out faults unprinted 
     record { asked = asked.NoMem; is_asked = inl refl; told = faults; done = told; explained = explains_nothing answered faults }
 
 -- words that name no file of names are served as they are
-pub serves_plain : (at : Paths) (stored : Storing) (words : List Text) (split : NamesSplit) (b : Bool) (answered : ExitStatus) (input : Option (List ℕ))
+pub serves_plain : (at : Paths) (stored : Storing) (words : List (List ℕ)) (split : NamesSplit) (b : Bool) (answered : ExitStatus) (input : Option (List ℕ))
     (out faults : Writer) (unprinted : Type 0) → split ≡ split_words words → b ≡ wants_names split → b ≡ false
     → ServesWords at stored words answered input out faults unprinted → ServesCommandLine at stored words answered input out faults unprinted
 serves_plain at stored words split b answered input out faults unprinted e f g served =
     subst (λ z. ServesBy z at stored words answered input out faults unprinted) (sym g ∙ f ∙ ap wants_names e) served
 
 -- and others by the file that they name
-pub serves_named : (at : Paths) (stored : Storing) (words : List Text) (split : NamesSplit) (b : Bool) (answered : ExitStatus) (input : Option (List ℕ))
+pub serves_named : (at : Paths) (stored : Storing) (words : List (List ℕ)) (split : NamesSplit) (b : Bool) (answered : ExitStatus) (input : Option (List ℕ))
     (out faults : Writer) (unprinted : Type 0) → split ≡ split_words words → b ≡ wants_names split → b ≡ true
     → ServesNamed at stored split answered input out faults unprinted → ServesCommandLine at stored words answered input out faults unprinted
 serves_named at stored words split b answered input out faults unprinted e f g served =
@@ -54,7 +53,7 @@ serves_named at stored words split b answered input out faults unprinted e f g s
     (subst (λ s. ServesNamed at stored s answered input out faults unprinted) e served)
 
 -- the other words ask for a request, which was done by what names are for it
-pub serves_request : (at : Paths) (stored : Storing) (split : NamesSplit) (words : List Text) (what : Asked) (names_are : NamesUse) (file : Option Text)
+pub serves_request : (at : Paths) (stored : Storing) (split : NamesSplit) (words : List (List ℕ)) (what : Asked) (names_are : NamesUse) (file : Option (List ℕ))
     (answered : ExitStatus) (input : Option (List ℕ)) (out faults : Writer) (unprinted : Type 0) → IsAskedBy words (request_view what)
     → words ≡ split.others → names_are ≡ use_of what → file ≡ only_file split
     → DoesNamed names_are at stored file what answered input out faults unprinted → ServesNamed at stored split answered input out faults unprinted
@@ -66,7 +65,7 @@ serves_request at stored split words what names_are file answered input out faul
 }
 
 -- without a single file of names nothing is done
-pub tells_one_file : {X : Type 0} (file : Option X) (text : X → Text) (at : Paths) (stored : Storing) (lists : Bool) (what : Asked) (answered : ExitStatus)
+pub tells_one_file : {X : Type 0} (file : Option X) (text : X → List ℕ) (at : Paths) (stored : Storing) (lists : Bool) (what : Asked) (answered : ExitStatus)
     (input : Option (List ℕ)) (out faults : Writer) (unprinted : Type 0) → ((path : X) → file ≡ Some path → ⊥)
     → TellsWhyNot status.BadArguments answered faults unprinted
     → DoesByFile at stored (option_map text file) lists what answered input out faults unprinted

@@ -1,6 +1,5 @@
 -- What the program does by words that may name a file of names.
 use Rattle.std.specs.Prelude.{◌≡◌, ◌⊎◌, ℕ, Bool, true, false, List, [], ◌∷◌, ◌++◌, take, Option, Some, None, IfSome, Ok, Err}
-use Rattle.clap.specs.Words.{Text}
 use Rattle.ir_arguments.specs.Parsing.{IsAskedBy}
 use Rattle.ir_arguments.specs.Views.{request_view}
 use Rattle.ir_arguments.specs.declared.asked.Asked.{Asked}
@@ -99,13 +98,13 @@ pub record DoesWithNames (at : Paths) (stored : Storing) (known : Option (List �
   pub explained : MayExplain answered told faults
 
 -- a request that takes names, with the file that is named, if exactly one is
-abbrev pub DoesByFile : Paths → Storing → Option Text → Bool → Asked → ExitStatus → Option (List ℕ) → Writer → Writer → Type 0 → Type 0
+abbrev pub DoesByFile : Paths → Storing → Option (List ℕ) → Bool → Asked → ExitStatus → Option (List ℕ) → Writer → Writer → Type 0 → Type 0
 DoesByFile at stored None lists what answered input out faults unprinted = TellsWhyNot status.BadArguments answered faults unprinted
 DoesByFile at stored (Some path) lists what answered input out faults unprinted =
     LacksNames (at path) answered faults unprinted ⊎ DoesWithNames at stored (at path) lists what answered input out faults unprinted
 
 -- A request where a file of names is asked for. Without a request nothing is asked of the file.
-abbrev pub DoesNamed : NamesUse → Paths → Storing → Option Text → Asked → ExitStatus → Option (List ℕ) → Writer → Writer → Type 0 → Type 0
+abbrev pub DoesNamed : NamesUse → Paths → Storing → Option (List ℕ) → Asked → ExitStatus → Option (List ℕ) → Writer → Writer → Type 0 → Type 0
 DoesNamed Unasked at stored file what answered input out faults unprinted = Does at stored what answered input out faults unprinted
 DoesNamed NotTaken at stored file what answered input out faults unprinted = TellsWhyNot status.BadArguments answered faults unprinted
 DoesNamed (Named lists) at stored file what answered input out faults unprinted = DoesByFile at stored file lists what answered input out faults unprinted
@@ -120,11 +119,11 @@ pub record ServesNamed (at : Paths) (stored : Storing) (split : NamesSplit) (ans
   pub done : DoesNamed (use_of asked) at stored (only_file split) asked answered input out faults unprinted
 
 -- words without a file of names are served as they are
-abbrev pub ServesBy : Bool → Paths → Storing → List Text → ExitStatus → Option (List ℕ) → Writer → Writer → Type 0 → Type 0
+abbrev pub ServesBy : Bool → Paths → Storing → List (List ℕ) → ExitStatus → Option (List ℕ) → Writer → Writer → Type 0 → Type 0
 ServesBy false at stored words answered input out faults unprinted = ServesWords at stored words answered input out faults unprinted
 ServesBy true at stored words answered input out faults unprinted = ServesNamed at stored (split_words words) answered input out faults unprinted
 
 -- what the program does by its words, of which the first is its name
-abbrev pub ServesCommandLine : Paths → Storing → List Text → ExitStatus → Option (List ℕ) → Writer → Writer → Type 0 → Type 0
+abbrev pub ServesCommandLine : Paths → Storing → List (List ℕ) → ExitStatus → Option (List ℕ) → Writer → Writer → Type 0 → Type 0
 ServesCommandLine at stored words answered input out faults unprinted =
     ServesBy (wants_names (split_words words)) at stored words answered input out faults unprinted

@@ -382,8 +382,13 @@ fn use_of_print(what: &Print) -> NamesUse
 {
     match what {
         Print::Code(_) => NamesUse::Named(true),
+        Print::Trace(_) => NamesUse::Named(false),
+        Print::Events(_) => NamesUse::Named(false),
+        Print::Stale(_) => NamesUse::Named(false),
+        Print::Who(_) => NamesUse::Named(false),
+        Print::Why(_) => NamesUse::Named(false),
+        Print::Diff(_) => NamesUse::Named(false),
         Print::View(_) => NamesUse::NotTaken,
-        _ => NamesUse::Named(false),
     }
 }
 
@@ -392,10 +397,20 @@ fn use_of(asked: &Asked) -> NamesUse
     ensures { result ≡ use_of asked.now }
 {
     match asked {
-        Asked::Session | Asked::Make(_) | Asked::Debug(_) | Asked::Gdb(_) => NamesUse::NotTaken,
-        Asked::Help(_) | Asked::Nothing(_) | Asked::NoMem => NamesUse::Unasked,
         Asked::Print(what) => use_of_print(what),
-        _ => NamesUse::Named(false),
+        Asked::Session => NamesUse::NotTaken,
+        Asked::Make(_) => NamesUse::NotTaken,
+        Asked::Debug(_) => NamesUse::NotTaken,
+        Asked::Gdb(_) => NamesUse::NotTaken,
+        Asked::Help(_) => NamesUse::Unasked,
+        Asked::Nothing(_) => NamesUse::Unasked,
+        Asked::NoMem => NamesUse::Unasked,
+        Asked::Record(_) => NamesUse::Named(false),
+        Asked::Hunt(_) => NamesUse::Named(false),
+        Asked::Shrink(_) => NamesUse::Named(false),
+        Asked::Until(_) => NamesUse::Named(false),
+        Asked::Outside(_) => NamesUse::Named(false),
+        Asked::Explore(_) => NamesUse::Named(false),
     }
 }
 
