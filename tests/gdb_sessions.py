@@ -534,6 +534,64 @@ def check_other_file(folder):
     check_session(Session("other", [], ["The program of this file isn't the one that was recorded"]), folder)
 
 
+# Questions that `monitor` takes, and what asks the same on the command line, but for the files.
+QUESTIONS = {
+    "who 0": ["who", "TRACE", "0", "--image", "IMAGE"],
+    "who 0 1": ["who", "TRACE", "0", "1", "--image", "IMAGE"],
+    "who 0 word 0": ["who", "TRACE", "0", "--word", "0", "--image", "IMAGE"],
+    "stale": ["stale", "TRACE", "--image", "IMAGE"],
+    "why 1 0": ["why", "TRACE", "1", "0", "--image", "IMAGE"],
+    "events": ["events", "IMAGE", "TRACE"],
+    "who 999": ["who", "TRACE", "999", "--image", "IMAGE"],
+    "who 0 99": ["who", "TRACE", "0", "99", "--image", "IMAGE"],
+    "who 0 word 99": ["who", "TRACE", "0", "--word", "99", "--image", "IMAGE"],
+    "why 9 0": ["why", "TRACE", "9", "0", "--image", "IMAGE"],
+    "why 0 999": ["why", "TRACE", "0", "999", "--image", "IMAGE"],
+}
+
+# How questions are written, said where one is written otherwise.
+USAGES = {
+    "who": "usage: monitor who OBJECT [VERSION], or monitor who OBJECT word WORD",
+    "who 0 words 0": "usage: monitor who OBJECT [VERSION], or monitor who OBJECT word WORD",
+    "who -1": "usage: monitor who OBJECT [VERSION], or monitor who OBJECT word WORD",
+    "stale 0": "usage: monitor stale",
+    "why 1": "usage: monitor why [THREAD EVENT]",
+    "events 0 1": "usage: monitor events [THREAD]",
+}
+
+
+def monitored(folder, guest, asked, before=()):
+    """What a gdb without ir.gdb prints for these lines of `monitor`, by line."""
+    words = [GDB, "-nx", "-q", "-batch", "-ex", "set width 0", "-ex", f"target remote | {program()} gdb {guest}.img {guest}.trc"]
+    for text in [*before, *(each for line in asked for each in (f"monitor {line}", r"echo \n== answered\n"))]:
+        words += ["-ex", text]
+    ended = subprocess.run(words, cwd=folder, stdin=subprocess.DEVNULL, stdout=subprocess.PIPE, stderr=subprocess.STDOUT, text=True, timeout=100, check=False)
+    parts = ended.stdout.split("\n== answered\n")
+    if len(parts) != len(asked) + 1:
+        raise Wrong(f"{guest}: not all lines were answered: {ended.stdout}")
+    return dict(zip(asked, parts))
+
+
+def said_by_program(folder, guest, words):
+    """What the program prints, or the words of its fault."""
+    files = {"TRACE": f"{guest}.trc", "IMAGE": f"{guest}.img"}
+    ended = run([files.get(word, word) for word in words], folder)
+    return ended.out.decode() or ended.err.decode().removeprefix("ir: ").splitlines()[0] + "\n"
+
+
+def check_questions(folder):
+    """Questions of the run that `monitor` takes are answered as by the commands, and no thread moves."""
+    for guest in ("lost", "objs", "cond"):
+        lines = [*QUESTIONS, "events 1", "why", *USAGES, "pos"]
+        said = monitored(folder, guest, lines, ["tbreak *0x10008", "continue", "monitor pos"])
+        wanted = {line: said_by_program(folder, guest, words) for line, words in QUESTIONS.items()}
+        wanted["events 1"] = "".join(f"{line}\n" for line in wanted["events"].splitlines() if line.startswith("thread 1 "))
+        wanted |= {line: f"{text}\n" for line, text in USAGES.items()}
+        wrong = [line for line, text in wanted.items() if not said[line].endswith(text)]
+        if wrong:
+            raise Wrong(f"{guest}: monitor {wrong[0]}: {said[wrong[0]]!r} instead of {wanted[wrong[0]]!r}")
+
+
 def check_forged(folder):
     """What can't be opened is named on standard error, and nothing is read."""
     (folder / "none.trc").write_bytes(b"nothing")
@@ -679,6 +737,7 @@ CHECKS = {
     "26-bad-ends": check_bad_ends,
     "27-other-file": check_other_file,
     "28-object-words": check_object_words,
+    "29-questions": check_questions,
 }
 
 

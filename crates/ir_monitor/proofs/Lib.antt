@@ -1,0 +1,4 @@
+mod Told
+mod Joined
+mod Last
+mod Unknown
