@@ -560,16 +560,16 @@ USAGES = {
 }
 
 
-def monitored(folder, guest, asked, before=()):
-    """What a gdb without ir.gdb prints for these lines of `monitor`, by line."""
+def monitored(folder, guest, lines):
+    """What a gdb without ir.gdb prints for each of these lines of `monitor`."""
     words = [GDB, "-nx", "-q", "-batch", "-ex", "set width 0", "-ex", f"target remote | {program()} gdb {guest}.img {guest}.trc"]
-    for text in [*before, *(each for line in asked for each in (f"monitor {line}", r"echo \n== answered\n"))]:
-        words += ["-ex", text]
+    for line in lines:
+        words += ["-ex", r"echo \n== asked\n", "-ex", f"monitor {line}"]
     ended = subprocess.run(words, cwd=folder, stdin=subprocess.DEVNULL, stdout=subprocess.PIPE, stderr=subprocess.STDOUT, text=True, timeout=100, check=False)
-    parts = ended.stdout.split("\n== answered\n")
-    if len(parts) != len(asked) + 1:
+    said = ended.stdout.split("\n== asked\n")[1:]
+    if len(said) != len(lines):
         raise Wrong(f"{guest}: not all lines were answered: {ended.stdout}")
-    return dict(zip(asked, parts))
+    return said
 
 
 def said_by_program(folder, guest, words):
@@ -579,17 +579,27 @@ def said_by_program(folder, guest, words):
     return ended.out.decode() or ended.err.decode().removeprefix("ir: ").splitlines()[0] + "\n"
 
 
+def why_before(folder, guest, position):
+    """What `ir why` prints of the last event that thread 0 makes before a position."""
+    lines = said_by_program(folder, guest, QUESTIONS["events"]).splitlines()
+    made = [line.split()[3] for line in lines if line.startswith("thread 0 ") and int(line.split()[5]) < position]
+    return said_by_program(folder, guest, ["why", "TRACE", "0", made[-1], "--image", "IMAGE"]) if made else "the thread has made no event yet\n"
+
+
 def check_questions(folder):
     """Questions of the run that `monitor` takes are answered as by the commands, and no thread moves."""
     for guest in ("lost", "objs", "cond"):
-        lines = [*QUESTIONS, "events 1", "why", *USAGES, "pos"]
-        said = monitored(folder, guest, lines, ["tbreak *0x10008", "continue", "monitor pos"])
-        wanted = {line: said_by_program(folder, guest, words) for line, words in QUESTIONS.items()}
-        wanted["events 1"] = "".join(f"{line}\n" for line in wanted["events"].splitlines() if line.startswith("thread 1 "))
-        wanted |= {line: f"{text}\n" for line, text in USAGES.items()}
-        wrong = [line for line, text in wanted.items() if not said[line].endswith(text)]
-        if wrong:
-            raise Wrong(f"{guest}: monitor {wrong[0]}: {said[wrong[0]]!r} instead of {wanted[wrong[0]]!r}")
+        wanted = [(line, said_by_program(folder, guest, words)) for line, words in QUESTIONS.items()]
+        events = said_by_program(folder, guest, QUESTIONS["events"]).splitlines(keepends=True)
+        wanted += [("events 1", "".join(line for line in events if line.startswith("thread 1 ")))]
+        wanted += [(line, f"{text}\n") for line, text in USAGES.items()]
+        (first, *rest) = monitored(folder, guest, ["step 0 30", "step 0 30", "end"])
+        positions = [int(said.split()[1]) for said in rest]
+        wanted += [("why", why_before(folder, guest, 0)), ("step 0 30", first), ("why", why_before(folder, guest, int(first.split()[1])))]
+        wanted += [("step 0 30", rest[0]), ("why", why_before(folder, guest, positions[0])), ("end", rest[1]), ("why", why_before(folder, guest, positions[1]))]
+        for (line, text), said in zip(wanted, monitored(folder, guest, [line for line, _ in wanted])):
+            if said != text:
+                raise Wrong(f"{guest}: monitor {line}: {said!r} instead of {text!r}")
 
 
 def check_forged(folder):

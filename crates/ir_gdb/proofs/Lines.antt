@@ -1,6 +1,7 @@
 -- From an answer of the session's debugger to the reply to a line.
 use Rattle.std.specs.Prelude.{⊤}
-use Rattle.std.proofs.Common.{◌≡◌, ◌∙◌, ◌⊎◌, ◌++◌, ℕ, Bool, true, false, List, [], Option, None, Some, Result, Ok, Err, refl, sym, ap, subst}
+use Rattle.std.proofs.Common.{◌≡◌, ◌∙◌, ◌⊎◌, ◌++◌, ℕ, Bool, true, false, List, [], Option, None, Some, Result, Ok, Err, refl, sym, ap, subst, inl, inr}
+use Rattle.std.specs.Io.KnownBytes.{Appends}
 use Rattle.ir_fit.specs.Fit.{FittedTrace, IsRunOf}
 use Rattle.ir_command.specs.Commands.{command_of}
 use Rattle.ir_command.specs.declared.command.Command.{Command}
@@ -8,8 +9,12 @@ use Rattle.ir_command.specs.declared.refusal.Refusal.{Refusal}
 use Rattle.ir_debug.specs.declared.answer.Answer.{Answer}
 use Rattle.ir_debug.specs.Machine.{RepliesBy, Replies, quits, Desk}
 use Rattle.ir_debug.specs.Debugging.{Debugging, IsAnswer, IsText}
+use Rattle.ir_files.specs.Writers.{writer_of}
+use Rattle.ir_monitor.specs.Answers.{IsAnswerTo}
 use Rattle.ir_monitor.specs.Asking.{asked_of}
+use Rattle.ir_monitor.specs.Telling.{HasSaid}
 use Rattle.ir_monitor.specs.declared.asked.Asked.{Asked}
+use Rattle.ir_gdb.specs.Questions.{here_of}
 use Rattle.ir_gdb.specs.Stub.{Stub}
 use Rattle.ir_gdb.specs.declared.console.Answered.{Answered}
 use Rattle.ir_gdb.specs.Connection.{Link, with_desk, RespondsInSession, RespondsTo, Responds, Consults}
@@ -59,6 +64,17 @@ responds_kept_text s s0 text line next old new same is none r =
     (λ answer kept. kept ∙ ap (λ (x : List ℕ). x ++ answer) none)
     (subst (λ (x : Stub). Responds x line next (λ answer. new ≡ old ++ answer)) same
     (subst (λ (x : List ℕ). Responds s x next (λ answer. new ≡ old ++ answer)) is r))
+
+-- a question is answered, and the stub stays
+pub question_responds : (asked : Asked) (found : Option Asked) (s : Stub) (line : List ℕ) (a b : Option (List ℕ)) (failed : Bool) → found ≡ asked_of line
+    → found ≡ Some asked → HasSaid (IsAnswerTo s.desk.fitted (here_of s) asked) (writer_of a b failed) → Responds s line s (Appends a b)
+question_responds asked found s line a b failed is some gave =
+    subst (λ (x : Option Asked). RespondsTo x s line s (Appends a b)) (sym some ∙ is) (gave.text, (gave.is, refl), gave.took)
+
+-- a line that asks no question is answered as a session answers it
+pub line_responds_in_session : (found : Option Asked) (s : Stub) (line : List ℕ) (next : Stub) (P : List ℕ → Type 0) → found ≡ asked_of line → found ≡ None
+    → RespondsInSession s line next P → Responds s line next P
+line_responds_in_session found s line next P is none r = subst (λ (x : Option Asked). RespondsTo x s line next P) (sym none ∙ is) r
 
 -- whatever is answered, where there is no memory for it
 pub responds_without_memory : (l : Link) (s s0 next : Stub) (text line : List ℕ) → s ≡ s0 → s0 ≡ l.stub → text ≡ line

@@ -45,11 +45,11 @@ question_name_unknown : (name : List ℕ) (words : List (List ℕ)) (asked : Ask
 unfolding asked_by_words
 question_name_unknown name words asked is = elim (named_in_turn (bytes_eq name (codes "who")) (bytes_eq name (codes "stale"))
     (bytes_eq name (codes "why")) (bytes_eq name (codes "events")) _ _ _ _ asked is) [
-  | inl who ↦ unknown_by_name (codes "who") name words unknown_who who
-  | inr (inl stale) ↦ unknown_by_name (codes "stale") name words unknown_stale stale
-  | inr (inr (inl why)) ↦ unknown_by_name (codes "why") name words unknown_why why
-  | inr (inr (inr events)) ↦ unknown_by_name (codes "events") name words unknown_events events
-]
+      | inl who ↦ unknown_by_name (codes "who") name words unknown_who who
+      | inr (inl stale) ↦ unknown_by_name (codes "stale") name words unknown_stale stale
+      | inr (inr (inl why)) ↦ unknown_by_name (codes "why") name words unknown_why why
+      | inr (inr (inr events)) ↦ unknown_by_name (codes "events") name words unknown_events events
+    ]
 
 unknown_within_limit : (long : Bool) (words : List (List ℕ)) (asked : Asked) → cond long None (asked_by_words words) ≡ Some asked
     → cond long (Err LineTooLong) (command_of_words words) ≡ Err UnknownCommand

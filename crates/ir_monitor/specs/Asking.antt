@@ -16,28 +16,28 @@ abbrev pub of_two : {X : Type 0} → (ℕ → ℕ → X) → List ℕ → List �
 of_two make first second = option_and_then (λ a. of_one (make a) second) (number_up_to most_small first)
 
 -- what these words ask behind `who`
-abbrev pub who_of : List (List ℕ) → Option Asked
-who_of (object ∷ []) = of_one Object object
-who_of (object ∷ version ∷ []) = of_two Version object version
-who_of (object ∷ between ∷ word ∷ []) = if bytes_eq between (codes "word") then of_two Word object word else None
-who_of words = None
+abbrev pub asked_by_who : List (List ℕ) → Option Asked
+asked_by_who (object ∷ []) = of_one Object object
+asked_by_who (object ∷ version ∷ []) = of_two Version object version
+asked_by_who (object ∷ between ∷ word ∷ []) = if bytes_eq between (codes "word") then of_two Word object word else None
+asked_by_who words = None
 
 -- behind `stale`
-abbrev pub stale_of : List (List ℕ) → Option Asked
-stale_of [] = Some Stale
-stale_of words = None
+abbrev pub asked_by_stale : List (List ℕ) → Option Asked
+asked_by_stale [] = Some Stale
+asked_by_stale words = None
 
 -- behind `why`
-abbrev pub why_of : List (List ℕ) → Option Asked
-why_of [] = Some LastEvent
-why_of (thread ∷ event ∷ []) = of_two Event thread event
-why_of words = None
+abbrev pub asked_by_why : List (List ℕ) → Option Asked
+asked_by_why [] = Some LastEvent
+asked_by_why (thread ∷ event ∷ []) = of_two Event thread event
+asked_by_why words = None
 
 -- behind `events`
-abbrev pub events_of : List (List ℕ) → Option Asked
-events_of [] = Some Events
-events_of (thread ∷ []) = of_one ThreadEvents thread
-events_of words = None
+abbrev pub asked_by_events : List (List ℕ) → Option Asked
+asked_by_events [] = Some Events
+asked_by_events (thread ∷ []) = of_one ThreadEvents thread
+asked_by_events words = None
 
 -- what is asked, or that it is no question of this form
 abbrev pub or_misspelt : Form → Option Asked → Asked
@@ -48,10 +48,10 @@ or_misspelt form None = Misspelt form
 unfoldable pub asked_by_words : List (List ℕ) → Option Asked
 asked_by_words [] = None
 asked_by_words (name ∷ words) =
-    if bytes_eq name (codes "who") then Some (or_misspelt form.Who (who_of words))
-    else if bytes_eq name (codes "stale") then Some (or_misspelt form.Stale (stale_of words))
-    else if bytes_eq name (codes "why") then Some (or_misspelt form.Why (why_of words))
-    else if bytes_eq name (codes "events") then Some (or_misspelt form.Events (events_of words))
+    if bytes_eq name (codes "who") then Some (or_misspelt form.Who (asked_by_who words))
+    else if bytes_eq name (codes "stale") then Some (or_misspelt form.Stale (asked_by_stale words))
+    else if bytes_eq name (codes "why") then Some (or_misspelt form.Why (asked_by_why words))
+    else if bytes_eq name (codes "events") then Some (or_misspelt form.Events (asked_by_events words))
     else None
 
 -- what a line asks, which is given as a session's line is; a line that is no question is answered by a session

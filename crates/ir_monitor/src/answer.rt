@@ -2,7 +2,8 @@
 
 ghost use Rattle.std.specs.Prelude.{◌≡◌, ◌<◌, length, IfErr, OnOk, false};
 ghost use Rattle.ir_files.specs.Writers.{writer_of};
-ghost use Rattle.ir_monitor.specs.Answers.{IsLastTold, IsAnswerTo, Gave, GaveNot, event_asked};
+ghost use Rattle.ir_monitor.specs.Answers.{IsLastSaid, IsAnswerTo, event_question};
+ghost use Rattle.ir_monitor.specs.Telling.{HasSaid, HasNotSaid};
 
 use crate::asked::{Asked, Form};
 use crate::events::EventsQuestion;
@@ -13,8 +14,8 @@ use ir_fit::Fitted;
 use ir_past::PastErr;
 use ir_stale_run::RestsQuestion;
 use ir_stream::Sink;
-use ir_who_word::Question as WordQuestion;
 use ir_who::Question as VersionsQuestion;
+use ir_who_word::Question as WordQuestion;
 use ir_why::{FitQuestion, Question as EventQuestion};
 use std::alloc::Global;
 
@@ -22,8 +23,8 @@ use std::alloc::Global;
 const TOLD_LINKS: u32 = 20;
 
 // What is asked about an event.
-fn event_asked(thread: u32, event: u32) -> FitQuestion
-    ensures { result ≡ event_asked thread event }
+fn event_question(thread: u32, event: u32) -> FitQuestion
+    ensures { result ≡ event_question thread event }
 {
     FitQuestion {
         what: EventQuestion {
@@ -52,19 +53,14 @@ impl Form {
 }
 
 // Answers why the last event came that a thread made before it came here.
-fn say_last<O: Sink>(
-    alloc: Global,
-    fitted: &Fitted,
-    here: Here,
-    out: &mut O,
-) -> Result<(), PastErr>
+fn say_last<O: Sink>(alloc: Global, fitted: &Fitted, here: Here, out: &mut O) -> Result<(), PastErr>
     requires works { O.broken out.old ≡ false }
     requires thread { here.thread < length fitted.now.guest.entries }
-    ensures ok { OnOk result (Gave (IsLastTold fitted.now here) (writer_of (O.written out.old) (O.written out.new) (O.broken out.new))) }
-    ensures fails { IfErr result (λ e. GaveNot (IsLastTold fitted.now here) e (writer_of (O.written out.old) (O.written out.new) (O.broken out.new))) }
+    ensures ok { OnOk result (HasSaid (IsLastSaid fitted.now here) (writer_of (O.written out.old) (O.written out.new) (O.broken out.new))) }
+    ensures fails { IfErr result (λ e. HasNotSaid (IsLastSaid fitted.now here) e (writer_of (O.written out.old) (O.written out.new) (O.broken out.new))) }
 {
     match last_event(fitted, here) {
-        Some(event) => say(alloc, fitted, &event_asked(here.thread, event), out),
+        Some(event) => say(alloc, fitted, &event_question(here.thread, event), out),
         None => say_line(alloc, "the thread has made no event yet", out),
     }
 }
@@ -83,8 +79,8 @@ pub fn answer<O: Sink>(
 ) -> Result<(), PastErr>
     requires works { O.broken out.old ≡ false }
     requires thread { here.thread < length fitted.now.guest.entries }
-    ensures ok { OnOk result (Gave (IsAnswerTo fitted.now here asked) (writer_of (O.written out.old) (O.written out.new) (O.broken out.new))) }
-    ensures fails { IfErr result (λ e. GaveNot (IsAnswerTo fitted.now here asked) e (writer_of (O.written out.old) (O.written out.new) (O.broken out.new))) }
+    ensures ok { OnOk result (HasSaid (IsAnswerTo fitted.now here asked) (writer_of (O.written out.old) (O.written out.new) (O.broken out.new))) }
+    ensures fails { IfErr result (λ e. HasNotSaid (IsAnswerTo fitted.now here asked) e (writer_of (O.written out.old) (O.written out.new) (O.broken out.new))) }
 {
     match asked {
         Asked::Object(object) => {
@@ -97,7 +93,7 @@ pub fn answer<O: Sink>(
         }
         Asked::Word(object, word) => say(alloc, fitted, &WordQuestion { object, word }, out),
         Asked::Stale => say(alloc, fitted, &RestsQuestion, out),
-        Asked::Event(thread, event) => say(alloc, fitted, &event_asked(thread, event), out),
+        Asked::Event(thread, event) => say(alloc, fitted, &event_question(thread, event), out),
         Asked::LastEvent => say_last(alloc, fitted, here, out),
         Asked::Events => say(alloc, fitted, &EventsQuestion { thread: None }, out),
         Asked::ThreadEvents(thread) => {

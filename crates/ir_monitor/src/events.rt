@@ -5,7 +5,7 @@ ghost use Rattle.ir_trace.specs.Recorded.{recorded_thread};
 ghost use Rattle.ir_past.specs.Replies.{IsDoneWith, IsTextless};
 ghost use Rattle.ir_events.specs.Events.{ArePcs};
 ghost use Rattle.ir_events.specs.Texts.{named_line, logged_at, thread_text, events_text};
-ghost use Rattle.ir_monitor.specs.Answers.{AreEventsTold, LacksThread};
+ghost use Rattle.ir_monitor.specs.Events.{AreEventsSaid, LacksThread};
 
 use ir_events::{EventPcs, Logged, event_line, pcs};
 use ir_files::ExitStatus;
@@ -90,7 +90,7 @@ pub struct EventsQuestion {
 
 // The lines that answer a question.
 fn lines(alloc: Global, fitted: &Fitted, asked: EventsQuestion) -> Result<Vec<u8>, AskErr>
-    ensures ok { IfOk result (λ text. AreEventsTold asked.thread fitted.now text.items) }
+    ensures ok { IfOk result (λ text. AreEventsSaid asked.thread fitted.now text.items) }
     ensures fails { IfErr result (IsTextless (LacksThread asked.thread fitted.now)) }
 {
     let mut text = Vec::new(alloc);
@@ -111,7 +111,7 @@ fn lines(alloc: Global, fitted: &Fitted, asked: EventsQuestion) -> Result<Vec<u8
 }
 
 impl RunQuestion for EventsQuestion {
-    ghost is_answer = { λ asked f. IsDoneWith (AreEventsTold asked.thread f) };
+    ghost is_answer = { λ asked f. IsDoneWith (AreEventsSaid asked.thread f) };
 
     ghost is_absent = { λ asked. LacksThread asked.thread };
 

@@ -2,7 +2,7 @@
 
 ghost use Rattle.std.specs.Prelude.{◌≡◌, ◌∷◌};
 ghost use Rattle.ir_command.specs.Commands.{words_of};
-ghost use Rattle.ir_monitor.specs.Asking.{of_one, of_two, who_of, stale_of, why_of, events_of, or_misspelt, asked_by_words, asked_of};
+ghost use Rattle.ir_monitor.specs.Asking.{of_one, of_two, asked_by_who, asked_by_stale, asked_by_why, asked_by_events, or_misspelt, asked_by_words, asked_of};
 
 use crate::asked::{Asked, Form};
 use ir_command::{MOST_LINE, next_word, parse_u32, without_return};
@@ -16,7 +16,7 @@ fn numbers(first: &[u8], second: &[u8]) -> Option<(u32, u32)>
 
 // What `who` asks with these words behind it.
 fn who(words: &[u8]) -> Option<Asked>
-    ensures { result ≡ who_of (words_of words.now) }
+    ensures { result ≡ asked_by_who (words_of words.now) }
 {
     let (object, rest) = next_word(words)?;
     let Some((second, rest)) = next_word(rest) else {
@@ -35,7 +35,7 @@ fn who(words: &[u8]) -> Option<Asked>
 
 // What `stale` asks with these words behind it.
 fn stale(words: &[u8]) -> Option<Asked>
-    ensures { result ≡ stale_of (words_of words.now) }
+    ensures { result ≡ asked_by_stale (words_of words.now) }
 {
     match next_word(words) {
         None => Some(Asked::Stale),
@@ -45,7 +45,7 @@ fn stale(words: &[u8]) -> Option<Asked>
 
 // What `why` asks with these words behind it.
 fn why(words: &[u8]) -> Option<Asked>
-    ensures { result ≡ why_of (words_of words.now) }
+    ensures { result ≡ asked_by_why (words_of words.now) }
 {
     let Some((thread, rest)) = next_word(words) else {
         return Some(Asked::LastEvent);
@@ -60,7 +60,7 @@ fn why(words: &[u8]) -> Option<Asked>
 
 // What `events` asks with these words behind it.
 fn events(words: &[u8]) -> Option<Asked>
-    ensures { result ≡ events_of (words_of words.now) }
+    ensures { result ≡ asked_by_events (words_of words.now) }
 {
     let Some((thread, rest)) = next_word(words) else {
         return Some(Asked::Events);

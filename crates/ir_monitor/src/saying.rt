@@ -3,7 +3,7 @@
 ghost use Rattle.std.specs.Prelude.{◌≡◌, IfOk, IfErr, OnOk, false};
 ghost use Rattle.std.specs.String.{string_bytes};
 ghost use Rattle.ir_files.specs.Writers.{writer_of};
-ghost use Rattle.ir_monitor.specs.Answers.{line_of, IsTold, Gave, GaveNot};
+ghost use Rattle.ir_monitor.specs.Telling.{said_line, IsSaidOf, HasSaid, HasNotSaid};
 
 use ir_fit::Fitted;
 use ir_opened::RunQuestion;
@@ -12,8 +12,8 @@ use ir_stream::Sink;
 use std::alloc::{AllocError, Global};
 
 // Words as a line.
-fn line_of(alloc: Global, words: &str) -> Result<String, AllocError>
-    ensures { IfOk result (λ s. string_bytes s ≡ line_of words.now) }
+fn said_line(alloc: Global, words: &str) -> Result<String, AllocError>
+    ensures { IfOk result (λ s. string_bytes s ≡ said_line words.now) }
 {
     format!(in alloc; "{words}\n")
 }
@@ -24,10 +24,10 @@ fn line_of(alloc: Global, words: &str) -> Result<String, AllocError>
 /// Memory ran out, and nothing was written; or the writer failed, and a prefix of the line was written.
 pub fn say_line<O: Sink>(alloc: Global, words: &str, out: &mut O) -> Result<(), PastErr>
     requires { O.broken out.old ≡ false }
-    ensures ok { OnOk result (Gave (λ text. text ≡ line_of words.now) (writer_of (O.written out.old) (O.written out.new) (O.broken out.new))) }
-    ensures fails { IfErr result (λ e. GaveNot (λ text. text ≡ line_of words.now) e (writer_of (O.written out.old) (O.written out.new) (O.broken out.new))) }
+    ensures ok { OnOk result (HasSaid (λ text. text ≡ said_line words.now) (writer_of (O.written out.old) (O.written out.new) (O.broken out.new))) }
+    ensures fails { IfErr result (λ e. HasNotSaid (λ text. text ≡ said_line words.now) e (writer_of (O.written out.old) (O.written out.new) (O.broken out.new))) }
 {
-    let line = line_of(alloc, words)?;
+    let line = said_line(alloc, words)?;
     put_bytes(line.as_bytes(), out)
 }
 
@@ -42,9 +42,9 @@ pub fn say<Q: RunQuestion, O: Sink>(
     out: &mut O,
 ) -> Result<(), PastErr>
     requires { O.broken out.old ≡ false }
-    ensures ok { OnOk result (Gave (IsTold (Q.is_answer question.now fitted.now) (Q.is_absent question.now fitted.now))
+    ensures ok { OnOk result (HasSaid (IsSaidOf (Q.is_answer question.now fitted.now) (Q.is_absent question.now fitted.now))
         (writer_of (O.written out.old) (O.written out.new) (O.broken out.new))) }
-    ensures fails { IfErr result (λ e. GaveNot (IsTold (Q.is_answer question.now fitted.now) (Q.is_absent question.now fitted.now)) e
+    ensures fails { IfErr result (λ e. HasNotSaid (IsSaidOf (Q.is_answer question.now fitted.now) (Q.is_absent question.now fitted.now)) e
         (writer_of (O.written out.old) (O.written out.new) (O.broken out.new))) }
 {
     match question.print(alloc, fitted, out) {

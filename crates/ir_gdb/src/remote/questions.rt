@@ -4,7 +4,8 @@ ghost use Rattle.std.specs.Prelude.{◌≡◌, ◌<◌, ◌⊎◌, ⊤, false, I
 ghost use Rattle.std.specs.Io.KnownBytes.{Appends};
 ghost use Rattle.ir_cut.specs.Positions.{threads_of};
 ghost use Rattle.ir_files.specs.Writers.{writer_of};
-ghost use Rattle.ir_monitor.specs.Answers.{IsAnswerTo, Gave, GaveNot};
+ghost use Rattle.ir_monitor.specs.Answers.{IsAnswerTo};
+ghost use Rattle.ir_monitor.specs.Telling.{HasSaid, HasNotSaid};
 ghost use Rattle.ir_gdb.specs.Connection.{Responds};
 ghost use Rattle.ir_gdb.specs.Questions.{here_of};
 
@@ -28,11 +29,16 @@ impl Remote {
     }
 
     // Answers a question of the run.
-    fn tell<W: Sink>(&self, alloc: Global, asked: Asked, writer: &mut W) -> Result<(), PastErr>
+    fn answer_question<W: Sink>(
+        &self,
+        alloc: Global,
+        asked: Asked,
+        writer: &mut W,
+    ) -> Result<(), PastErr>
         requires { W.broken writer.old ≡ false }
-        ensures ok { OnOk result (Gave (IsAnswerTo self.now.stub.desk.fitted (here_of self.now.stub) asked)
+        ensures ok { OnOk result (HasSaid (IsAnswerTo self.now.stub.desk.fitted (here_of self.now.stub) asked)
             (writer_of (W.written writer.old) (W.written writer.new) (W.broken writer.new))) }
-        ensures fails { IfErr result (λ e. GaveNot (IsAnswerTo self.now.stub.desk.fitted (here_of self.now.stub) asked) e
+        ensures fails { IfErr result (λ e. HasNotSaid (IsAnswerTo self.now.stub.desk.fitted (here_of self.now.stub) asked) e
             (writer_of (W.written writer.old) (W.written writer.new) (W.broken writer.new))) }
     {
         answer(alloc, self.debugger.fitted(), self.asking(), asked, writer)
@@ -53,7 +59,7 @@ impl Remote {
         ensures err { OnErr result ((self.new.stub ≡ self.old.stub) ⊎ Responds self.old.stub line.now self.new.stub (λ text. ⊤)) }
     {
         match asked_of(line) {
-            Some(asked) => self.tell(hands.alloc(), asked, writer),
+            Some(asked) => self.answer_question(hands.alloc(), asked, writer),
             None => Ok(self.respond(hands, line, writer)?),
         }
     }
