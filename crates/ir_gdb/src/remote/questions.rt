@@ -60,7 +60,10 @@ impl Remote {
     {
         match asked_of(line) {
             Some(asked) => self.answer_question(hands.alloc(), asked, writer),
-            None => Ok(self.respond(hands, line, writer)?),
+            None => match self.respond(hands, line, writer) {
+                Ok(()) => Ok(()),
+                Err(_) => Err(PastErr::Write),
+            },
         }
     }
 }
