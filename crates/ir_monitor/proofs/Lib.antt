@@ -1,4 +1,5 @@
 mod Told
 mod Joined
 mod Last
+mod Arms
 mod Unknown

@@ -1,5 +1,5 @@
 -- What questions of a recorded run are answered.
-use Rattle.std.specs.Prelude.{◌≡◌, ◌⊎◌, ⊥, ℕ, List, codes, Option, Some, None}
+use Rattle.std.specs.Prelude.{◌≡◌, ◌⊎◌, ℕ, List, codes, Option, Some, None}
 use Rattle.ir_fit.specs.Fit.{FittedTrace}
 use Rattle.ir_past.specs.Replies.{IsDoneWith}
 use Rattle.ir_who.specs.FitLines.{IsFitWhoAnswer, LacksAskedIn}

@@ -1,5 +1,5 @@
 -- The lines of the events of a run, or of those of a thread.
-use Rattle.std.specs.Prelude.{◌≡◌, ◌<◌, ◌≤◌, ⊤, ⊥, ℕ, List, [], length, Option, Some, None}
+use Rattle.std.specs.Prelude.{◌≡◌, ◌<◌, ◌≤◌, ⊤, ℕ, List, [], length, Option, Some, None}
 use Rattle.ir_fit.specs.Fit.{FittedTrace}
 use Rattle.ir_past.specs.declared.absent.Absent.{Absent}
 use Rattle.ir_past.specs.declared.absent.Absent.TheVariants as absent

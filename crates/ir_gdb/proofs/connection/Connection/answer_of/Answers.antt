@@ -12,11 +12,11 @@ returns-clause-answer g c =
       line_does_not_quit (console_line c.args.self.now.reading.payload) c.as_slice.result.now c.quits.result c.quits.ensures
           (c.as_slice.ensures.value ∙ line) c.if-quits.false,
       (
-        c.respond.new.self.stub,
+        c.hear.new.self.stub,
         responds_kept_text c.self.inside.remote.stub c.args.self.now.link.stub c.as_slice-line.result.now
-            (console_line c.args.self.now.reading.payload) c.respond.new.self.stub c.in-Ok.answered.bytes.items
-            c.respond.new.writer.bytes.items (ap (λ (x : Connecting). x.link.stub) c.self.view_is) (c.as_slice-line.ensures.value ∙ line)
-            c.in-Ok.ensures.bytes c.in-Ok-respond.ensures.ok,
-        ap (λ (x : Connecting). record x.link { stub = c.respond.new.self.stub }) c.self.view_is,
+            (console_line c.args.self.now.reading.payload) c.hear.new.self.stub c.in-Ok.answered.bytes.items
+            c.hear.new.writer.bytes.items (ap (λ (x : Connecting). x.link.stub) c.self.view_is) (c.as_slice-line.ensures.value ∙ line)
+            c.in-Ok.ensures.bytes c.in-Ok-hear.ensures.ok,
+        ap (λ (x : Connecting). record x.link { stub = c.hear.new.self.stub }) c.self.view_is,
       ),
     )
