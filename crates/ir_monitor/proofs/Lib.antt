@@ -1,5 +1,5 @@
 mod Told
 mod Joined
-mod Last
+mod LastSteps
 mod Arms
 mod Unknown

@@ -1,7 +1,7 @@
 //! Questions of a recorded run that gdb's `monitor` asks, and their answers.
 #![tactic(auto)]
 
-mod answer;
+mod answering;
 mod asked;
 mod events;
 mod here;
@@ -10,7 +10,7 @@ mod laws;
 mod line;
 mod saying;
 
-pub use answer::answer;
+pub use answering::answer;
 pub use asked::{Asked, Form};
 pub use here::Here;
 pub use laws::no_question_is_a_command;

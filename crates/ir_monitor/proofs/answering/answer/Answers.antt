@@ -7,7 +7,7 @@ use Rattle.ir_monitor.specs.Telling.{said_line, IsSaidOf}
 use Rattle.ir_monitor.specs.declared.asked.Asked.{Asked}
 use Rattle.ir_monitor.specs.declared.asked.Asked.TheVariants.{Object, Version, Word, Stale, Event, LastEvent, Events, ThreadEvents, Misspelt}
 use Rattle.ir_monitor.proofs.Arms.{said_in_answer, said_as_implied, why_said_of_event, line_said_by_words}
-use Rattle.ir_monitor.proofs.answer.answer.Goals as goal
+use Rattle.ir_monitor.proofs.answering.answer.Goals as goal
 
 pub returns-in-Object : goal.returns-in-Object
 returns-in-Object g c =

@@ -5,7 +5,7 @@ use Rattle.ir_why.specs.FitAnswers.{IsFitReason, LacksFitAsked}
 use Rattle.ir_monitor.specs.Answers.{IsLastSaid}
 use Rattle.ir_monitor.specs.Telling.{said_line, IsSaidOf}
 use Rattle.ir_monitor.proofs.Arms.{said_as_implied, why_said_of_event}
-use Rattle.ir_monitor.proofs.answer.say_last.Goals as goal
+use Rattle.ir_monitor.proofs.answering.say_last.Goals as goal
 
 pub returns-in-Some : goal.returns-in-Some
 returns-in-Some g c =
