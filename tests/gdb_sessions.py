@@ -576,7 +576,7 @@ def said_by_program(folder, guest, words):
     """What the program prints, or the words of its fault."""
     files = {"TRACE": f"{guest}.trc", "IMAGE": f"{guest}.img"}
     ended = run([files.get(word, word) for word in words], folder)
-    return ended.out.decode() or ended.err.decode().removeprefix("ir: ").splitlines()[0] + "\n"
+    return ended.stdout.decode() or ended.stderr.decode().removeprefix("ir: ").splitlines()[0] + "\n"
 
 
 def why_before(folder, guest, position):
