@@ -77,14 +77,13 @@ pub line_responds_in_session : (found : Option Asked) (s : Stub) (line : List �
 line_responds_in_session found s line next P is none r = subst (λ (x : Option Asked). RespondsTo x s line next P) (sym none ∙ is) r
 
 -- whatever is answered, where there is no memory for it
-pub responds_without_memory : (l : Link) (s s0 next : Stub) (text line : List ℕ) → s ≡ s0 → s0 ≡ l.stub → text ≡ line
-    → ((next ≡ s) ⊎ Responds s text next (λ answer. ⊤))
-    → ((record l { stub = next } ≡ l) ⊎ ((x : Stub) × Responds l.stub line x (λ answer. ⊤) × (record l { stub = next } ≡ record l { stub = x })))
-responds_without_memory l s s0 next text line same is of (inl stays) = inl (ap (λ (x : Stub). record l { stub = x }) (stays ∙ same ∙ is))
-responds_without_memory l s s0 next text line same is of (inr r) = inr (
+pub responds_without_memory : (l mid : Link) (s next : Stub) (text line : List ℕ) → s ≡ l.stub → text ≡ line → mid ≡ record l { stub = next }
+    → ((next ≡ s) ⊎ Responds s text next (λ answer. ⊤)) → ((mid ≡ l) ⊎ ((x : Stub) × Responds l.stub line x (λ answer. ⊤) × (mid ≡ record l { stub = x })))
+responds_without_memory l mid s next text line same of after (inl stays) = inl (after ∙ ap (λ (x : Stub). record l { stub = x }) (stays ∙ same))
+responds_without_memory l mid s next text line same of after (inr r) = inr (
   next,
-  subst (λ (x : Stub). Responds x line next (λ answer. ⊤)) (same ∙ is) (subst (λ (x : List ℕ). Responds s x next (λ answer. ⊤)) of r),
-  refl,
+  subst (λ (x : Stub). Responds x line next (λ answer. ⊤)) same (subst (λ (x : List ℕ). Responds s x next (λ answer. ⊤)) of r),
+  after,
 )
 
 module _ {E : Type 0} (l next : Link) (line : List ℕ) (r : Result (Option Answered) E) (is : Consults l line r next) where
