@@ -35,10 +35,13 @@ module _ (A : ExitStatus → List ℕ → Type 0) (B : Absent → Type 0) where
       → B what → IsUntouched (writer_of a b f) → OnOk r (HasSaid (λ text. text ≡ said_line words) (writer_of b c g))
       → IfErr r (λ e. HasNotSaid (λ text. text ≡ said_line words) e (writer_of b c g))
       → OnOk r (HasSaid (IsSaidOf A B) (writer_of a c g)) × IfErr r (λ e. HasNotSaid (IsSaidOf A B) e (writer_of a c g))
-  absent_line_is_told what words (Ok x) a b c f g same lacks first ok fails = (record {
-    text = ok.text;
-    is = inr (what, lacks, ok.is ∙ ap said_line same);
-    took = Appends-trans a b c [] ok.text first.none ok.took;
-    works = ok.works;
-  }, tt)
+  absent_line_is_told what words (Ok x) a b c f g same lacks first ok fails = (
+    record {
+      text = ok.text;
+      is = inr (what, lacks, ok.is ∙ ap said_line same);
+      took = Appends-trans a b c [] ok.text first.none ok.took;
+      works = ok.works;
+    },
+    tt,
+  )
   absent_line_is_told what words (Err e) a b c f g same lacks first ok fails = (tt, absent_line_not_told what words e a b c f g same lacks first fails)

@@ -12,8 +12,11 @@ returns-in-Some g c =
     let w = writer_of (g.O.Sink.written c.args.out.now) (g.O.Sink.written c.say.new.out) (g.O.Sink.broken c.say.new.out) in
     let h = said_as_implied (IsSaidOf (IsDoneWith (IsFitReason c.event_question.result c.args.fitted.now)) (LacksFitAsked c.event_question.result c.args.fitted.now))
     (IsLastSaid c.args.fitted.now c.args.here) c.say.result w
-    (λ text said. inl (c.in-Some.event, c.in-Some.ensures,
-    why_said_of_event c.args.fitted.now c.args.here.thread c.in-Some.event c.event_question.result text c.event_question.ensures said))
+    (λ text said. inl (
+      c.in-Some.event,
+      c.in-Some.ensures,
+      why_said_of_event c.args.fitted.now c.args.here.thread c.in-Some.event c.event_question.result text c.event_question.ensures said,
+    ))
     c.say.ensures.ok c.say.ensures.fails in
     record { ok = h.0; fails = h.1 }
 
