@@ -161,7 +161,7 @@ CLAIMS = [
         ("ir_gdb", "Over", "`LeadsAlone`: how a thread moves by itself"),
         ("ir_gdb", "Endings", "`signal_of`, `ended`: which bad ends a move tells"),
         ("ir_gdb", "Replies", "`RepliesTo`: the reply to each request"),
-        ("ir_monitor", "Answers", "`IsAnswerTo`: the answers to questions that `monitor` asks"),
+        ("ir_monitor", "Answers", "`IsAnswerTo`: the answers to questions of the run"),
         ("ir_gdb", "Connection", "`RepliesToItems`: the bytes of packets and acknowledgements"),
         ("ir_gdb", "Laws", "the laws"),
     ], (3041, 1614)),
