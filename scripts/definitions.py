@@ -161,11 +161,7 @@ CLAIMS = [
         ("ir_gdb", "Over", "`LeadsAlone`: how a thread moves by itself"),
         ("ir_gdb", "Endings", "`signal_of`, `ended`: which bad ends a move tells"),
         ("ir_gdb", "Replies", "`RepliesTo`: the reply to each request"),
-<<<<<<< HEAD
         ("ir_monitor", "Answers", "`IsAnswerTo`: what questions of the run are answered"),
-=======
-        ("ir_monitor", "Answers", "`IsAnswerTo`: the answers to questions of the run"),
->>>>>>> 9a905f0697f8787cfefdc64950ab7ed1ff9c36fe
         ("ir_gdb", "Connection", "`RepliesToItems`: the bytes of packets and acknowledgements"),
         ("ir_gdb", "Laws", "the laws"),
     ], (3265, 1710)),
