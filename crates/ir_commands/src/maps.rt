@@ -13,7 +13,7 @@ ghost use Rattle.ir_files.specs.Writers.{writer_of};
 ghost use Rattle.ir_files.specs.declared.exit_status.ExitStatus.TheVariants as exit;
 ghost use Rattle.ir_commands.specs.Files.{AreNames, IsStatusOfNoNames, IsTold, map_status, TellsFault};
 
-use crate::files::{bytes_of, say, told_of_file};
+use crate::files::{bytes_of, out_of_memory, say, told_of_file};
 use ir_asm::Labels;
 use ir_elf_symbols::elf_symbols;
 use ir_files::{ExitStatus, Folder, MOST_FILE_BYTES, WholeFile};
@@ -28,8 +28,7 @@ fn refused<E: Sink>(alloc: Global, faults: &mut E, path: &str, why: MapErr) -> E
     ensures told { E.broken faults.old ≡ false → TellsFault (writer_of (E.written faults.old) (E.written faults.new) (E.broken faults.new)) }
 {
     let MapErr::Line(number) = why else {
-        say(faults, "memory ran out", "", "");
-        return ExitStatus::Failed;
+        return out_of_memory(faults);
     };
     match format!(in alloc; "line {number} is no symbol as nm prints it") {
         Ok(why) => say(faults, path, ": ", why.as_str()),
@@ -52,10 +51,7 @@ fn own_names<E: Sink>(alloc: Global, faults: &mut E, file: &[u8]) -> Result<Symb
     };
     match symbols {
         Ok(symbols) => Ok(symbols),
-        Err(_) => {
-            say(faults, "memory ran out", "", "");
-            Err(ExitStatus::Failed)
-        }
+        Err(_) => Err(out_of_memory(faults)),
     }
 }
 

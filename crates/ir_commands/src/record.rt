@@ -10,7 +10,7 @@ ghost use Rattle.ir_commands.specs.Printing.{LeavesUnread};
 ghost use Rattle.ir_commands.specs.Writing.{AreOutputPaths, IsListIn, IsNoText, IsOrderAsked, IsStatusOfNoRecording, Records, RecordsFile, RefusesRecording, StopsRecords, recorded_status, storing};
 
 use crate::ends::{all_ended, tell_ends};
-use crate::files::{bytes_of, image_in, say};
+use crate::files::{bytes_of, image_in, out_of_memory, say};
 use crate::recording::{
     Places, RecordingPaths, input_of, loses_input, output_places, record_files,
 };
@@ -44,10 +44,7 @@ fn copied<E: Sink>(alloc: Global, faults: &mut E, list: &str) -> Result<Option<S
 {
     match String::from_str(alloc, list) {
         Ok(list) => Ok(Some(list)),
-        Err(_) => {
-            say(faults, "memory ran out", "", "");
-            Err(ExitStatus::Failed)
-        }
+        Err(_) => Err(out_of_memory(faults)),
     }
 }
 

@@ -9,7 +9,7 @@ ghost use Rattle.ir_commands.specs.Files.{GoesOn, TellsFault};
 ghost use Rattle.ir_commands.specs.Sought.{RecordsRun};
 ghost use Rattle.ir_commands.specs.Writing.{AreOutputPaths, IsStatusOfNoRecording, KeptAt, storing, texts_of_paths};
 
-use crate::files::{bytes_of, is_lost, say};
+use crate::files::{bytes_of, is_lost, out_of_memory};
 use crate::sought::RunSought;
 use crate::surroundings::Surroundings;
 use ir_files::{ExitStatus, Folder, MOST_GUEST_INPUT, OutputFiles, WholeFile, output_paths};
@@ -234,8 +234,7 @@ pub fn output_places<D: Folder, E: Sink>(
     ensures told { OnErr result (E.broken faults.old ≡ false → TellsFault (writer_of (E.written faults.old) (E.written faults.new) (E.broken faults.new))) }
 {
     let Ok(outputs) = paths_of(alloc, paths, image) else {
-        say(faults, "memory ran out", "", "");
-        return Err(ExitStatus::Failed);
+        return Err(out_of_memory(faults));
     };
     match &outputs {
         Some(each) if any_loses(folder, faults, paths, each.as_slice()) => {

@@ -15,7 +15,7 @@ ghost use Rattle.ir_commands.specs.Writing.{storing, IsStatusOfNoRecording};
 use crate::conditions::texts_of;
 use crate::ends::tell_ends;
 use crate::explaining::explain_files;
-use crate::files::{bytes_of, image_in, is_lost, say};
+use crate::files::{bytes_of, image_in, is_lost, out_of_memory, say};
 use crate::recording::{Places, RecordingPaths, loses_input, recorded_into};
 use crate::search_files::SearchFiles;
 use crate::sought::RunSought;
@@ -113,10 +113,7 @@ fn fitting_trace<O: Sink, E: Sink>(
     match open_fit(alloc, image, trace) {
         Ok(Opened::Fits(_)) => match read_trace(alloc, trace) {
             Ok(trace) => Ok(trace),
-            Err(_) => {
-                say(faults, "memory ran out", "", "");
-                Err(ExitStatus::Failed)
-            }
+            Err(_) => Err(out_of_memory(faults)),
         },
         Ok(Opened::Refused(why)) => match refuse(&why, out) {
             Ok(status) => {
@@ -128,10 +125,7 @@ fn fitting_trace<O: Sink, E: Sink>(
                 Err(ExitStatus::Failed)
             }
         },
-        Err(_) => {
-            say(faults, "memory ran out", "", "");
-            Err(ExitStatus::Failed)
-        }
+        Err(_) => Err(out_of_memory(faults)),
     }
 }
 
