@@ -8,6 +8,7 @@ ghost use Rattle.ir_listing.specs.Events.{AreEventLines};
 ghost use Rattle.ir_commands.specs.Printing.{IsPrinted, PrintsEvents, IsStatusOfNoImage, LeavesUnread};
 
 use crate::asking::answer_of_run;
+use crate::explaining::{NO_RUN, RunFiles};
 use crate::files::{bytes_of, image_of_file};
 use crate::maps::names_in;
 use ir_arguments::EventsArguments;
@@ -32,14 +33,13 @@ fn of_run<O: Sink, E: Sink>(
         (writer_of (O.written out.old) (O.written out.new) (O.broken out.new)) (writer_of (E.written faults.old) (E.written faults.new) (E.broken faults.new)) }
     ensures quiet { result ≡ status.Done → faults.new ≡ faults.old }
 {
-    answer_of_run(
-        alloc,
+    let no_run = NO_RUN;
+    let files = RunFiles {
         image,
         trace,
-        &EventsQuestion { symbols },
-        out,
-        faults,
-    )
+        no_run,
+    };
+    answer_of_run(alloc, files, &EventsQuestion { symbols }, out, faults)
 }
 
 // Prints the events of the run in two files, with the names of a map or of an ELF file. It is reported why there is none.
