@@ -9,8 +9,8 @@ ghost use Rattle.ir_commands.specs.Printing.{IsPrinted, PrintsEvents, IsStatusOf
 
 use crate::asking::answer_of_run;
 use crate::explaining::{NO_RUN, RunFiles};
-use crate::files::{bytes_of, image_of_file};
-use crate::maps::names_in;
+use crate::files::bytes_of;
+use crate::maps::named_image;
 use ir_arguments::EventsArguments;
 use ir_files::{ExitStatus, Folder, MOST_FILE_BYTES};
 use ir_listing::EventsQuestion;
@@ -58,22 +58,15 @@ pub fn events_file<D: Folder, O: Sink, E: Sink>(
         (writer_of (E.written faults.old) (E.written faults.new) (E.broken faults.new)) }
     ensures quiet { result ≡ status.Done → faults.new ≡ faults.old }
 {
-    let path = arguments.image.as_str();
-    let Some(file) = bytes_of(alloc, folder, faults, path, MOST_FILE_BYTES) else {
+    let path = arguments.trace.as_str();
+    let Some(trace) = bytes_of(alloc, folder, faults, path, MOST_FILE_BYTES) else {
         return ExitStatus::Failed;
     };
-    let of_trace = arguments.trace.as_str();
-    let Some(trace) = bytes_of(alloc, folder, faults, of_trace, MOST_FILE_BYTES) else {
-        return ExitStatus::Failed;
-    };
-    let symbols = match names_in(alloc, folder, faults, &file, &arguments.map) {
-        Ok(symbols) => symbols,
-        Err(status) => return status,
-    };
-    let image = match image_of_file(alloc, faults, path, file) {
-        Ok(image) => image,
-        Err(status) => return status,
-    };
-    let (image, trace) = (image.as_slice(), trace.as_slice());
-    of_run(alloc, image, trace, &symbols, out, faults)
+    match named_image(alloc, folder, faults, &arguments.image, &arguments.map) {
+        Ok(named) => {
+            let (image, trace) = (named.image.as_slice(), trace.as_slice());
+            of_run(alloc, image, trace, &named.names, out, faults)
+        }
+        Err(status) => status,
+    }
 }
