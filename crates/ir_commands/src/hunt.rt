@@ -139,6 +139,7 @@ fn shrunk<'a, R: Threads + Sync + Clock + Eprint + AllocGlobal, D: Folder, G, O:
         is_shown: plan.is_shown,
     };
     let sought = Shrinking {
+        rt: around.rt,
         image: hunted.image,
         trace: found,
         plan: &shrinking,

@@ -42,11 +42,12 @@ fn paths(arguments: &OutsideArguments) -> RecordingPaths<'_>
 
 // A run of a guest that is looked for: its outcome is the first that another guest doesn't have.
 #[derive(Clone, Copy)]
-struct Outside<'a, G> {
+struct Outside<'a, R, G> {
+    rt: &'a R,
     plan: &'a WithinPlan<'a, 'a, 'a, G>,
 }
 
-impl<G: Observer> RunSought for Outside<'_, G> {
+impl<R: Clock + Eprint + AllocGlobal, G: Observer> RunSought for Outside<'_, R, G> {
     type Run = Trace;
 
     ghost trace_of = { λ recorded. recorded };
@@ -57,21 +58,13 @@ impl<G: Observer> RunSought for Outside<'_, G> {
         (LacksGuest (comparison_of sought.plan.now).image sought.plan.now.explore.profile ⊎ LacksGuest (comparison_of sought.plan.now).other sought.plan.now.explore.profile)
         (IsComparisonAnswer (comparison_of sought.plan.now)) answered out reports };
 
-    fn recorded<R, W, P, O, E>(
+    fn recorded<W: WholeSink, P: OutputSink, O: Sink, E: Sink>(
         &self,
-        rt: &R,
         files: &mut RecordFiles<W, P>,
         out: &mut O,
         faults: &mut E,
-    ) -> Result<Trace, ExitStatus>
-    where
-        R: Clock + Eprint + AllocGlobal,
-        W: WholeSink,
-        P: OutputSink,
-        O: Sink,
-        E: Sink,
-    {
-        outside_run(rt, self.plan, files, out, faults)
+    ) -> Result<Trace, ExitStatus> {
+        outside_run(self.rt, self.plan, files, out, faults)
     }
 }
 
@@ -111,7 +104,10 @@ fn outside_by<R: Clock + Eprint + AllocGlobal, D: Folder, G: Observer, O: Sink, 
     }
     let outputs = output_places(alloc, folder, faults, &paths, &both.0)?;
     let places = Places::new(paths.trace, &outputs);
-    let sought = Outside { plan: &plan };
+    let sought = Outside {
+        rt: around.rt,
+        plan: &plan,
+    };
     recorded_into(around, places, &sought, out, faults)
 }
 

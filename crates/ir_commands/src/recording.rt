@@ -16,7 +16,6 @@ use ir_files::{ExitStatus, Folder, MOST_GUEST_INPUT, OutputFiles, WholeFile, out
 use ir_record_command::{ParsedImage, RecordFiles};
 use ir_stream::Sink;
 use std::alloc::{AllocError, Global};
-use std::time::Clock;
 
 /// What a recording reads and writes.
 #[derive(Clone, Copy)]
@@ -91,7 +90,7 @@ pub fn recorded_into<R, D, G, S, O, E>(
     faults: &mut E,
 ) -> Result<S::Run, ExitStatus>
 where
-    R: Clock + Eprint + AllocGlobal,
+    R: AllocGlobal,
     D: Folder,
     S: RunSought,
     O: Sink,
@@ -107,7 +106,7 @@ where
 {
     let Surroundings { rt, folder, .. } = *around;
     let mut files = record_files(rt.alloc(), folder, places.trace, places.outputs);
-    sought.recorded(rt, &mut files, out, faults)
+    sought.recorded(&mut files, out, faults)
 }
 
 /// The bytes that guests read, none without a file.

@@ -17,8 +17,11 @@ returns-in-Ok-clause-prints g c =
       done = λ done. (c.list_report.ensures.done done).0;
       refused = λ refused. subst (λ f. RefusesImage c.as_slice.result.now out (writer_of (g.E.Sink.written f) (g.E.Sink.written new) (g.E.Sink.broken new)))
           c.in-Ok.ensures.kept (c.list_report.ensures.refused refused);
-      stopped = λ stopped. let why = c.list_report.ensures.stopped stopped in (why.0, why.1,
-          subst (λ f. Reports (writer_of (g.E.Sink.written f) (g.E.Sink.written new) (g.E.Sink.broken new)) (fault_text (fault_words why.0))) c.in-Ok.ensures.kept why.2);
+      stopped = λ stopped. let why = c.list_report.ensures.stopped stopped in (
+        why.0,
+        why.1,
+        subst (λ f. Reports (writer_of (g.E.Sink.written f) (g.E.Sink.written new) (g.E.Sink.broken new)) (fault_text (fault_words why.0))) c.in-Ok.ensures.kept why.2,
+      );
     } in
     inl (holds_of_named_image (λ bytes symbols. Lists bytes symbols c.list_report.result out faults) c.in-Ok.ensures.named
     (subst (λ bytes. Lists bytes names c.list_report.result out faults) c.as_slice.ensures.value lists))
