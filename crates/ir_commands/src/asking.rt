@@ -3,7 +3,6 @@
 ghost use Rattle.std.specs.Prelude.{◌≡◌, ◌⊎◌, false};
 ghost use Rattle.ir_files.specs.Writers.{writer_of};
 ghost use Rattle.ir_files.specs.declared.exit_status.ExitStatus.TheVariants as status;
-ghost use Rattle.ir_trace.specs.Recorded.{recorded_at};
 ghost use Rattle.ir_commands.specs.Files.{IsUnread};
 ghost use Rattle.ir_commands.specs.Printing.{AnswersRun, AnswersTrace, LeavesUnread, PrintsOfFiles};
 

@@ -1,6 +1,6 @@
 //! `ir record`: a guest in a file is recorded, its trace and what its threads print go into others.
 
-ghost use Rattle.std.specs.Prelude.{◌≡◌, ◌⊎◌, ◌++◌, ◌∷◌, ℕ, List, [], Some, IfErr, IfOk, IfSome, IsSomeAnd, OnErr, OnOk, MatchOption, true, false, map, option_map};
+ghost use Rattle.std.specs.Prelude.{◌≡◌, ◌⊎◌, ◌++◌, ◌∷◌, ℕ, List, [], Some, IfErr, IfOk, IfSome, IsSomeAnd, OnErr, OnOk, MatchOption, false, map, option_map};
 ghost use Rattle.std.specs.String.{string_bytes};
 ghost use Rattle.ir_files.specs.Writers.{writer_of};
 ghost use Rattle.ir_hunt.specs.Finding.{IsOrderOfSeed};
