@@ -45,9 +45,9 @@ pub struct AskedFiles<'a, D> {
 // Prints the answer to a question about a trace.
 fn answer_of_trace<Q: TraceQuestion, O: Sink, E: Sink>(
     alloc: Global,
+    question: &Q,
     trace: &[u8],
     no_run: Option<&str>,
-    question: &Q,
     out: &mut O,
     faults: &mut E,
 ) -> ExitStatus
@@ -65,8 +65,8 @@ fn answer_of_trace<Q: TraceQuestion, O: Sink, E: Sink>(
 /// Prints the answer to a question about a run of the image.
 pub fn answer_of_run<Q: RunQuestion, O: Sink, E: Sink>(
     alloc: Global,
-    files: RunFiles<'_>,
     question: &Q,
+    files: RunFiles<'_>,
     out: &mut O,
     faults: &mut E,
 ) -> ExitStatus
@@ -107,7 +107,7 @@ pub fn answer_of_files<D: Folder, Q: TraceQuestion, F: RunQuestion, O: Sink, E: 
     };
     let trace = trace.as_slice();
     let Some(image) = files.image else {
-        return answer_of_trace(alloc, trace, no_run.of_trace, of_trace, out, faults);
+        return answer_of_trace(alloc, of_trace, trace, no_run.of_trace, out, faults);
     };
     match image_in(alloc, folder, faults, image.as_str()) {
         Ok(image) => {
@@ -116,7 +116,7 @@ pub fn answer_of_files<D: Folder, Q: TraceQuestion, F: RunQuestion, O: Sink, E: 
                 trace,
                 no_run: no_run.of_image,
             };
-            answer_of_run(alloc, files, of_run, out, faults)
+            answer_of_run(alloc, of_run, files, out, faults)
         }
         Err(status) => status,
     }

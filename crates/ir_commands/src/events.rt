@@ -39,7 +39,7 @@ fn of_run<O: Sink, E: Sink>(
         trace,
         no_run,
     };
-    answer_of_run(alloc, files, &EventsQuestion { symbols }, out, faults)
+    answer_of_run(alloc, &EventsQuestion { symbols }, files, out, faults)
 }
 
 // Prints the events of the run in two files, with the names of a map or of an ELF file. It is reported why there is none.
