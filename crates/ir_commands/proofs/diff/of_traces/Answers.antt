@@ -11,11 +11,11 @@ use Rattle.ir_commands.proofs.diff.of_traces.Goals as goal
 pub returns-clause-prints : goal.returns-clause-prints
 returns-clause-prints g c =
     let read = recorded_at c.args.first.now in
-    let asked = c.ask_trace.new.faults in
-    let out = writer_of (g.O.Sink.written c.args.out.now) (g.O.Sink.written c.ask_trace.new.out) (g.O.Sink.broken c.ask_trace.new.out) in
-    let printed = printed_if_always_there (IsTraceRead read) (λ a. IsSecondAnswer a (recorded_at c.args.second.now)) (IsRefusal read) c.ask_trace.result out
+    let asked = c.ask_trace-status.new.faults in
+    let out = writer_of (g.O.Sink.written c.args.out.now) (g.O.Sink.written c.ask_trace-status.new.out) (g.O.Sink.broken c.ask_trace-status.new.out) in
+    let printed = printed_if_always_there (IsTraceRead read) (λ a. IsSecondAnswer a (recorded_at c.args.second.now)) (IsRefusal read) c.ask_trace-status.result out
     (writer_of (g.E.Sink.written c.args.faults.now) (g.E.Sink.written asked) (g.E.Sink.broken asked))
-    ((λ works sound. (c.ask_trace.ensures.done works sound).0), c.ask_trace.ensures.failed) in (
+    ((λ works sound. (c.ask_trace-status.ensures.done works sound).0), c.ask_trace-status.ensures.failed) in (
       printed.0,
       (λ failed. let why = printed.1 failed in (
         why.0,
