@@ -94,9 +94,10 @@ pub fn explain_alone<E: Sink>(
 )
     ensures { status ≢ exit.Refused → status ≢ exit.NotFit → faults.new ≡ faults.old }
 {
-    match (status, no_run) {
-        (ExitStatus::NotFit, Some(words)) => say(faults, words, "", ""),
-        _ => explain_trace(alloc, THE_TRACE, trace, status, faults),
+    if status != ExitStatus::NotFit {
+        explain_trace(alloc, THE_TRACE, trace, status, faults);
+    } else if let Some(words) = no_run {
+        say(faults, words, "", "");
     }
 }
 
