@@ -42,7 +42,7 @@ use Rattle.ir_arguments.specs.declared.list.ListArguments.{ListArguments}
 use Rattle.ir_arguments.specs.declared.events.EventsArguments.{EventsArguments}
 use Rattle.ir_listing.specs.Code.{IsCodeListing, RefusesImage}
 use Rattle.ir_listing.specs.Events.{AreEventLines}
-use Rattle.ir_commands.specs.Files.{IsStatusOfNone, IsStatusOfNoNames, OfNamedImage, OfTrace, OfTraces, OfImageAndTrace, TellsFault}
+use Rattle.ir_commands.specs.Files.{IsStatusOfNone, IsStatusOfNoNames, IsUnread, OfNamedImage, OfTrace, OfTraces, OfImageAndTrace, TellsFault}
 use Rattle.ir_commands.specs.Listing.{shown_trace, listing_status}
 
 -- what the folder says is at a path
@@ -169,3 +169,9 @@ pub record LeavesUnread (is_status is_kept : Type 0) (faults : Writer) : Type 0 
   pub status : is_status
   pub kept : is_kept
   pub told : TellsFault faults
+
+-- questions about the trace in a file, and about its run if an image is named, were answered so; or a file isn't read
+abbrev pub AnswersFiles : {Y Z : Type 0} → Paths → String Y → Option (String Z) → (List ℕ → ExitStatus → Writer → Writer → Type 0)
+    → (List ℕ → List ℕ → ExitStatus → Writer → Writer → Type 0) → ExitStatus → Writer → Writer → Type 0 → Type 0
+AnswersFiles at trace image OfItsTrace OfItsRun answered out faults unprinted =
+    PrintsOfFiles at trace image OfItsTrace OfItsRun answered out faults ⊎ LeavesUnread (IsUnread at image answered) unprinted faults

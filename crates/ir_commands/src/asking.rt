@@ -1,10 +1,9 @@
 //! Questions about files are answered, and what is refused is explained.
 
-ghost use Rattle.std.specs.Prelude.{◌≡◌, ◌⊎◌, false};
+ghost use Rattle.std.specs.Prelude.{◌≡◌, false};
 ghost use Rattle.ir_files.specs.Writers.{writer_of};
 ghost use Rattle.ir_files.specs.declared.exit_status.ExitStatus.TheVariants as status;
-ghost use Rattle.ir_commands.specs.Files.{IsUnread};
-ghost use Rattle.ir_commands.specs.Printing.{AnswersRun, AnswersTrace, LeavesUnread, PrintsOfFiles};
+ghost use Rattle.ir_commands.specs.Printing.{AnswersFiles, AnswersRun, AnswersTrace};
 
 use crate::explaining::{NO_RUN, RunFiles, explain_alone, explain_run};
 use crate::files::{bytes_of, image_in};
@@ -93,11 +92,10 @@ pub fn answer_of_files<D: Folder, Q: TraceQuestion, F: RunQuestion, O: Sink, E: 
 ) -> ExitStatus
     requires writes { O.broken out.old ≡ false }
     requires reports { E.broken faults.old ≡ false }
-    ensures prints { PrintsOfFiles (D.bytes_at files.entry.folder.now) files.entry.trace.now files.entry.image.now
+    ensures prints { AnswersFiles (D.bytes_at files.entry.folder.now) files.entry.trace.now files.entry.image.now
         (AnswersTrace (Q.is_answer of_trace.now) (Q.is_absent of_trace.now)) (AnswersRun (F.is_answer of_run.now) (F.is_absent of_run.now)) result
         (writer_of (O.written out.old) (O.written out.new) (O.broken out.new)) (writer_of (E.written faults.old) (E.written faults.new) (E.broken faults.new))
-        ⊎ LeavesUnread (IsUnread (D.bytes_at files.entry.folder.now) files.entry.image.now result) (out.new ≡ out.old)
-        (writer_of (E.written faults.old) (E.written faults.new) (E.broken faults.new)) }
+        (out.new ≡ out.old) }
     ensures quiet { result ≡ status.Done → faults.new ≡ faults.old }
 {
     let (folder, no_run) = (files.folder, files.no_run);

@@ -85,7 +85,8 @@ fn outside_by<R: Clock + Eprint + AllocGlobal, D: Folder, G: Observer, O: Sink, 
         (IsComparisonAnswerTo (D.bytes_at around.now.folder.now) arguments.now) answered (writer_of (O.written out.old) (O.written out.new) (O.broken out.new))
         (writer_of (E.written faults.old) (E.written faults.new) (E.broken faults.new))) }
 {
-    let (alloc, folder, within) = (around.rt.alloc(), around.folder, &arguments.within);
+    let (rt, folder, within) = (around.rt, around.folder, &arguments.within);
+    let alloc = rt.alloc();
     let paths = paths(arguments);
     if loses_input(folder, faults, &paths) {
         return Err(ExitStatus::BadArguments);
@@ -104,10 +105,7 @@ fn outside_by<R: Clock + Eprint + AllocGlobal, D: Folder, G: Observer, O: Sink, 
     }
     let outputs = output_places(alloc, folder, faults, &paths, &both.0)?;
     let places = Places::new(paths.trace, &outputs);
-    let sought = Outside {
-        rt: around.rt,
-        plan: &plan,
-    };
+    let sought = Outside { rt, plan: &plan };
     recorded_into(around, places, &sought, out, faults)
 }
 
