@@ -15,30 +15,30 @@ use std::alloc::Global;
 
 /// What is said if the answer to a question is that no run has the trace.
 #[derive(Clone, Copy)]
-pub struct NoRun<'a> {
+pub struct NoRun {
     /// If the question is about a trace alone.
-    pub of_trace: Option<&'a str>,
+    pub of_trace: Option<&'static str>,
     /// If it is about an image too.
-    pub of_image: &'a str,
+    pub of_image: &'static str,
 }
 
 /// The image may be the wrong one; of a trace alone the answer says all.
-pub const WRONG_IMAGE: NoRun<'static> = NoRun {
+pub const WRONG_IMAGE: NoRun = NoRun {
     of_trace: None,
     of_image: NO_RUN,
 };
 
 /// The files that a question is about.
 #[derive(Clone, Copy)]
-pub struct AskedFiles<'a, D> {
+pub struct AskedFiles<'a, 'b, D> {
     /// Where they are.
     pub folder: &'a D,
     /// The path of the trace.
-    pub trace: &'a String,
+    pub trace: &'b String,
     /// The path of an image of its run, if one is named.
-    pub image: &'a Option<String>,
+    pub image: &'b Option<String>,
     /// What is said if no run has the trace.
-    pub no_run: NoRun<'a>,
+    pub no_run: NoRun,
 }
 
 // Prints the answer to a question about a trace.
@@ -84,7 +84,7 @@ pub fn answer_of_run<Q: RunQuestion, O: Sink, E: Sink>(
 /// `faults` says why.
 pub fn answer_of_files<D: Folder, Q: TraceQuestion, F: RunQuestion, O: Sink, E: Sink>(
     alloc: Global,
-    files: AskedFiles<'_, D>,
+    files: AskedFiles<'_, '_, D>,
     of_trace: &Q,
     of_run: &F,
     out: &mut O,

@@ -44,14 +44,14 @@ fn paths(arguments: &HuntArguments) -> RecordingPaths<'_>
 
 // A run of a guest that is looked for: that of the first seed that is found, as arguments say.
 #[derive(Clone, Copy)]
-struct Hunted<'a, R> {
-    rt: &'a R,
+struct Hunted<'a, 'b, R> {
+    rt: &'b R,
     image: &'a ParsedImage<'a>,
     plan: &'a HuntPlan<'a>,
     arguments: &'a HuntArguments,
 }
 
-impl<R: Threads + Sync + Clock + Eprint + AllocGlobal> RunSought for Hunted<'_, R> {
+impl<R: Threads + Sync + Clock + Eprint + AllocGlobal> RunSought for Hunted<'_, '_, R> {
     type Run = Trace;
 
     ghost trace_of = { λ recorded. recorded };
@@ -74,7 +74,7 @@ impl<R: Threads + Sync + Clock + Eprint + AllocGlobal> RunSought for Hunted<'_, 
 fn shrunk<'a, R: Threads + Sync + Clock + Eprint + AllocGlobal, D: Folder, G, O: Sink, E: Sink>(
     around: &Surroundings<'_, R, D, G>,
     places: Places<'_, '_>,
-    hunted: Hunted<'a, R>,
+    hunted: Hunted<'a, '_, R>,
     found: &'a Trace,
     out: &mut O,
     faults: &mut E,
@@ -113,7 +113,7 @@ fn shrunk<'a, R: Threads + Sync + Clock + Eprint + AllocGlobal, D: Folder, G, O:
 fn shrunk_found<'a, R, D, G, O, E>(
     around: &Surroundings<'_, R, D, G>,
     places: Places<'_, '_>,
-    hunted: Hunted<'a, R>,
+    hunted: Hunted<'a, '_, R>,
     found: &'a Trace,
     out: &mut O,
     faults: &mut E,
@@ -141,7 +141,7 @@ where
 fn ended<R, D, G, O, E>(
     around: &Surroundings<'_, R, D, G>,
     places: Places<'_, '_>,
-    hunted: Hunted<'_, R>,
+    hunted: Hunted<'_, '_, R>,
     found: Result<Trace, ExitStatus>,
     out: &mut O,
     faults: &mut E,

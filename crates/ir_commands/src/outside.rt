@@ -42,12 +42,12 @@ fn paths(arguments: &OutsideArguments) -> RecordingPaths<'_>
 
 // A run of a guest that is looked for: its outcome is the first that another guest doesn't have.
 #[derive(Clone, Copy)]
-struct Outside<'a, R, G> {
-    rt: &'a R,
+struct Outside<'a, 'b, R, G> {
+    rt: &'b R,
     plan: &'a WithinPlan<'a, 'a, 'a, G>,
 }
 
-impl<R: Clock + Eprint + AllocGlobal, G: Observer> RunSought for Outside<'_, R, G> {
+impl<R: Clock + Eprint + AllocGlobal, G: Observer> RunSought for Outside<'_, '_, R, G> {
     type Run = Trace;
 
     ghost trace_of = { λ recorded. recorded };

@@ -144,9 +144,9 @@ pub fn plan_like<'a>(trace: &Trace, random: u64, input: &'a [u8]) -> RecordPlan<
 
 /// A run of a guest that is looked for: what the given run is shrunk to.
 #[derive(Clone, Copy)]
-pub struct Shrinking<'a, R> {
+pub struct Shrinking<'a, 'b, R> {
     /// The clock, and where it is said how far it is.
-    pub rt: &'a R,
+    pub rt: &'b R,
     /// The image of the guest.
     pub image: &'a ParsedImage<'a>,
     /// The trace of the given run.
@@ -155,7 +155,7 @@ pub struct Shrinking<'a, R> {
     pub plan: &'a ShrinkPlan<'a>,
 }
 
-impl<R: Clock + Eprint + AllocGlobal> RunSought for Shrinking<'_, R> {
+impl<R: Clock + Eprint + AllocGlobal> RunSought for Shrinking<'_, '_, R> {
     type Run = Shrunk;
 
     ghost trace_of = { λ shrunk. shrunk.trace };

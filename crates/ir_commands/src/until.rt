@@ -40,13 +40,13 @@ fn paths(arguments: &UntilArguments) -> RecordingPaths<'_>
 
 // A run of a guest that is looked for: it hangs, or has an outcome that fulfils conditions.
 #[derive(Clone, Copy)]
-struct Until<'a, R, G> {
-    rt: &'a R,
+struct Until<'a, 'b, R, G> {
+    rt: &'b R,
     plan: &'a UntilPlan<'a, 'a, 'a, G>,
     hang: bool,
 }
 
-impl<R: Clock + Eprint + AllocGlobal, G: Observer> RunSought for Until<'_, R, G> {
+impl<R: Clock + Eprint + AllocGlobal, G: Observer> RunSought for Until<'_, '_, R, G> {
     type Run = Trace;
 
     ghost trace_of = { λ recorded. recorded };

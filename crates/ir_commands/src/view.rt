@@ -15,7 +15,7 @@ use ir_stream::Sink;
 use std::alloc::Global;
 
 // Why there is no picture, in words: the line that was printed says which of these it is.
-const NO_PICTURE: NoRun<'static> = NoRun {
+const NO_PICTURE: NoRun = NoRun {
     of_trace: Some(
         "no run has this trace, or a page would have too many boxes (--around T E shows a part): see the line that was printed",
     ),
