@@ -11,12 +11,12 @@ use Rattle.ir_explore.specs.declared.fault.ExploreFault.TheVariants as fault
 use Rattle.ir_arguments.specs.declared.explore.UntilArguments.{UntilArguments}
 use Rattle.ir_arguments.specs.declared.hunt.HuntArguments.{HuntArguments}
 use Rattle.ir_arguments.specs.declared.shrink.ShrinkArguments.{ShrinkArguments}
-use Rattle.ir_files.specs.Writers.{Writer, Took, fault_text, writer_of}
+use Rattle.ir_files.specs.Writers.{Writer, Took, writer_of}
 use Rattle.ir_files.specs.declared.exit_status.ExitStatus.{ExitStatus}
 use Rattle.ir_files.specs.declared.exit_status.ExitStatus.TheVariants as status
 use Rattle.ir_explore.specs.declared.hang_order.HangOrder.{HangOrder}
 use Rattle.ir_hunt.specs.Finding.{by_list}
-use Rattle.ir_hunt.specs.Lines.{found_line, left_out_words}
+use Rattle.ir_hunt.specs.Lines.{found_line}
 use Rattle.ir_hunt.specs.Stopping.{StopsHunt, TellsLeftOut}
 use Rattle.ir_hunt.specs.declared.plan.HuntPlan.{HuntPlan}
 use Rattle.ir_opened.specs.Answers.{IsUnfitRefusal}
@@ -43,7 +43,6 @@ use Rattle.ir_commands.specs.Searching.{PrintsUnfit, RecordsShrunkRun, RefusesFo
 use Rattle.ir_commands.specs.Searching.{SearchFinds, SearchMisses, SearchesFile, ShrinksFound, ShrinksNothing, TellsNoSearch, TellsNoSeed}
 use Rattle.ir_commands.specs.Sought.{PrintsPart, RecordsRun}
 use Rattle.ir_commands.specs.Writing.{KeptAsAsked, Keeping, Storing}
-use Rattle.ir_commands.proofs.CallerLemmas.{unchanged_goes_on}
 use Rattle.ir_commands.proofs.Kept.{ends_kept, run_kept}
 use Rattle.ir_commands.proofs.Printed.{explore_fault_is_not_bad, failed_is_not_bad, fault_is_not_bad, leaves_in_part, none_since, nothing_searched, part_since, same_is_nothing}
 use Rattle.ir_commands.proofs.Refused.{answer_lacks_guest, explore_fault_is, failed_is_not_refused, fault_is_no_recording, hang_lacks_guest, hunt_lacks_guest}
@@ -66,18 +65,6 @@ pub left_out_is_told : (left_out : ℕ) (reports : Writer) {same : Type 0} → (
     → TellsLeftOut left_out reports (reports.before ≡ reports.after)
 left_out_is_told zero reports to told = sym (to told)
 left_out_is_told (suc n) reports to told = told
-
--- then what is told goes on
-pub left_out_goes_on : (left_out : ℕ) (reports : Writer) {same : Type 0} → (same → reports.after ≡ reports.before) → TellsLeftOut left_out reports same
-    → GoesOn reports.before reports.after
-left_out_goes_on zero reports to told = subst (λ (held : Option (List ℕ)). GoesOn reports.before held) (sym (to told)) (unchanged_goes_on reports.before)
-left_out_goes_on (suc n) reports to (inl took) = (fault_text (left_out_words (suc n)), took)
-left_out_goes_on (suc n) reports to (inr failed) = (failed.0.part, failed.0.grown)
-
--- what holds of each value holds where there is a value
-pub on_ok_since : {T E Q : Type 0} {P : T → Type 0} (result : Result T E) → ((value : T) → P value → Q) → IfOk result P → OnOk result Q
-on_ok_since (Ok value) to h = to value h
-on_ok_since (Err e) to h = h
 
 -- what a hunt tells that records nothing
 pub hunt_tells_none : {W P O : Type 0} (d : Tellings W P O) (answered : ExitStatus) (image : List ℕ) (plan : HuntPlan) (old new : Devices W P O) (reports : Writer)

@@ -1,19 +1,20 @@
 //! `ir hunt`: the first of many seeds whose run fulfils conditions is recorded.
 
 ghost use Rattle.std.specs.Prelude.{◌≡◌, ◌⊎◌, IfErr, IfOk, OnErr, OnOk, false, true, option_map};
+ghost use Rattle.std.specs.Io.KnownBytes.{Appends};
 ghost use Rattle.std.specs.String.{string_bytes};
+ghost use Rattle.ir_files.specs.Outputs.{TookEach, output_writer_of};
 ghost use Rattle.ir_files.specs.Writers.{writer_of};
 ghost use Rattle.ir_files.specs.declared.exit_status.ExitStatus.TheVariants as exit;
 ghost use Rattle.ir_commands.specs.Files.{GoesOn};
-ghost use Rattle.ir_commands.specs.Searching.{EndsFound, HuntsFile, IsHuntAnswerTo, IsSeedFound, MissesSeed, RefusesFound, RefusesSearch, ShrinksFound, StopsFound, TellsNoSearch};
+ghost use Rattle.ir_commands.specs.Searching.{EndsFound, HuntsFile, IsHuntAnswerTo, MissesSeed, RecordsHunted, RefusesFound, RefusesSearch, ShrinksFound, StopsFound, TellsNoSearch};
 ghost use Rattle.ir_commands.specs.Writing.{KeptAt, storing, texts_of_paths};
 
 use crate::conditions::texts_of;
 use crate::ends::recorded_status;
-use crate::recording::{Places, RecordingPaths, recorded_into};
+use crate::recording::{Places, RecordingPaths, record_files, recorded_into};
 use crate::search_files::{SearchFiles, image_of};
 use crate::shrink::{Shrinking, plan_like, shrunk_status};
-use crate::sought::RunSought;
 use crate::surroundings::Surroundings;
 use ir_arguments::HuntArguments;
 use ir_files::{ExitStatus, Folder, OutputSink, WholeSink};
@@ -42,39 +43,76 @@ fn paths(arguments: &HuntArguments) -> RecordingPaths<'_>
     }
 }
 
-// A run of a guest that is looked for: that of the first seed that is found, as arguments say.
+// What is hunted, and as which arguments say.
 #[derive(Clone, Copy)]
-struct Hunted<'a, 'b, R> {
-    rt: &'b R,
+struct Hunted<'a> {
     image: &'a ParsedImage<'a>,
     plan: &'a HuntPlan<'a>,
     arguments: &'a HuntArguments,
 }
 
-impl<R: Threads + Sync + Clock + Eprint + AllocGlobal> RunSought for Hunted<'_, '_, R> {
-    type Run = Trace;
+// Hunts for a run, and records it into these files.
+fn hunted_in<R, W, P, O, E>(
+    rt: &R,
+    hunted: Hunted<'_>,
+    files: &mut RecordFiles<W, P>,
+    out: &mut O,
+    faults: &mut E,
+) -> Result<Trace, ExitStatus>
+where
+    R: Threads + Sync + Clock + Eprint + AllocGlobal,
+    W: WholeSink,
+    P: OutputSink,
+    O: Sink,
+    E: Sink,
+    requires writes { W.broken files.old.trace ≡ false }
+    requires puts { P.broken files.old.outputs ≡ false }
+    requires prints { O.broken out.old ≡ false }
+    requires reports { E.broken faults.old ≡ false }
+    ensures found { IfOk result (λ recorded. RecordsHunted hunted.entry.image.now hunted.entry.plan.now recorded
+        (λ bytes printed. Appends (W.written files.old.trace) (W.written files.new.trace) bytes
+        × TookEach (output_writer_of (P.taken files.old.outputs) (P.taken files.new.outputs) (P.broken files.new.outputs)) printed)
+        (writer_of (O.written out.old) (O.written out.new) (O.broken out.new)) (writer_of (E.written faults.old) (E.written faults.new) (E.broken faults.new))) }
+    ensures none { IfErr result (λ answered. MissesSeed hunted.entry.image.now hunted.entry.plan.now answered
+        (writer_of (O.written out.old) (O.written out.new) (O.broken out.new)) (writer_of (E.written faults.old) (E.written faults.new) (E.broken faults.new))) }
+    ensures whole { OnOk result (W.whole files.new.trace ≡ true) }
+    ensures home { W.home files.new.trace ≡ W.home files.old.trace }
+    ensures places { P.home files.new.outputs ≡ P.home files.old.outputs }
+{
+    hunt_run(rt, hunted.image, hunted.plan, files, out, faults)
+}
 
-    ghost trace_of = { λ recorded. recorded };
-
-    ghost is_found = { λ sought recorded reports. IsSeedFound sought.image.now sought.plan.now recorded reports };
-
-    ghost is_missed = { λ sought answered out reports. MissesSeed sought.image.now sought.plan.now answered out reports };
-
-    fn recorded<W: WholeSink, P: OutputSink, O: Sink, E: Sink>(
-        &self,
-        files: &mut RecordFiles<W, P>,
-        out: &mut O,
-        faults: &mut E,
-    ) -> Result<Trace, ExitStatus> {
-        hunt_run(self.rt, self.image, self.plan, files, out, faults)
-    }
+// The same, into files at these paths. It isn't a `RunSought`, because what it sends to threads needs the bounds of a function.
+fn hunted_into<R, D, G, O, E>(
+    around: &Surroundings<'_, R, D, G>,
+    places: Places<'_, '_>,
+    hunted: Hunted<'_>,
+    out: &mut O,
+    faults: &mut E,
+) -> Result<Trace, ExitStatus>
+where
+    R: Threads + Sync + Clock + Eprint + AllocGlobal,
+    D: Folder,
+    O: Sink,
+    E: Sink,
+    requires writes { O.broken out.old ≡ false }
+    requires reports { E.broken faults.old ≡ false }
+    ensures found { IfOk result (λ recorded. RecordsHunted hunted.entry.image.now hunted.entry.plan.now recorded
+        (KeptAt (storing D.known D.known_closed (D.knows around.now.folder.now) (D.was_put around.now.folder.now)) places.entry.trace.now (texts_of_paths places.entry.outputs))
+        (writer_of (O.written out.old) (O.written out.new) (O.broken out.new)) (writer_of (E.written faults.old) (E.written faults.new) (E.broken faults.new))) }
+    ensures none { IfErr result (λ answered. MissesSeed hunted.entry.image.now hunted.entry.plan.now answered
+        (writer_of (O.written out.old) (O.written out.new) (O.broken out.new)) (writer_of (E.written faults.old) (E.written faults.new) (E.broken faults.new))) }
+{
+    let Surroundings { rt, folder, .. } = *around;
+    let mut files = record_files(rt.alloc(), folder, places.trace, places.outputs);
+    hunted_in(rt, hunted, &mut files, out, faults)
 }
 
 // Shrinks a run that was found, whose trace and outputs go into files at these paths, over what was found.
 fn shrunk<'a, R: Threads + Sync + Clock + Eprint + AllocGlobal, D: Folder, G, O: Sink, E: Sink>(
     around: &Surroundings<'_, R, D, G>,
     places: Places<'_, '_>,
-    hunted: Hunted<'a, '_, R>,
+    hunted: Hunted<'a>,
     found: &'a Trace,
     out: &mut O,
     faults: &mut E,
@@ -113,7 +151,7 @@ fn shrunk<'a, R: Threads + Sync + Clock + Eprint + AllocGlobal, D: Folder, G, O:
 fn shrunk_found<'a, R, D, G, O, E>(
     around: &Surroundings<'_, R, D, G>,
     places: Places<'_, '_>,
-    hunted: Hunted<'a, '_, R>,
+    hunted: Hunted<'a>,
     found: &'a Trace,
     out: &mut O,
     faults: &mut E,
@@ -141,7 +179,7 @@ where
 fn ended<R, D, G, O, E>(
     around: &Surroundings<'_, R, D, G>,
     places: Places<'_, '_>,
-    hunted: Hunted<'_, '_, R>,
+    hunted: Hunted<'_>,
     found: Result<Trace, ExitStatus>,
     out: &mut O,
     faults: &mut E,
@@ -204,13 +242,12 @@ fn hunted_by<R: Threads + Sync + Clock + Eprint + AllocGlobal, D: Folder, G, O: 
         is_shown: explains,
     };
     let hunted = Hunted {
-        rt: around.rt,
         image: &image,
         plan: &plan,
         arguments,
     };
     let places = Places::new(paths.trace, &files.outputs);
-    let found = recorded_into(around, places, &hunted, out, faults);
+    let found = hunted_into(around, places, hunted, out, faults);
     Ok(ended(around, places, hunted, found, out, faults))
 }
 

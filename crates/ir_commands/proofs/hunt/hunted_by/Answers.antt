@@ -59,10 +59,10 @@ returns-clause-done g c =
     (writer_of (g.O.Sink.written c.args.out.now) (g.O.Sink.written c.ended.new.out) (g.O.Sink.broken c.ended.new.out))
     (writer_of (g.E.Sink.written f) (g.E.Sink.written c.ended.new.faults) (g.E.Sink.broken c.ended.new.faults))) kept
     (hunt_comes_to g.O.Sink.written g.O.Sink.broken g.E.Sink.written g.E.Sink.broken at stored arguments image plan
-    c.args.out.now c.recorded_into-found.new.out c.ended.new.out c.of.new.faults c.recorded_into-found.new.faults c.ended.new.faults c.ended.result
-    (KeptAt stored c.new-places.result.trace.now (texts_of_paths c.new-places.result.outputs)) c.recorded_into-found.result asked
+    c.args.out.now c.hunted_into-found.new.out c.ended.new.out c.of.new.faults c.hunted_into-found.new.faults c.ended.new.faults c.ended.result
+    (KeptAt stored c.new-places.result.trace.now (texts_of_paths c.new-places.result.outputs)) c.hunted_into-found.result asked
     (kept_as_asked stored _ _ (c.new-places.ensures.trace ∙ c.paths-paths.ensures.trace) outs)
-    c.recorded_into-found.ensures.found c.recorded_into-found.ensures.none c.ended.ensures.stopped c.ended.ensures.quiet c.ended.ensures.kept c.ended.ensures.done
+    c.hunted_into-found.ensures.found c.hunted_into-found.ensures.none c.ended.ensures.stopped c.ended.ensures.quiet c.ended.ensures.kept c.ended.ensures.done
     c.ended.ensures.shrunk)
 
 pub returns-in_err-image-clause-stopped : goal.returns-in_err-image-clause-stopped

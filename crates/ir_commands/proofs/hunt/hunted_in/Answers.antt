@@ -3,8 +3,8 @@ use Rattle.std.proofs.lemmas.Result.{IfErr-weaker, IfOk-weaker}
 use Rattle.ir_files.specs.Writers.{writer_of}
 use Rattle.ir_hunt.specs.Lines.{found_line}
 use Rattle.ir_record_command.specs.Stopping.{devices, telling, tellings}
-use Rattle.ir_commands.proofs.Searched.{hunt_tells_none, left_out_goes_on, left_out_is_told, on_ok_since}
-use Rattle.ir_commands.proofs.hunt.HuntedRunSought.recorded.Goals as goal
+use Rattle.ir_commands.proofs.Searched.{hunt_tells_none, left_out_is_told}
+use Rattle.ir_commands.proofs.hunt.hunted_in.Goals as goal
 
 pub returns-clause-found : goal.returns-clause-found
 returns-clause-found g c = IfOk-weaker c.hunt_run.result _ _ (λ recorded done. record {
@@ -30,10 +30,4 @@ returns-clause-none g c =
     IfErr-weaker c.hunt_run.result _ _ (λ answered h. hunt_tells_none
     (tellings (telling g.W.Sink.written g.W.Sink.broken g.W.WholeSink.called g.W.WholeSink.cause)
     (telling g.P.OutputSink.taken g.P.OutputSink.broken g.P.OutputSink.called g.P.OutputSink.cause) g.O.Sink.written g.O.Sink.broken)
-    answered c.args.self.now.image.now c.args.self.now.plan.now old new reports (ap g.E.Sink.written) h) c.hunt_run.ensures.stopped
-
-pub returns-clause-grows : goal.returns-clause-grows
-returns-clause-grows g c =
-    on_ok_since c.hunt_run.result (λ recorded done. left_out_goes_on done.0
-    (writer_of (g.E.Sink.written c.args.faults.now) (g.E.Sink.written c.hunt_run.new.faults) (g.E.Sink.broken c.hunt_run.new.faults)) (ap g.E.Sink.written) done.8)
-    c.hunt_run.ensures.done
+    answered c.args.hunted.image.now c.args.hunted.plan.now old new reports (ap g.E.Sink.written) h) c.hunt_run.ensures.stopped
