@@ -115,6 +115,10 @@ explore-test: ir
 	python3 tests/exploring.py ./ir
 	python3 tests/comparing.py ./ir
 
+# Answers with names, against those without.
+names-test: ir
+	python3 tests/naming.py ./ir
+
 # Runs of faults, shrunk to few context switches and recorded again.
 shrink-test: ir
 	python3 tests/shrinking.py ./ir

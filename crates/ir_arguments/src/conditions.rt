@@ -8,7 +8,7 @@ ghost use Rattle.std.specs.Str.{bytes_eq};
 ghost use Rattle.ir_schedule.specs.Conditions.{as_condition, as_fact};
 ghost use Rattle.ir_schedule.specs.Spelling.{marks};
 ghost use Rattle.ir_arguments.specs.Asking.{wanted_in};
-ghost use Rattle.ir_arguments.specs.Conditions.{asked_also, conditions_given, stale_after, stale_named, stale_wanted};
+ghost use Rattle.ir_arguments.specs.Conditions.{asked_also, conditions_given, stale_named, stale_wanted};
 ghost use Rattle.ir_arguments.specs.Exploring.{asks_for_budget, hang_wanted, is_budget, is_of_outcome, conditions_on_outcome};
 ghost use Rattle.ir_arguments.specs.Parser.{IsArgument, needed_repeated};
 ghost use Rattle.ir_arguments.specs.Values.{rows_of_matches, texts_for};

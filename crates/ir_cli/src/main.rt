@@ -8,6 +8,7 @@ mod unread;
 use ir_arguments::collected;
 use ir_commands::Surroundings;
 use ir_files::ExitStatus;
+use ir_names::NamedSink;
 use ir_program::{Invocation, Terminals, program};
 use ir_stream::FromStd;
 use progress::{Progress, Wiping};
@@ -82,10 +83,11 @@ fn run<R: Threads + Wait + Sync + Clock + Print + Eprint + AllocGlobal>(
         faults: rt.stderr().is_terminal(),
     };
     let progress = Progress::new(threads, terminals.faults, is_for_gdb(words.as_slice()));
-    let mut out = Wiping::new(
+    let out = Wiping::new(
         FromStd::new(Noticing::new(io::writer(rt), reader)),
         &progress,
     );
+    let mut out = NamedSink::new(rt.alloc(), out);
     let mut faults = Sparing::new(Wiping::new(FromStd::new(rt.stderr()), &progress), reader);
     program(
         Surroundings {

@@ -1,2 +1,4 @@
 mod Held
+mod NamedOutput
+mod ServedWords
 mod TakenLines

@@ -1,26 +1,30 @@
 //! What the program does by its arguments, over streams and a folder.
 
-ghost use Rattle.std.specs.Prelude.{◌≡◌, ◌≢◌, false, map};
+ghost use Rattle.std.specs.Prelude.{◌≡◌, ◌≢◌, true, false, map, option_map};
 ghost use Rattle.std.specs.String.{string_bytes};
 ghost use Rattle.ir_files.specs.Writers.{writer_of};
 ghost use Rattle.ir_files.specs.declared.exit_status.ExitStatus.TheVariants as exit;
 ghost use Rattle.ir_commands.specs.Files.{GoesOn, TellsFault};
 ghost use Rattle.ir_commands.specs.Writing.{storing};
 ghost use Rattle.ir_program.specs.Doing.{Does, HeldBundle, HoldsSession, HoldsConnection, MakesImage, Prints, PrintsOutcomes, Shows};
+ghost use Rattle.ir_program.specs.Named.{DoesByFile, ServesCommandLine, ServesNamed, names_status, use_of, use_of_print};
 ghost use Rattle.ir_program.specs.Serving.{ServesWords};
 ghost use Rattle.ir_program.specs.Taking.{TakenReader};
+ghost use Rattle.ir_program.specs.declared.names_use.NamesUse.TheVariants.{Named};
 
 use crate::bundles::bundle;
 use crate::debug::{debug_files, gdb_files};
 use crate::ends_once::EndsOnce;
+use crate::names_use::NamesUse;
 use crate::prompting::Prompting;
 use ir_arguments::{Asked, DebugArguments, Explored, Make, Print, parsed};
 use ir_commands::{
-    Surroundings, assemble_file, classes_file, convert_file, diff_files, events_file,
+    Surroundings, assemble_file, bytes_of, classes_file, convert_file, diff_files, events_file,
     explain_image, explore_file, hunt_file, list_file, outside_file, record_file, say, shrink_file,
     stale_file, trace_file, until_file, view_file, who_file, why_file, within_file,
 };
-use ir_files::{ExitStatus, Folder};
+use ir_files::{ExitStatus, Folder, MOST_FILE_BYTES};
+use ir_names::{NamedSink, NamesErr, NamesSplit, read_names, split_words};
 use ir_object::{Gate, Given};
 use ir_search::Observer;
 use ir_stream::{Sink, Source, write_all};
@@ -50,6 +54,21 @@ pub struct Invocation<'a> {
 // What is said at a terminal where nothing was asked for.
 const WAITS: &str =
     "ir: waiting for an image and a trace, a line of hexadecimal each; see ir --help\n";
+
+// What is said where the words ask for names, and don't name exactly one file.
+const ONE_FILE: &str = "--names wants the FILE with the names, and is given once";
+
+// What is said where a request takes no names.
+const NOT_TAKEN: &str =
+    "--names is for record, hunt, shrink, explore, list, trace, events, stale, who, why and diff";
+
+// A request whose lines have names: the file of names, if exactly one is named, and whether the lines begin with addresses.
+#[derive(Clone, Copy)]
+struct NamedRequest<'a> {
+    file: Option<&'a str>,
+    lists: bool,
+    terminals: Terminals,
+}
 
 // Writes a text about the program.
 fn help<O: Sink, E: Sink>(text: &str, out: &mut O, faults: &mut E) -> ExitStatus
@@ -250,7 +269,7 @@ fn other_of(asked: &Asked) -> Option<&str> {
     Some(within.other.as_str())
 }
 
-// Where an image was refused, it is reported what it is.
+// Where an image was refused, it is reported what it is, if faults can still be reported.
 fn explain_if<D: Folder, E: Sink>(
     alloc: Global,
     folder: &D,
@@ -259,8 +278,12 @@ fn explain_if<D: Folder, E: Sink>(
     faults: &mut E,
 )
     ensures kept { status ≢ exit.Refused → faults.new ≡ faults.old }
+    ensures broken { E.broken faults.old ≡ true → faults.new ≡ faults.old }
     ensures grows { GoesOn (E.written faults.old) (E.written faults.new) }
 {
+    if faults.failed() {
+        return;
+    }
     if let Some(image) = image {
         explain_image(alloc, folder, image, status, faults);
     }
@@ -275,6 +298,7 @@ fn explain<D: Folder, E: Sink>(
     faults: &mut E,
 )
     ensures kept { status ≢ exit.Refused → faults.new ≡ faults.old }
+    ensures broken { E.broken faults.old ≡ true → faults.new ≡ faults.old }
     ensures grows { GoesOn (E.written faults.old) (E.written faults.new) }
 {
     explain_if(alloc, folder, image_of(asked), status, faults);
@@ -323,9 +347,9 @@ where
     }
 }
 
-/// Does what the arguments ask for, and gives the exit status.
-pub fn program<R, D, G, I, O, E>(
-    around: Surroundings<'_, R, D, G>,
+// Does what words ask for that are about no file of names.
+fn plain<R, D, G, I, O, E>(
+    around: &Surroundings<'_, R, D, G>,
     invocation: &Invocation<'_>,
     input: I,
     out: &mut O,
@@ -341,20 +365,184 @@ where
     requires reads { I.broken input ≡ false }
     requires writes { O.broken out.old ≡ false }
     requires reports { E.broken faults.old ≡ false }
-    ensures { ServesWords (D.bytes_at around.entry.folder.now) (storing D.known D.known_closed (D.knows around.entry.folder.now) (D.was_put around.entry.folder.now))
+    ensures { ServesWords (D.bytes_at around.now.folder.now) (storing D.known D.known_closed (D.knows around.now.folder.now) (D.was_put around.now.folder.now))
         (map string_bytes invocation.now.arguments.now) result (I.left input) (writer_of (O.written out.old) (O.written out.new) (O.broken out.new))
         (writer_of (E.written faults.old) (E.written faults.new) (E.broken faults.new)) (out.new ≡ out.old) }
 {
     let alloc = around.rt.alloc();
     let mut asked = parsed(alloc, invocation.arguments);
-    let status = serve(
-        &around,
-        invocation.terminals,
-        &mut asked,
-        input,
-        out,
-        faults,
-    );
+    let status = serve(around, invocation.terminals, &mut asked, input, out, faults);
     explain(alloc, around.folder, &asked, status, faults);
     status
+}
+
+// What names are for what is printed of files.
+fn use_of_print(what: &Print) -> NamesUse
+    ensures { result ≡ use_of_print what.now }
+{
+    match what {
+        Print::Code(_) => NamesUse::Named(true),
+        Print::Trace(_) => NamesUse::Named(false),
+        Print::Events(_) => NamesUse::Named(false),
+        Print::Stale(_) => NamesUse::Named(false),
+        Print::Who(_) => NamesUse::Named(false),
+        Print::Why(_) => NamesUse::Named(false),
+        Print::Diff(_) => NamesUse::Named(false),
+        Print::View(_) => NamesUse::NotTaken,
+    }
+}
+
+// What names are for a request.
+fn use_of(asked: &Asked) -> NamesUse
+    ensures { result ≡ use_of asked.now }
+{
+    match asked {
+        Asked::Print(what) => use_of_print(what),
+        Asked::Session => NamesUse::NotTaken,
+        Asked::Make(_) => NamesUse::NotTaken,
+        Asked::Debug(_) => NamesUse::NotTaken,
+        Asked::Gdb(_) => NamesUse::NotTaken,
+        Asked::Help(_) => NamesUse::Unasked,
+        Asked::Nothing(_) => NamesUse::Unasked,
+        Asked::NoMem => NamesUse::Unasked,
+        Asked::Record(_) => NamesUse::Named(false),
+        Asked::Hunt(_) => NamesUse::Named(false),
+        Asked::Shrink(_) => NamesUse::Named(false),
+        Asked::Until(_) => NamesUse::Named(false),
+        Asked::Outside(_) => NamesUse::Named(false),
+        Asked::Explore(_) => NamesUse::Named(false),
+    }
+}
+
+// Reports why a file of names isn't taken; the status.
+fn names_refused<E: Sink>(path: &str, why: NamesErr, alloc: Global, faults: &mut E) -> ExitStatus
+    requires reports { E.broken faults.old ≡ false }
+    ensures status { result ≡ names_status why }
+    ensures told { TellsFault (writer_of (E.written faults.old) (E.written faults.new) (E.broken faults.new)) }
+{
+    match why {
+        NamesErr::NoMem => told("memory ran out", ExitStatus::Failed, faults),
+        NamesErr::Line(number) => {
+            match format!(in alloc; "line {number} is no line of names") {
+                Ok(why) => say(faults, path, ": ", why.as_str()),
+                Err(_) => say(faults, path, ": ", "a line is no line of names"),
+            }
+            ExitStatus::Refused
+        }
+    }
+}
+
+// Does what is asked with the names of a file.
+fn with_names<R, D, G, I, O, E>(
+    around: &Surroundings<'_, R, D, G>,
+    request: NamedRequest<'_>,
+    asked: &mut Asked,
+    input: I,
+    out: &mut NamedSink<O>,
+    faults: &mut E,
+) -> ExitStatus
+where
+    R: Threads + Wait + Sync + Clock + Eprint + AllocGlobal,
+    D: Folder,
+    G: Gate + Observer + Sync,
+    I: Source + Drop,
+    O: Sink,
+    E: Sink,
+    requires takes { use_of asked.old ≡ Named request.lists }
+    requires reads { I.broken input ≡ false }
+    requires writes { O.broken out.old.sink ≡ false }
+    requires reports { E.broken faults.old ≡ false }
+    ensures { DoesByFile (D.bytes_at around.now.folder.now) (storing D.known D.known_closed (D.knows around.now.folder.now) (D.was_put around.now.folder.now))
+        (option_map (λ file. file.now) request.entry.file) request.entry.lists asked.old result (I.left input)
+        (writer_of (O.written out.old.sink) (O.written out.new.sink) (O.broken out.new.sink))
+        (writer_of (E.written faults.old) (E.written faults.new) (E.broken faults.new)) (out.new.sink ≡ out.old.sink) }
+{
+    let (alloc, folder) = (around.rt.alloc(), around.folder);
+    let Some(path) = request.file else {
+        return told(ONE_FILE, ExitStatus::BadArguments, faults);
+    };
+    let Some(bytes) = bytes_of(alloc, folder, faults, path, MOST_FILE_BYTES) else {
+        return ExitStatus::Failed;
+    };
+    let names = match read_names(alloc, bytes.as_slice()) {
+        Ok(names) => names,
+        Err(why) => return names_refused(path, why, alloc, faults),
+    };
+    out.begin(names, request.lists);
+    let status = serve(around, request.terminals, asked, input, out, faults);
+    explain(alloc, folder, asked, status, faults);
+    status
+}
+
+// Does what words ask for that are about a file of names.
+fn named<R, D, G, I, O, E>(
+    around: &Surroundings<'_, R, D, G>,
+    terminals: Terminals,
+    split: &NamesSplit<'_>,
+    input: I,
+    out: &mut NamedSink<O>,
+    faults: &mut E,
+) -> ExitStatus
+where
+    R: Threads + Wait + Sync + Clock + Eprint + AllocGlobal,
+    D: Folder,
+    G: Gate + Observer + Sync,
+    I: Source + Drop,
+    O: Sink,
+    E: Sink,
+    requires reads { I.broken input ≡ false }
+    requires writes { O.broken out.old.sink ≡ false }
+    requires reports { E.broken faults.old ≡ false }
+    ensures { ServesNamed (D.bytes_at around.now.folder.now) (storing D.known D.known_closed (D.knows around.now.folder.now) (D.was_put around.now.folder.now))
+        split.now result (I.left input) (writer_of (O.written out.old.sink) (O.written out.new.sink) (O.broken out.new.sink))
+        (writer_of (E.written faults.old) (E.written faults.new) (E.broken faults.new)) (out.new.sink ≡ out.old.sink) }
+{
+    let alloc = around.rt.alloc();
+    let mut asked = parsed(alloc, split.others());
+    match use_of(&asked) {
+        NamesUse::Unasked => serve(around, terminals, &mut asked, input, &mut out.sink, faults),
+        NamesUse::NotTaken => told(NOT_TAKEN, ExitStatus::BadArguments, faults),
+        NamesUse::Named(lists) => {
+            let request = NamedRequest {
+                file: split.only_file(),
+                lists,
+                terminals,
+            };
+            with_names(around, request, &mut asked, input, out, faults)
+        }
+    }
+}
+
+/// Does what the arguments ask for, and gives the exit status.
+pub fn program<R, D, G, I, O, E>(
+    around: Surroundings<'_, R, D, G>,
+    invocation: &Invocation<'_>,
+    input: I,
+    out: &mut NamedSink<O>,
+    faults: &mut E,
+) -> ExitStatus
+where
+    R: Threads + Wait + Sync + Clock + Eprint + AllocGlobal,
+    D: Folder,
+    G: Gate + Observer + Sync,
+    I: Source + Drop,
+    O: Sink,
+    E: Sink,
+    requires reads { I.broken input ≡ false }
+    requires writes { O.broken out.old.sink ≡ false }
+    requires reports { E.broken faults.old ≡ false }
+    ensures { ServesCommandLine (D.bytes_at around.entry.folder.now) (storing D.known D.known_closed (D.knows around.entry.folder.now) (D.was_put around.entry.folder.now))
+        (map string_bytes invocation.now.arguments.now) result (I.left input)
+        (writer_of (O.written out.old.sink) (O.written out.new.sink) (O.broken out.new.sink))
+        (writer_of (E.written faults.old) (E.written faults.new) (E.broken faults.new)) (out.new.sink ≡ out.old.sink) }
+{
+    let alloc = around.rt.alloc();
+    let Ok(split) = split_words(alloc, invocation.arguments) else {
+        return told("memory ran out", ExitStatus::Failed, faults);
+    };
+    if split.wants_names() {
+        named(&around, invocation.terminals, &split, input, out, faults)
+    } else {
+        plain(&around, invocation, input, &mut out.sink, faults)
+    }
 }

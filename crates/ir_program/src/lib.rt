@@ -11,6 +11,7 @@ mod gdb;
 mod hints;
 mod laws;
 mod line;
+mod names_use;
 mod prompting;
 
 pub use bundles::{bundle, bundled};

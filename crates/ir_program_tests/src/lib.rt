@@ -14,6 +14,8 @@ mod kept_outputs;
 #[cfg(test)]
 mod large_tests;
 #[cfg(test)]
+mod naming_tests;
+#[cfg(test)]
 mod places_tests;
 #[cfg(test)]
 mod program_tests;

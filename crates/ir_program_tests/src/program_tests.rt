@@ -4,6 +4,7 @@
 use crate::device_tests::{Bytes, ENDLESS, Page, empty_page};
 use crate::shelf::Shelf;
 use ir_commands::Surroundings;
+use ir_names::NamedSink;
 use ir_object::Gate;
 use ir_program::{Invocation, Terminals, program};
 use ir_runs::Access;
@@ -65,7 +66,7 @@ pub fn ran_at<R: Threads + Wait + Sync + Clock + Eprint + AllocGlobal>(
         calls_left: ENDLESS,
         failed: false,
     };
-    let mut out = empty_page(rt, 1000, out_calls);
+    let mut out = NamedSink::new(rt.alloc(), empty_page(rt, 1000, out_calls));
     let mut faults = empty_page(rt, 1000, ENDLESS);
     let status = program(
         Surroundings {
@@ -84,7 +85,7 @@ pub fn ran_at<R: Threads + Wait + Sync + Clock + Eprint + AllocGlobal>(
         &mut out,
         &mut faults,
     );
-    Ok((status.number(), out, faults))
+    Ok((status.number(), out.sink, faults))
 }
 
 // The same, without a terminal.

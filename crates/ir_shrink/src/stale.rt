@@ -1,6 +1,6 @@
 //! Whether a stale write of a run rests on what was read.
 
-ghost use Rattle.std.specs.Prelude.{◌≡◌, List, IfOk};
+ghost use Rattle.std.specs.Prelude.{List, IfOk};
 ghost use Rattle.ir_fit.specs.Fit.{IsRunOf};
 ghost use Rattle.ir_record.specs.Recording.{turns_of_items};
 ghost use Rattle.ir_runs.specs.Run.{Step};

@@ -1,0 +1,5 @@
+pub mod Things
+pub mod Lines
+pub mod Naming
+pub mod Taken
+pub mod Words
