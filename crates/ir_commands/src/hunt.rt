@@ -6,7 +6,7 @@ ghost use Rattle.std.specs.String.{string_bytes};
 ghost use Rattle.ir_files.specs.Outputs.{TookEach, output_writer_of};
 ghost use Rattle.ir_files.specs.Writers.{writer_of};
 ghost use Rattle.ir_files.specs.declared.exit_status.ExitStatus.TheVariants as exit;
-ghost use Rattle.ir_commands.specs.Files.{GoesOn, LacksGuest};
+ghost use Rattle.ir_commands.specs.Files.{GoesOn};
 ghost use Rattle.ir_commands.specs.Searching.{EndsFound, HuntsFile, IsHuntAnswerTo, MissesSeed, RecordsHunted, RefusesFound, RefusesSearch, ShrinksFound, StopsFound, TellsNoSearch};
 ghost use Rattle.ir_commands.specs.Writing.{KeptAt, storing, texts_of_paths};
 
@@ -139,6 +139,7 @@ fn shrunk<'a, R: Threads + Sync + Clock + Eprint + AllocGlobal, D: Folder, G, O:
         is_shown: plan.is_shown,
     };
     let sought = Shrinking {
+        rt: around.rt,
         image: hunted.image,
         trace: found,
         plan: &shrinking,

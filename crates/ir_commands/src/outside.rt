@@ -42,11 +42,12 @@ fn paths(arguments: &OutsideArguments) -> RecordingPaths<'_>
 
 // A run of a guest that is looked for: its outcome is the first that another guest doesn't have.
 #[derive(Clone, Copy)]
-struct Outside<'a, G> {
+struct Outside<'a, 'b, R, G> {
+    rt: &'b R,
     plan: &'a WithinPlan<'a, 'a, 'a, G>,
 }
 
-impl<G: Observer> RunSought for Outside<'_, G> {
+impl<R: Clock + Eprint + AllocGlobal, G: Observer> RunSought for Outside<'_, '_, R, G> {
     type Run = Trace;
 
     ghost trace_of = { λ recorded. recorded };
@@ -57,21 +58,13 @@ impl<G: Observer> RunSought for Outside<'_, G> {
         (LacksGuest (comparison_of sought.plan.now).image sought.plan.now.explore.profile ⊎ LacksGuest (comparison_of sought.plan.now).other sought.plan.now.explore.profile)
         (IsComparisonAnswer (comparison_of sought.plan.now)) answered out reports };
 
-    fn recorded<R, W, P, O, E>(
+    fn recorded<W: WholeSink, P: OutputSink, O: Sink, E: Sink>(
         &self,
-        rt: &R,
         files: &mut RecordFiles<W, P>,
         out: &mut O,
         faults: &mut E,
-    ) -> Result<Trace, ExitStatus>
-    where
-        R: Clock + Eprint + AllocGlobal,
-        W: WholeSink,
-        P: OutputSink,
-        O: Sink,
-        E: Sink,
-    {
-        outside_run(rt, self.plan, files, out, faults)
+    ) -> Result<Trace, ExitStatus> {
+        outside_run(self.rt, self.plan, files, out, faults)
     }
 }
 
@@ -92,7 +85,8 @@ fn outside_by<R: Clock + Eprint + AllocGlobal, D: Folder, G: Observer, O: Sink, 
         (IsComparisonAnswerTo (D.bytes_at around.now.folder.now) arguments.now) answered (writer_of (O.written out.old) (O.written out.new) (O.broken out.new))
         (writer_of (E.written faults.old) (E.written faults.new) (E.broken faults.new))) }
 {
-    let (alloc, folder, within) = (around.rt.alloc(), around.folder, &arguments.within);
+    let (rt, folder, within) = (around.rt, around.folder, &arguments.within);
+    let alloc = rt.alloc();
     let paths = paths(arguments);
     if loses_input(folder, faults, &paths) {
         return Err(ExitStatus::BadArguments);
@@ -111,7 +105,7 @@ fn outside_by<R: Clock + Eprint + AllocGlobal, D: Folder, G: Observer, O: Sink, 
     }
     let outputs = output_places(alloc, folder, faults, &paths, &both.0)?;
     let places = Places::new(paths.trace, &outputs);
-    let sought = Outside { plan: &plan };
+    let sought = Outside { rt, plan: &plan };
     recorded_into(around, places, &sought, out, faults)
 }
 
