@@ -11,7 +11,7 @@ use ir_events::{EventPcs, Logged, event_line, pcs};
 use ir_files::ExitStatus;
 use ir_fit::Fitted;
 use ir_opened::RunQuestion;
-use ir_past::{Absent, AskErr, put_bytes};
+use ir_past::{Absent, AskErr, Printed, put_bytes};
 use ir_stream::Sink;
 use std::alloc::{AllocError, Global};
 
@@ -115,12 +115,7 @@ impl RunQuestion for EventsQuestion {
 
     ghost is_absent = { λ asked. LacksThread asked.thread };
 
-    fn print<O: Sink>(
-        &self,
-        alloc: Global,
-        fitted: &Fitted,
-        out: &mut O,
-    ) -> Result<ExitStatus, AskErr> {
+    fn print<O: Sink>(&self, alloc: Global, fitted: &Fitted, out: &mut O) -> Printed {
         let text = lines(alloc, fitted, *self)?;
         put_bytes(text.as_slice(), out)?;
         Ok(ExitStatus::Done)
