@@ -35,8 +35,9 @@ const AFTER: &str = "A session of a source of your own:
 Without a subcommand `ir` reads standard input: a line with an image in hexadecimal, a line with its trace in
 hexadecimal, and then the commands of `ir debug`, a line each. With xxd for the hexadecimal:
   { for file in guest.img guest.trc; do xxd -p $file | tr -d '\\n'; echo; done; echo end; echo regs 0; } | ir
-With `--names FILE`, anywhere behind `ir`, the subcommands that print lines about a guest put in names: FILE has a line
-`thread T NAME`, `object O NAME`, `object O word W NAME` or `A NAME` for each, A an address in eight hexadecimal digits.
+With `--names FILE`, anywhere after `ir` but not after `--`, the lines of record, hunt, shrink, explore, list, trace, events, stale,
+who, why and diff have names: FILE has a line `thread T NAME`, `object O NAME`, `object O word W NAME` or `A NAME` for each, A an
+address in eight hexadecimal digits.
 Exit status: 0 done, 1 a fault, 2 bad arguments, 3 a refused source, ELF file, MAP, LIST, COND, image or trace, or a guest that
 needs the second profile, 4 a trace that doesn't fit or contradicts itself, 5 no seed or outcome is as COND says, or, with
 `ir record --status`, a thread didn't end by END with code 0, 6 `ir hunt` or `ir explore` gave up, 7 `ir explore` finished, and

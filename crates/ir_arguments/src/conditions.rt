@@ -10,28 +10,22 @@ ghost use Rattle.ir_schedule.specs.Spelling.{marks};
 ghost use Rattle.ir_arguments.specs.Asking.{wanted_in};
 ghost use Rattle.ir_arguments.specs.Conditions.{asked_also, conditions_given, stale_named, stale_wanted};
 ghost use Rattle.ir_arguments.specs.Exploring.{asks_for_budget, hang_wanted, is_budget, is_of_outcome, conditions_on_outcome};
-ghost use Rattle.ir_arguments.specs.Parser.{IsArgument, needed_repeated};
 ghost use Rattle.ir_arguments.specs.Values.{rows_of_matches, texts_for};
 
 use crate::condition_text::ConditionText;
-use crate::forms::needed_repeated_arg;
+use crate::forms::Form;
 use crate::values::{UNTIL, texts_for};
 use crate::wrong_condition::why_no_condition;
-use clap::{Arg, ArgMatches};
+use clap::ArgMatches;
 use ir_schedule::{Condition, Fact, Literal, condition_of};
 use std::alloc::{AllocError, Global};
 
 /// The option for a condition on a run, which is given once or more often.
-pub fn until_arg<'a>(alloc: Global) -> Arg<'a>
-    ensures { IsArgument result (needed_repeated (codes "until")) }
-{
-    needed_repeated_arg(
-        alloc,
-        UNTIL,
-        "COND",
-        "What has to hold of a run; given more than once, all of it",
-    )
-}
+pub const UNTIL_FORM: Form<'static> = Form::NeededRepeated(
+    UNTIL,
+    "COND",
+    "What has to hold of a run; given more than once, all of it",
+);
 
 // What comes after the mark at the start of a text, if it begins with one.
 fn after_mark(text: &str) -> Option<&str>

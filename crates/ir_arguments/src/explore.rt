@@ -5,18 +5,16 @@ ghost use Rattle.std.specs.Result.{result_ok};
 ghost use Rattle.ir_record_command.specs.Numerals.{number_within};
 ghost use Rattle.ir_arguments.specs.Exploring.{ends_in, outcomes_in, reach_in, switches_given};
 ghost use Rattle.ir_arguments.specs.Values.{rows_of_matches, first_given, text_for};
-ghost use Rattle.ir_arguments.specs.Parser.{IsArgument, and_rules, app_in, option, option_or, place, repeated_option, rules_of};
-ghost use Rattle.ir_arguments.specs.declared.subcommands.Subcommand.TheVariants as sub;
 
 use crate::bonds::{Bond, Named};
 use crate::condition_text::ConditionText;
-use crate::forms::{option_arg, option_or_arg, place_arg, repeated_arg, with_arg};
-use crate::recording::{OUTPUT, input_arg, output_arg, profile_arg, random_arg};
+use crate::forms::Form;
+use crate::recording::{INPUT_FORM, OUTPUT, OUTPUT_FORM, PROFILE_FORM, RANDOM_FORM};
 use crate::seconds::{SECONDS, seconds_by};
 use crate::subcommands::Row;
-use crate::values::{TRACE, UNTIL, given, image_arg, text_for};
-use crate::within::{ONLY, WITHIN, only_arg, within_arg};
-use clap::{Arg, ArgMatches, Command};
+use crate::values::{IMAGE_FORM, TRACE, UNTIL, given, text_for};
+use crate::within::{ONLY, ONLY_FORM, WITHIN, WITHIN_FORM};
+use clap::ArgMatches;
 use ir_record_command::number_within;
 use ir_thread::{MOST_BUDGET, Profile};
 use std::alloc::{AllocError, Global};
@@ -83,16 +81,65 @@ With COND: 0 found, 5 finished or covered, and no outcome fulfils them, 6 stoppe
 finished, and no run hangs, 6 covered or stopped. With OTHER: 0 within, 5 outside, 6 unknown.
 ";
 
-/// What the help says of it, beside its arguments.
-pub fn row<'a>() -> Row<'a>
-    ensures { result.name.now ≡ codes "explore" }
-{
-    Row {
-        name: "explore",
-        about: "Prints each different outcome of a guest, with an order that leads to it",
-        after: EXPLORE_AFTER,
-    }
-}
+/// What the help says of it, and its arguments.
+pub const ROW: Row<'static> = Row {
+    name: "explore",
+    about: "Prints each different outcome of a guest, with an order that leads to it",
+    after: EXPLORE_AFTER,
+    forms: &[
+        IMAGE_FORM,
+        Form::Place(
+            TRACE,
+            "The file that the trace of the outcome is written to, with --until or --within",
+        ),
+        Form::Repeated(
+            UNTIL,
+            "COND",
+            "What has to hold of the outcome that is recorded; given more than once, all of it",
+        ),
+        Form::ValuedOr(
+            STATES,
+            "N",
+            "1000000",
+            "The most states, from 1 to 100000000",
+        ),
+        Form::Valued(
+            SWITCHES,
+            "C",
+            "The most switches, at most 1000000; without it all outcomes are looked for",
+        ),
+        Form::ValuedOr(
+            PRIVATE,
+            "N",
+            "1000000",
+            "The most steps of a thread up to its next entry or try, from 1 to 1000000000000",
+        ),
+        Form::Valued(
+            SECONDS,
+            "N",
+            "The seconds after which the search stops, from 1 to 1000000; without it the search goes on to its end",
+        ),
+        Form::Valued(
+            MAX,
+            "K",
+            "The most outcomes, from 1 to 100000000: the search stops once it knows one more; without it all are looked for",
+        ),
+        RANDOM_FORM,
+        PROFILE_FORM,
+        INPUT_FORM,
+        OUTPUT_FORM,
+        WITHIN_FORM,
+        ONLY_FORM,
+    ],
+    bonds: &[
+        Bond::Excludes(THE_OTHER, THE_CONDITION),
+        Bond::Excludes(THE_PARTS, THE_CONDITION),
+        Bond::NeedsEither(THE_TRACE, THE_CONDITION, THE_OTHER),
+        Bond::NeedsEither(THE_OUTPUT, THE_CONDITION, THE_OTHER),
+        Bond::Needs(THE_CONDITION, THE_TRACE),
+        Bond::Needs(THE_OUTPUT, THE_TRACE),
+    ],
+};
 
 const STATES: &str = "states";
 
@@ -157,74 +204,6 @@ pub struct UntilArguments {
     pub output: Option<String>,
 }
 
-fn until_arg<'a>(alloc: Global) -> Arg<'a>
-    ensures { IsArgument result (repeated_option (codes "until")) }
-{
-    repeated_arg(
-        alloc,
-        UNTIL,
-        "COND",
-        "What has to hold of the outcome that is recorded; given more than once, all of it",
-    )
-}
-
-fn states_arg<'a>(alloc: Global) -> Arg<'a>
-    ensures { IsArgument result (option_or (codes "states") (codes "1000000")) }
-{
-    option_or_arg(
-        alloc,
-        STATES,
-        "N",
-        "1000000",
-        "The most states, from 1 to 100000000",
-    )
-}
-
-fn switches_arg<'a>(alloc: Global) -> Arg<'a>
-    ensures { IsArgument result (option (codes "switches")) }
-{
-    option_arg(
-        alloc,
-        SWITCHES,
-        "C",
-        "The most switches, at most 1000000; without it all outcomes are looked for",
-    )
-}
-
-fn private_arg<'a>(alloc: Global) -> Arg<'a>
-    ensures { IsArgument result (option_or (codes "private") (codes "1000000")) }
-{
-    option_or_arg(
-        alloc,
-        PRIVATE,
-        "N",
-        "1000000",
-        "The most steps of a thread up to its next entry or try, from 1 to 1000000000000",
-    )
-}
-
-fn seconds_arg<'a>(alloc: Global) -> Arg<'a>
-    ensures { IsArgument result (option (codes "seconds")) }
-{
-    option_arg(
-        alloc,
-        SECONDS,
-        "N",
-        "The seconds after which the search stops, from 1 to 1000000; without it the search goes on to its end",
-    )
-}
-
-fn max_arg<'a>(alloc: Global) -> Arg<'a>
-    ensures { IsArgument result (option (codes "max")) }
-{
-    option_arg(
-        alloc,
-        MAX,
-        "K",
-        "The most outcomes, from 1 to 100000000: the search stops once it knows one more; without it all are looked for",
-    )
-}
-
 // The arguments of which not all may be given together, as messages show them.
 const THE_TRACE: Named<'static> = Named {
     id: TRACE,
@@ -250,46 +229,6 @@ const THE_PARTS: Named<'static> = Named {
     id: ONLY,
     shown: "--only <PARTS>",
 };
-
-/// Which arguments exclude each other, and which need others.
-pub const BONDS: [Bond<'static>; 6] = [
-    Bond::Excludes(THE_OTHER, THE_CONDITION),
-    Bond::Excludes(THE_PARTS, THE_CONDITION),
-    Bond::NeedsEither(THE_TRACE, THE_CONDITION, THE_OTHER),
-    Bond::NeedsEither(THE_OUTPUT, THE_CONDITION, THE_OTHER),
-    Bond::Needs(THE_CONDITION, THE_TRACE),
-    Bond::Needs(THE_OUTPUT, THE_TRACE),
-];
-
-/// The command with its arguments.
-pub fn with_arguments<'a>(alloc: Global, command: Command<'a>) -> Result<Command<'a>, AllocError>
-    ensures { IfOk result (λ c. app_in c ≡ and_rules (app_in command.entry) (rules_of sub.Explore)) }
-{
-    let command = with_arg(command, image_arg(alloc))?;
-    let command = with_arg(command, trace_arg(alloc))?;
-    let command = with_arg(command, until_arg(alloc))?;
-    let command = with_arg(command, states_arg(alloc))?;
-    let command = with_arg(command, switches_arg(alloc))?;
-    let command = with_arg(command, private_arg(alloc))?;
-    let command = with_arg(command, seconds_arg(alloc))?;
-    let command = with_arg(command, max_arg(alloc))?;
-    let command = with_arg(command, random_arg(alloc))?;
-    let command = with_arg(command, profile_arg(alloc))?;
-    let command = with_arg(command, input_arg(alloc))?;
-    let command = with_arg(command, output_arg(alloc))?;
-    let command = with_arg(command, within_arg(alloc))?;
-    with_arg(command, only_arg(alloc))
-}
-
-fn trace_arg<'a>(alloc: Global) -> Arg<'a>
-    ensures { IsArgument result (place (codes "TRACE")) }
-{
-    place_arg(
-        alloc,
-        TRACE,
-        "The file that the trace of the outcome is written to, with --until or --within",
-    )
-}
 
 // The number that the value of an option is, or else what is wrong with it.
 fn number_in_option(

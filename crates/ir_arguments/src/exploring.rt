@@ -5,7 +5,7 @@ ghost use Rattle.std.specs.Result.{result_ok};
 ghost use Rattle.ir_arguments.specs.Asking.{or_nothing};
 ghost use Rattle.ir_arguments.specs.Exploring.{compared_in, comparison_asked, classes_asked, conditions_beside, exploration_in, exploring_asked, outcomes_asked};
 ghost use Rattle.ir_arguments.specs.Values.{rows_of_matches, texts_for};
-ghost use Rattle.ir_arguments.specs.Views.{comparison_view, exploration_view, request_view};
+ghost use Rattle.ir_arguments.specs.Views.{AsksFor, comparison_view, exploration_view, request_view};
 
 use crate::asked::{Asked, Explored};
 use crate::condition_text::ConditionText;
@@ -147,7 +147,7 @@ fn outcomes_asked(
 
 /// What its arguments ask for.
 pub fn asked(alloc: Global, matches: &ArgMatches<'_>) -> Result<Asked, AllocError>
-    ensures { IfOk result (λ asked. request_view asked ≡ exploring_asked (rows_of_matches matches.now)) }
+    ensures { AsksFor exploring_asked matches.now result }
 {
     let explore = match arguments_of(alloc, matches)? {
         Ok(explore) => explore,

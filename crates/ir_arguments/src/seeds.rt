@@ -4,34 +4,28 @@ ghost use Rattle.std.specs.Prelude.{◌≡◌, ◌≤◌, codes, IfOk};
 ghost use Rattle.std.specs.Result.{result_ok};
 ghost use Rattle.ir_arguments.specs.Reading.{counted_seeds, depth_named, number_after, seeds_between, seeds_from, seeds_named, way_named};
 ghost use Rattle.ir_arguments.specs.Values.{rows_of_matches, text_for};
-ghost use Rattle.ir_arguments.specs.Parser.{IsArgument, option_or};
 
-use crate::forms::option_or_arg;
+use crate::forms::Form;
 use crate::texts::cut;
 use crate::values::text_for;
-use clap::{Arg, ArgMatches};
+use clap::ArgMatches;
 use ir_record_command::number_within;
 use ir_schedule::{Seeds, Way};
 use std::alloc::{AllocError, Global};
 
-/// The option that says how seeds choose.
+/// The name of the option that says how seeds choose.
 pub const BY: &str = "by";
+
+/// The option that says how seeds choose.
+pub const BY_FORM: Form<'static> = Form::ValuedOr(
+    BY,
+    "WAY",
+    "mix",
+    "How a seed chooses: walk, pct:D with D from 1 to 1000, or mix",
+);
 
 // The most places of change and one.
 const MOST_DEPTH: u64 = 1000;
-
-/// The option that says how seeds choose.
-pub fn by_arg<'a>(alloc: Global) -> Arg<'a>
-    ensures { IsArgument result (option_or (codes "by") (codes "mix")) }
-{
-    option_or_arg(
-        alloc,
-        BY,
-        "WAY",
-        "mix",
-        "How a seed chooses: walk, pct:D with D from 1 to 1000, or mix",
-    )
-}
 
 // The way by priorities, of so many places and one, that two texts give.
 fn depth_of(name: &str, depth: &str) -> Option<Way>

@@ -1,15 +1,15 @@
 //! Arguments that more than one subcommand has, and how their values are read.
 
-ghost use Rattle.std.specs.Prelude.{◌≡◌, codes, map, option_map, IfOk};
+ghost use Rattle.std.specs.Prelude.{◌≡◌, map, option_map, IfOk};
 ghost use Rattle.std.specs.String.{string_bytes};
 ghost use Rattle.std.specs.Result.{result_ok};
-ghost use Rattle.ir_arguments.specs.Parser.{IsArgument, image_rule, needed_place, option};
 ghost use Rattle.ir_arguments.specs.Reading.{if_given, large_numbers, small_number};
 ghost use Rattle.ir_arguments.specs.Values.{rows_of_matches, first_given, text_for, texts_for, has_flag};
 
-use crate::forms::option_arg;
+use crate::bonds::Named;
+use crate::forms::Form;
 use crate::texts::first_part;
-use clap::{Arg, ArgMatches};
+use clap::ArgMatches;
 use ir_record_command::number_within;
 use std::alloc::{AllocError, Global};
 
@@ -31,31 +31,39 @@ pub const UNTIL: &str = "until";
 /// Whether a fault is explained.
 pub const EXPLAIN: &str = "explain";
 
-/// A file that has to be named.
-#[tactic(auto, using(crate::proofs::Rules::needed_place_made))]
-pub fn file_arg<'a>(alloc: Global, name: &'a str, help: &'a str) -> Arg<'a>
-    ensures { IsArgument result (needed_place name.now) }
-{
-    Arg::new(alloc, name).required(true).help(help)
-}
-
 /// The file of an image, which has to be named.
-pub fn image_arg<'a>(alloc: Global) -> Arg<'a>
-    ensures { IsArgument result image_rule }
-{
-    file_arg(
-        alloc,
-        IMAGE,
-        "The file with the image, or an ELF file of the guest",
-    )
-}
+pub const IMAGE_FORM: Form<'static> = Form::NeededPlace(
+    IMAGE,
+    "The file with the image, or an ELF file of the guest",
+);
 
-/// The option that names the file of an image.
-pub fn from_image_arg<'a>(alloc: Global, help: &'a str) -> Arg<'a>
-    ensures { IsArgument result (option (codes "image")) }
-{
-    option_arg(alloc, FROM_IMAGE, "IMAGE", help)
-}
+/// The file that an image is written to.
+pub const IMAGE_OUT_FORM: Form<'static> = Form::NeededPlace(
+    IMAGE,
+    "The file that the image is written to",
+);
+
+/// The file of a trace, which has to be named.
+pub const TRACE_FORM: Form<'static> = Form::NeededPlace(TRACE, "The file with the trace");
+
+/// The file that a trace is written to.
+pub const TRACE_OUT_FORM: Form<'static> = Form::NeededPlace(
+    TRACE,
+    "The file that the trace is written to",
+);
+
+/// The option that names the file with the names of addresses.
+pub const NAMES_FORM: Form<'static> = Form::Valued(
+    MAP,
+    "MAP",
+    "The file with the names of addresses, as `nm -n` prints them",
+);
+
+/// The option that names the file of an image, as messages show it.
+pub const THE_IMAGE: Named<'static> = Named {
+    id: FROM_IMAGE,
+    shown: "--image <IMAGE>",
+};
 
 /// The text that is given for an argument, if one is.
 #[tactic(auto, using(crate::proofs::Rows::first_value_in_rows))]
@@ -112,18 +120,6 @@ pub fn given_text(
         Some(text) => Ok(Some(String::from_str(alloc, text)?)),
         None => Ok(None),
     }
-}
-
-/// The option that names the file with the names of addresses.
-pub fn names_arg<'a>(alloc: Global) -> Arg<'a>
-    ensures { IsArgument result (option (codes "map")) }
-{
-    option_arg(
-        alloc,
-        MAP,
-        "MAP",
-        "The file with the names of addresses, as `nm -n` prints them",
-    )
 }
 
 /// The numbers up to 18446744073709551615 that a text lists with commas, or else what is wrong with the argument of this name.

@@ -5,20 +5,17 @@ ghost use Rattle.std.specs.Result.{result_ok};
 ghost use Rattle.ir_arguments.specs.Reading.{large_number};
 ghost use Rattle.ir_arguments.specs.Asking.{picture_asked, part_asked, part_of_texts};
 ghost use Rattle.ir_arguments.specs.Values.{rows_of_matches, text_for};
-ghost use Rattle.ir_arguments.specs.Views.{request_view};
-ghost use Rattle.ir_arguments.specs.Parser.{IsArgument, and_rules, app_in, flag, option_or, pair, rules_of};
-ghost use Rattle.ir_arguments.specs.declared.subcommands.Subcommand.TheVariants as sub;
+ghost use Rattle.ir_arguments.specs.Views.{AsksFor};
 
 use crate::asked::{Asked, Print};
 use crate::bonds::{Bond, Named};
-use crate::forms::{flag_arg, option_or_arg, with_arg};
+use crate::forms::Form;
 use crate::options::no_number;
 use crate::subcommands::Row;
 use crate::values::{
-    FROM_IMAGE, TRACE, file_arg, from_image_arg, given_text, has_flag, number_in, text_for,
-    text_of, texts_for,
+    FROM_IMAGE, TRACE, TRACE_FORM, given_text, has_flag, number_in, text_for, text_of, texts_for,
 };
-use clap::{Arg, ArgMatches, Command};
+use clap::ArgMatches;
 use ir_record_command::number_within;
 use std::alloc::{AllocError, Global};
 
@@ -42,16 +39,33 @@ that the trace doesn't have, 3 a refused trace or image, 4 an incoherent trace, 
 boxes.
 ";
 
-/// What the help says of it, beside its arguments.
-pub fn row<'a>() -> Row<'a>
-    ensures { result.name.now ≡ codes "view" }
-{
-    Row {
-        name: "view",
-        about: "Prints a picture of a trace as an HTML page",
-        after: VIEW_AFTER,
-    }
-}
+/// What the help says of it, and its arguments.
+pub const ROW: Row<'static> = Row {
+    name: "view",
+    about: "Prints a picture of a trace as an HTML page",
+    after: VIEW_AFTER,
+    forms: &[
+        TRACE_FORM,
+        Form::Flag(JSON, "Prints only the data of the page"),
+        Form::Flag(CHROME, "Prints events in the Trace Event format"),
+        Form::Event(AROUND, "Shows only the boxes near event E of thread T"),
+        Form::ValuedOr(
+            SPAN,
+            "N",
+            "1000",
+            "How near: boxes that start at most N places left or right of that event's box",
+        ),
+        Form::Valued(
+            FROM_IMAGE,
+            "IMAGE",
+            "The file with the image, or an ELF file of the guest: boxes from entering to leaving, their steps, and only stale writes that rest on what was read",
+        ),
+    ],
+    bonds: &[
+        Bond::Excludes(THE_CHROME, THE_JSON),
+        Bond::Needs(THE_SPAN, THE_EVENT),
+    ],
+};
 
 const JSON: &str = "json";
 
@@ -87,40 +101,6 @@ pub struct ViewArguments {
     pub image: Option<String>,
 }
 
-fn json_arg<'a>(alloc: Global) -> Arg<'a>
-    ensures { IsArgument result (flag (codes "json")) }
-{
-    flag_arg(alloc, JSON, "Prints only the data of the page")
-}
-
-fn chrome_arg<'a>(alloc: Global) -> Arg<'a>
-    ensures { IsArgument result (flag (codes "chrome")) }
-{
-    flag_arg(alloc, CHROME, "Prints events in the Trace Event format")
-}
-
-fn around_arg<'a>(alloc: Global) -> Arg<'a>
-    ensures { IsArgument result (pair (codes "around")) }
-{
-    Arg::new(alloc, AROUND)
-        .long(AROUND)
-        .num_args(2)
-        .value_names(&["T", "E"])
-        .help("Shows only the boxes near event E of thread T")
-}
-
-fn span_arg<'a>(alloc: Global) -> Arg<'a>
-    ensures { IsArgument result (option_or (codes "span") (codes "1000")) }
-{
-    option_or_arg(
-        alloc,
-        SPAN,
-        "N",
-        "1000",
-        "How near: boxes that start at most N places left or right of that event's box",
-    )
-}
-
 // The arguments of which not all may be given together, as messages show them.
 const THE_JSON: Named<'static> = Named {
     id: JSON,
@@ -141,30 +121,6 @@ const THE_EVENT: Named<'static> = Named {
     id: AROUND,
     shown: "--around <T> <E>",
 };
-
-/// Which arguments exclude each other, and which need others.
-pub const BONDS: [Bond<'static>; 2] = [
-    Bond::Excludes(THE_CHROME, THE_JSON),
-    Bond::Needs(THE_SPAN, THE_EVENT),
-];
-
-/// The command with its arguments.
-pub fn with_arguments<'a>(alloc: Global, command: Command<'a>) -> Result<Command<'a>, AllocError>
-    ensures { IfOk result (λ c. app_in c ≡ and_rules (app_in command.entry) (rules_of sub.View)) }
-{
-    let command = with_arg(command, file_arg(alloc, TRACE, "The file with the trace"))?;
-    let command = with_arg(command, json_arg(alloc))?;
-    let command = with_arg(command, chrome_arg(alloc))?;
-    let command = with_arg(command, around_arg(alloc))?;
-    let command = with_arg(command, span_arg(alloc))?;
-    with_arg(
-        command,
-        from_image_arg(
-            alloc,
-            "The file with the image, or an ELF file of the guest: boxes from entering to leaving, their steps, and only stale writes that rest on what was read",
-        ),
-    )
-}
 
 // How far the part goes, or else what is wrong with the number.
 fn span_of(alloc: Global, matches: &ArgMatches<'_>) -> Result<Result<u64, String>, AllocError>
@@ -218,7 +174,7 @@ fn part_of(
 /// What its arguments ask for.
 #[tactic(auto, unfolding(crate::specs::Asking::picture_in))]
 pub fn asked(alloc: Global, matches: &ArgMatches<'_>) -> Result<Asked, AllocError>
-    ensures { IfOk result (λ asked. request_view asked ≡ picture_asked (rows_of_matches matches.now)) }
+    ensures { AsksFor picture_asked matches.now result }
 {
     let part = match part_of(alloc, matches)? {
         Ok(part) => part,

@@ -5,19 +5,17 @@ ghost use Rattle.std.specs.Result.{result_ok};
 ghost use Rattle.ir_arguments.specs.Reading.{if_given, large_numbers, small_number};
 ghost use Rattle.ir_arguments.specs.Asking.{reasons_asked};
 ghost use Rattle.ir_arguments.specs.Values.{rows_of_matches, first_given, text_for};
-ghost use Rattle.ir_arguments.specs.Views.{request_view};
-ghost use Rattle.ir_arguments.specs.Parser.{IsArgument, and_rules, app_in, option, option_or, rules_of};
-ghost use Rattle.ir_arguments.specs.declared.subcommands.Subcommand.TheVariants as sub;
+ghost use Rattle.ir_arguments.specs.Views.{AsksFor};
 
 use crate::asked::{Asked, Print};
 use crate::bonds::{Bond, Named};
-use crate::forms::{option_arg, option_or_arg, with_arg};
+use crate::forms::Form;
 use crate::subcommands::Row;
 use crate::values::{
-    FROM_IMAGE, TRACE, file_arg, from_image_arg, given, given_text, number_in, numbers_in,
-    text_for, text_of,
+    FROM_IMAGE, THE_IMAGE, TRACE, TRACE_FORM, given, given_text, number_in, numbers_in, text_for,
+    text_of,
 };
-use clap::{Arg, ArgMatches, Command};
+use clap::ArgMatches;
 use std::alloc::{AllocError, Global};
 
 /// What follows the help of `ir why`.
@@ -43,16 +41,29 @@ the trace doesn't have, or positions that are no consistent cut, 3 a refused ima
 or a trace of no run of the image.
 ";
 
-/// What the help says of it, beside its arguments.
-pub fn row<'a>() -> Row<'a>
-    ensures { result.name.now ≡ codes "why" }
-{
-    Row {
-        name: "why",
-        about: "Prints what an event needs, and the chain of waits that led to it",
-        after: WHY_AFTER,
-    }
-}
+/// What the help says of it, and its arguments.
+pub const ROW: Row<'static> = Row {
+    name: "why",
+    about: "Prints what an event needs, and the chain of waits that led to it",
+    after: WHY_AFTER,
+    forms: &[
+        TRACE_FORM,
+        Form::NeededPlace(THREAD, "The number of the thread"),
+        Form::NeededPlace(EVENT, "The number of the event in the thread's log, from 0"),
+        Form::ValuedOr(LINES, "N", "20", "The most lines of the chain of waits"),
+        Form::Valued(
+            FROM_IMAGE,
+            "IMAGE",
+            "The file with the image, or an ELF file of the guest: the steps of the events and of the leaves, the least cut that has the event, and waits of threads that held an object",
+        ),
+        Form::Valued(
+            AT,
+            "P0,P1,..",
+            "The positions of a consistent cut, a position for each thread: tells if what is needed has been left there",
+        ),
+    ],
+    bonds: &[Bond::Needs(THE_POSITIONS, THE_IMAGE)],
+};
 
 /// The number of the thread.
 const THREAD: &str = "T";
@@ -63,6 +74,11 @@ const EVENT: &str = "E";
 const LINES: &str = "lines";
 
 const AT: &str = "at";
+
+const THE_POSITIONS: Named<'static> = Named {
+    id: AT,
+    shown: "--at <P0,P1,..>",
+};
 
 /// The event that is asked about.
 #[derive(Drop)]
@@ -79,66 +95,6 @@ pub struct WhyArguments {
     pub image: Option<String>,
     /// The positions of the threads of a cut, if it is asked what is left there.
     pub at: Option<Vec<u64>>,
-}
-
-fn lines_arg<'a>(alloc: Global) -> Arg<'a>
-    ensures { IsArgument result (option_or (codes "lines") (codes "20")) }
-{
-    option_or_arg(
-        alloc,
-        LINES,
-        "N",
-        "20",
-        "The most lines of the chain of waits",
-    )
-}
-
-fn at_arg<'a>(alloc: Global) -> Arg<'a>
-    ensures { IsArgument result (option (codes "at")) }
-{
-    option_arg(
-        alloc,
-        AT,
-        "P0,P1,..",
-        "The positions of a consistent cut, a position for each thread: tells if what is needed has been left there",
-    )
-}
-
-/// Which arguments need others.
-pub const BONDS: [Bond<'static>; 1] = [Bond::Needs(
-    Named {
-        id: AT,
-        shown: "--at <P0,P1,..>",
-    },
-    Named {
-        id: FROM_IMAGE,
-        shown: "--image <IMAGE>",
-    },
-)];
-
-/// The command with its arguments.
-pub fn with_arguments<'a>(alloc: Global, command: Command<'a>) -> Result<Command<'a>, AllocError>
-    ensures { IfOk result (λ c. app_in c ≡ and_rules (app_in command.entry) (rules_of sub.Why)) }
-{
-    let command = with_arg(command, file_arg(alloc, TRACE, "The file with the trace"))?;
-    let command = with_arg(command, file_arg(alloc, THREAD, "The number of the thread"))?;
-    let command = with_arg(
-        command,
-        file_arg(
-            alloc,
-            EVENT,
-            "The number of the event in the thread's log, from 0",
-        ),
-    )?;
-    let command = with_arg(command, lines_arg(alloc))?;
-    let command = with_arg(
-        command,
-        from_image_arg(
-            alloc,
-            "The file with the image, or an ELF file of the guest: the steps of the events and of the leaves, the least cut that has the event, and waits of threads that held an object",
-        ),
-    )?;
-    with_arg(command, at_arg(alloc))
 }
 
 // The number of an argument, or else what is wrong with it.
@@ -172,7 +128,7 @@ fn positions_of(
 /// What its arguments ask for.
 #[tactic(auto, unfolding(crate::specs::Asking::reasons_in))]
 pub fn asked(alloc: Global, matches: &ArgMatches<'_>) -> Result<Asked, AllocError>
-    ensures { IfOk result (λ asked. request_view asked ≡ reasons_asked (rows_of_matches matches.now)) }
+    ensures { AsksFor reasons_asked matches.now result }
 {
     let thread = match number_of(alloc, matches, THREAD, THREAD)? {
         Ok(thread) => thread,

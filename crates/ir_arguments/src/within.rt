@@ -6,21 +6,34 @@ ghost use Rattle.std.specs.String.{string_bytes};
 ghost use Rattle.ir_arguments.specs.Exploring.{parts_given, parts_listed, parts_taken, with_part};
 ghost use Rattle.ir_arguments.specs.Values.{rows_of_matches, first_given, text_for};
 ghost use Rattle.ir_arguments.specs.Views.{parts_view, taken_view};
-ghost use Rattle.ir_arguments.specs.Parser.{IsArgument, option};
 
 use crate::explore::ExploreArguments;
-use crate::forms::option_arg;
+use crate::forms::Form;
 use crate::texts::first_part;
 use crate::values::{UNTIL, given, text_of};
-use clap::{Arg, ArgMatches};
+use clap::ArgMatches;
 use ir_record_command::number_within;
 use std::alloc::{AllocError, Global};
 
-/// The option that names the image of the other guest.
+/// The name of the option that names the image of the other guest.
 pub const WITHIN: &str = "within";
 
-/// The option that says what of outcomes counts.
+/// The name of the option that says what of outcomes counts.
 pub const ONLY: &str = "only";
+
+/// The option that names the image of the other guest.
+pub const WITHIN_FORM: Form<'static> = Form::Valued(
+    WITHIN,
+    "OTHER",
+    "The file with the image of another guest, or its ELF file: print the outcomes that it doesn't have",
+);
+
+/// The option that says what of outcomes counts.
+pub const ONLY_FORM: Form<'static> = Form::Valued(
+    ONLY,
+    "PARTS",
+    "What of outcomes counts, with commas between: out, codes, objects, or the number of an object",
+);
 
 // The greatest number of an object.
 const LAST_OBJECT: u64 = 63;
@@ -65,28 +78,6 @@ pub struct ClassesArguments {
     pub explore: ExploreArguments,
     /// What of outcomes counts.
     pub counted: Counted,
-}
-
-pub fn within_arg<'a>(alloc: Global) -> Arg<'a>
-    ensures { IsArgument result (option (codes "within")) }
-{
-    option_arg(
-        alloc,
-        WITHIN,
-        "OTHER",
-        "The file with the image of another guest, or its ELF file: print the outcomes that it doesn't have",
-    )
-}
-
-pub fn only_arg<'a>(alloc: Global) -> Arg<'a>
-    ensures { IsArgument result (option (codes "only")) }
-{
-    option_arg(
-        alloc,
-        ONLY,
-        "PARTS",
-        "What of outcomes counts, with commas between: out, codes, objects, or the number of an object",
-    )
 }
 
 // What counts by the parts so far.
