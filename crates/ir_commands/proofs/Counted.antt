@@ -37,19 +37,21 @@ pub no_classes_for_lack : (at : Paths) (arguments : ClassesArguments) {image fir
 no_classes_for_lack at arguments is same allowed (inl failed) = inl (inl failed)
 no_classes_for_lack at arguments {image} {first} is same allowed (inr h) = inr (
   h.0,
-  image,
-  is,
-  subst (λ z. LacksCounted z arguments.explore.profile arguments.counted) same (subst (λ p. LacksCounted first p arguments.counted) allowed h.1),
+  (
+    image,
+    is,
+    subst (λ z. LacksCounted z arguments.explore.profile arguments.counted) same (subst (λ p. LacksCounted first p arguments.counted) allowed h.1),
+  ),
 )
 
 -- the first of two guests isn't shown to have each object
-pub lack_of_first : {image other : List ℕ} {profile asked : Profile} (counted : Counted) {answered : ExitStatus} → profile ≡ asked
+pub lack_of_first : (image other : List ℕ) {profile asked : Profile} (counted : Counted) {answered : ExitStatus} → profile ≡ asked
     → IsStatusOfLack (LacksCounted image profile counted) answered → IsStatusOfLack (LacksCounted image asked counted ⊎ LacksCounted other asked counted) answered
-lack_of_first counted same (inl failed) = inl failed
-lack_of_first {image} counted same (inr h) = inr (h.0, inl (subst (λ p. LacksCounted image p counted) same h.1))
+lack_of_first image other counted same (inl failed) = inl failed
+lack_of_first image other counted same (inr h) = inr (h.0, inl (subst (λ p. LacksCounted image p counted) same h.1))
 
 -- the second isn't
-pub lack_of_second : {image other : List ℕ} {profile asked : Profile} (counted : Counted) {answered : ExitStatus} → profile ≡ asked
+pub lack_of_second : (image other : List ℕ) {profile asked : Profile} (counted : Counted) {answered : ExitStatus} → profile ≡ asked
     → IsStatusOfLack (LacksCounted other profile counted) answered → IsStatusOfLack (LacksCounted image asked counted ⊎ LacksCounted other asked counted) answered
-lack_of_second counted same (inl failed) = inl failed
-lack_of_second {other = other} counted same (inr h) = inr (h.0, inr (subst (λ p. LacksCounted other p counted) same h.1))
+lack_of_second image other counted same (inl failed) = inl failed
+lack_of_second image other counted same (inr h) = inr (h.0, inr (subst (λ p. LacksCounted other p counted) same h.1))

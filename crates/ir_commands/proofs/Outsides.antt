@@ -35,12 +35,12 @@ pub comparison_asked : {at : Paths} {within : WithinArguments} {image other inpu
     → AsksComparison at within c
 comparison_asked {at} {within} {image} {other} {input} {c = c} is same is_image same_other is_other got is_input = record {
   input = input;
-  is_image = subst (IsImageIn (at (string_bytes within.explore.image))) (sym (is.image ∙ same)) is_image;
-  is_other = subst (IsImageIn (at (string_bytes within.other))) (sym (is.other ∙ same_other)) is_other;
+  is_image = subst (IsImageIn (at (string_bytes within.explore.image))) (sym (is.is_image ∙ same)) is_image;
+  is_other = subst (IsImageIn (at (string_bytes within.other))) (sym (is.is_other ∙ same_other)) is_other;
   is_input = is_input;
   is = record {
-    image = refl;
-    other = refl;
+    is_image = refl;
+    is_other = refl;
     is_plan = subst (λ z. IsPlanOf within.explore z c.plan) got is.is_plan;
     counts = is.counts;
     has = is.has;

@@ -109,8 +109,8 @@ TellsComparison c answered out faults = TellsWithin c answered out
 
 -- guests are compared as the arguments say, and both have each object whose words count
 pub record IsComparisonOf (arguments : WithinArguments) (image other input : List ℕ) (c : Comparison) : Type 0 where
-  pub image : c.image ≡ image
-  pub other : c.other ≡ other
+  pub is_image : c.image ≡ image
+  pub is_other : c.other ≡ other
   pub is_plan : IsPlanOf arguments.explore input c.plan
   pub counts : c.aspects ≡ counted_asked arguments.counted
   pub has : HasCounted c.image c.plan.profile arguments.counted

@@ -85,13 +85,11 @@ fn check_counted<E: Sink>(
 {
     let guest = match guest_of(image, explore) {
         Ok(guest) => guest,
-        Err(why) => {
+        Err(why) => match why.status() {
             // A guest that is refused isn't explored, which the search reports.
-            if why.status() == ExitStatus::Refused {
-                return Ok(());
-            }
-            return Err(out_of_memory(faults));
-        }
+            ExitStatus::Refused => return Ok(()),
+            _ => return Err(out_of_memory(faults)),
+        },
     };
     if lacks_object(alloc, guest, counted, path, faults) {
         return Err(ExitStatus::BadArguments);
@@ -141,13 +139,13 @@ pub fn compared_files<D: Folder, E: Sink>(
 ///
 /// # Errors
 /// The exit status.
-pub fn comparison_plan<'a, R: AllocGlobal, D, G, E: Sink>(
-    around: &Surroundings<'a, R, D, G>,
+pub fn comparison_plan<'a, 'o, R: AllocGlobal, D, G, E: Sink>(
+    around: &Surroundings<'o, R, D, G>,
     arguments: &'a WithinArguments,
     both: &'a (ParsedImage<'a>, ParsedImage<'a>),
     input: &'a [u8],
     faults: &mut E,
-) -> Result<WithinPlan<'a, 'a, 'a, G>, ExitStatus>
+) -> Result<WithinPlan<'a, 'a, 'o, G>, ExitStatus>
     ensures kept { OnOk result (faults.new ≡ faults.old) }
     ensures plan { IfOk result (λ plan. IsComparisonOf arguments.now both.now.0 both.now.1 input.now (comparison_of plan)) }
     ensures lacks { IfErr result (IsStatusOfLack (LacksCounted both.now.0 arguments.now.explore.profile arguments.now.counted

@@ -7,8 +7,8 @@ use Rattle.ir_commands.proofs.Counted.{no_classes_for_lack}
 use Rattle.ir_commands.proofs.Explored.{told_by_class}
 use Rattle.ir_commands.proofs.within.classes_file.Goals as goal
 
-pub returns-in-Ok : goal.returns-in-Ok
-returns-in-Ok g c =
+pub returns-in-Ok-check_counted : goal.returns-in-Ok-check_counted
+returns-in-Ok-check_counted g c =
     let arguments = c.args.arguments.now in
     let image = c.in-Ok.files.image.items in
     let plan = c.plan_of.result in
@@ -35,8 +35,8 @@ returns-in-Ok g c =
       });
     }
 
-pub returns-in-Err-check_counted : goal.returns-in-Err-check_counted
-returns-in-Err-check_counted g c =
+pub returns : goal.returns
+returns g c =
     let new = c.check_counted.new.faults in
     let kept = c.in-Ok.ensures.kept in
     record {

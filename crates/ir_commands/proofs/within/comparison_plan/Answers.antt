@@ -7,10 +7,10 @@ pub returns-in_err-check_counted-clause-lacks : goal.returns-in_err-check_counte
 returns-in_err-check_counted-clause-lacks g c =
     let p = err_from_is_err_and c.from_residual.result c.from_residual.ensures.1 in
     if_err_handed_on _ c.from_residual.result c.in_err-check_counted.field-0.0 p.0 p.1 p.2
-    (lack_of_first c.args.arguments.now.counted c.plan_of-explore.ensures.profile c.in_err-check_counted.ensures.lacks)
+    (lack_of_first c.args.both.now.0 c.args.both.now.1 c.args.arguments.now.counted c.plan_of-explore.ensures.profile c.in_err-check_counted.ensures.lacks)
 
 pub returns-in_err-check_counted-2-clause-lacks : goal.returns-in_err-check_counted-2-clause-lacks
 returns-in_err-check_counted-2-clause-lacks g c =
-    let p = err_from_is_err_and c.from_residual-2.result c.from_residual-2.ensures.1 in
-    if_err_handed_on _ c.from_residual-2.result c.in_err-check_counted-2.field-0.0 p.0 p.1 p.2
-    (lack_of_second c.args.arguments.now.counted c.plan_of-explore.ensures.profile c.in_err-check_counted-2.ensures.lacks)
+    let p = err_from_is_err_and c.from_residual-in_err-check_counted-2.result c.from_residual-in_err-check_counted-2.ensures.1 in
+    if_err_handed_on _ c.from_residual-in_err-check_counted-2.result c.in_err-check_counted-2.field-0.0 p.0 p.1 p.2
+    (lack_of_second c.args.both.now.0 c.args.both.now.1 c.args.arguments.now.counted c.plan_of-explore.ensures.profile c.in_err-check_counted-2.ensures.lacks)

@@ -8,8 +8,8 @@ use Rattle.ir_commands.proofs.Explored.{told_comparison}
 use Rattle.ir_commands.proofs.Outsides.{comparison_asked, no_comparison_for_lack}
 use Rattle.ir_commands.proofs.within.within_file.Goals as goal
 
-pub returns-in-Ok : goal.returns-in-Ok
-returns-in-Ok g c =
+pub returns-in-Ok-comparison_plan : goal.returns-in-Ok-comparison_plan
+returns-in-Ok-comparison_plan g c =
     let comparison : Comparison = comparison_of c.in-Ok-comparison_plan.plan in
     let answered = c.within_run.result in
     let out = writer_of (g.O.Sink.written c.args.out.now) (g.O.Sink.written c.within_run.new.out) (g.O.Sink.broken c.within_run.new.out) in
@@ -35,8 +35,8 @@ returns-in-Err g c = record {
   });
 }
 
-pub returns-in-Err-comparison_plan : goal.returns-in-Err-comparison_plan
-returns-in-Err-comparison_plan g c =
+pub returns : goal.returns
+returns g c =
     let new = c.comparison_plan.new.faults in
     let kept = c.in-Ok.ensures.kept in
     record {
