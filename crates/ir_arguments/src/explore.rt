@@ -6,7 +6,7 @@ ghost use Rattle.ir_record_command.specs.Numerals.{number_within};
 ghost use Rattle.ir_arguments.specs.Exploring.{ends_in, outcomes_in, reach_in, switches_given};
 ghost use Rattle.ir_arguments.specs.Values.{rows_of_matches, first_given, text_for};
 
-use crate::bonds::{Bond, Named};
+use crate::bonds::Bond;
 use crate::condition_text::ConditionText;
 use crate::forms::Form;
 use crate::recording::{INPUT_FORM, OUTPUT, OUTPUT_FORM, PROFILE_FORM, RANDOM_FORM};
@@ -132,12 +132,12 @@ pub const ROW: Row<'static> = Row {
         ONLY_FORM,
     ],
     bonds: &[
-        Bond::Excludes(THE_OTHER, THE_CONDITION),
-        Bond::Excludes(THE_PARTS, THE_CONDITION),
-        Bond::NeedsEither(THE_TRACE, THE_CONDITION, THE_OTHER),
-        Bond::NeedsEither(THE_OUTPUT, THE_CONDITION, THE_OTHER),
-        Bond::Needs(THE_CONDITION, THE_TRACE),
-        Bond::Needs(THE_OUTPUT, THE_TRACE),
+        Bond::Excludes(WITHIN, UNTIL),
+        Bond::Excludes(ONLY, UNTIL),
+        Bond::NeedsEither(TRACE, UNTIL, WITHIN),
+        Bond::NeedsEither(OUTPUT, UNTIL, WITHIN),
+        Bond::Needs(UNTIL, TRACE),
+        Bond::Needs(OUTPUT, TRACE),
     ],
 };
 
@@ -203,32 +203,6 @@ pub struct UntilArguments {
     /// What the paths of the files of what threads print begin with, if they are asked for.
     pub output: Option<String>,
 }
-
-// The arguments of which not all may be given together, as messages show them.
-const THE_TRACE: Named<'static> = Named {
-    id: TRACE,
-    shown: "<TRACE>",
-};
-
-const THE_CONDITION: Named<'static> = Named {
-    id: UNTIL,
-    shown: "--until <COND>",
-};
-
-const THE_OUTPUT: Named<'static> = Named {
-    id: OUTPUT,
-    shown: "--output <PREFIX>",
-};
-
-const THE_OTHER: Named<'static> = Named {
-    id: WITHIN,
-    shown: "--within <OTHER>",
-};
-
-const THE_PARTS: Named<'static> = Named {
-    id: ONLY,
-    shown: "--only <PARTS>",
-};
 
 // The number that the value of an option is, or else what is wrong with it.
 fn number_in_option(

@@ -7,7 +7,7 @@ ghost use Rattle.ir_arguments.specs.Values.{rows_of_matches};
 ghost use Rattle.ir_arguments.specs.Views.{AsksFor};
 
 use crate::asked::Asked;
-use crate::bonds::{Bond, Named};
+use crate::bonds::Bond;
 use crate::forms::Form;
 use crate::options::{no_number, options_of};
 use crate::recording::{
@@ -111,12 +111,12 @@ pub const ROW: Row<'static> = Row {
         ),
     ],
     bonds: &[
-        Bond::Excludes(THE_ORDER_FILE, THE_ORDER),
-        Bond::Excludes(THE_CHAOS, THE_ORDER),
-        Bond::Excludes(THE_CHAOS, THE_ORDER_FILE),
-        Bond::Excludes(THE_WAY, THE_ORDER),
-        Bond::Excludes(THE_WAY, THE_ORDER_FILE),
-        Bond::Needs(THE_WAY, THE_CHAOS),
+        Bond::Excludes(ORDER_FILE, ORDER),
+        Bond::Excludes(CHAOS, ORDER),
+        Bond::Excludes(CHAOS, ORDER_FILE),
+        Bond::Excludes(BY, ORDER),
+        Bond::Excludes(BY, ORDER_FILE),
+        Bond::Needs(BY, CHAOS),
     ],
 };
 
@@ -154,27 +154,6 @@ impl RecordArguments {
         self.options.plan(order, input)
     }
 }
-
-// The arguments of which not all may be given together, as messages show them.
-const THE_ORDER: Named<'static> = Named {
-    id: ORDER,
-    shown: "--order <LIST>",
-};
-
-const THE_ORDER_FILE: Named<'static> = Named {
-    id: ORDER_FILE,
-    shown: "--order-file <LISTFILE>",
-};
-
-const THE_CHAOS: Named<'static> = Named {
-    id: CHAOS,
-    shown: "--chaos <SEED>",
-};
-
-const THE_WAY: Named<'static> = Named {
-    id: BY,
-    shown: "--by <WAY>",
-};
 
 // The seed that a text is and this way, or else what is wrong with the text.
 fn chaos_by(

@@ -119,7 +119,7 @@ impl Subcommand {
     fn broken(self, alloc: Global, matches: &ArgMatches<'_>) -> Result<Option<String>, AllocError>
         ensures { IfOk result (λ why. is_none why ≡ may_be_given self (rows_of_matches matches.now)) }
     {
-        broken(alloc, matches, self.row().bonds)
+        broken(alloc, matches, self.row())
     }
 
     /// What its arguments ask for, if they may be given together.

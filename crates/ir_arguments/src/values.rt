@@ -6,7 +6,6 @@ ghost use Rattle.std.specs.Result.{result_ok};
 ghost use Rattle.ir_arguments.specs.Reading.{if_given, large_numbers, small_number};
 ghost use Rattle.ir_arguments.specs.Values.{rows_of_matches, first_given, text_for, texts_for, has_flag};
 
-use crate::bonds::Named;
 use crate::forms::Form;
 use crate::texts::first_part;
 use clap::ArgMatches;
@@ -58,12 +57,6 @@ pub const NAMES_FORM: Form<'static> = Form::Valued(
     "MAP",
     "The file with the names of addresses, as `nm -n` prints them",
 );
-
-/// The option that names the file of an image, as messages show it.
-pub const THE_IMAGE: Named<'static> = Named {
-    id: FROM_IMAGE,
-    shown: "--image <IMAGE>",
-};
 
 /// The text that is given for an argument, if one is.
 #[tactic(auto, using(crate::proofs::Rows::first_value_in_rows))]

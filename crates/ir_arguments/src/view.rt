@@ -8,7 +8,7 @@ ghost use Rattle.ir_arguments.specs.Values.{rows_of_matches, text_for};
 ghost use Rattle.ir_arguments.specs.Views.{AsksFor};
 
 use crate::asked::{Asked, Print};
-use crate::bonds::{Bond, Named};
+use crate::bonds::Bond;
 use crate::forms::Form;
 use crate::options::no_number;
 use crate::subcommands::Row;
@@ -61,10 +61,7 @@ pub const ROW: Row<'static> = Row {
             "The file with the image, or an ELF file of the guest: boxes from entering to leaving, their steps, and only stale writes that rest on what was read",
         ),
     ],
-    bonds: &[
-        Bond::Excludes(THE_CHROME, THE_JSON),
-        Bond::Needs(THE_SPAN, THE_EVENT),
-    ],
+    bonds: &[Bond::Excludes(CHROME, JSON), Bond::Needs(SPAN, AROUND)],
 };
 
 const JSON: &str = "json";
@@ -100,27 +97,6 @@ pub struct ViewArguments {
     /// The file of the image, if steps are shown too.
     pub image: Option<String>,
 }
-
-// The arguments of which not all may be given together, as messages show them.
-const THE_JSON: Named<'static> = Named {
-    id: JSON,
-    shown: "--json",
-};
-
-const THE_CHROME: Named<'static> = Named {
-    id: CHROME,
-    shown: "--chrome",
-};
-
-const THE_SPAN: Named<'static> = Named {
-    id: SPAN,
-    shown: "--span <N>",
-};
-
-const THE_EVENT: Named<'static> = Named {
-    id: AROUND,
-    shown: "--around <T> <E>",
-};
 
 // How far the part goes, or else what is wrong with the number.
 fn span_of(alloc: Global, matches: &ArgMatches<'_>) -> Result<Result<u64, String>, AllocError>

@@ -4,12 +4,11 @@ ghost use Rattle.ir_arguments.specs.Asking.{versions_asked};
 ghost use Rattle.ir_arguments.specs.Views.{AsksFor};
 
 use crate::asked::{Asked, Print};
-use crate::bonds::{Bond, Named};
+use crate::bonds::Bond;
 use crate::forms::Form;
 use crate::subcommands::Row;
 use crate::values::{
-    FROM_IMAGE, THE_IMAGE, TRACE, TRACE_FORM, given_number, given_text, number_in, text_for,
-    text_of,
+    FROM_IMAGE, TRACE, TRACE_FORM, given_number, given_text, number_in, text_for, text_of,
 };
 use clap::ArgMatches;
 use std::alloc::{AllocError, Global};
@@ -57,8 +56,8 @@ pub const ROW: Row<'static> = Row {
         ),
     ],
     bonds: &[
-        Bond::Excludes(THE_WORD, THE_VERSION),
-        Bond::Needs(THE_WORD, THE_IMAGE),
+        Bond::Excludes(WORD, VERSION_NUMBER),
+        Bond::Needs(WORD, FROM_IMAGE),
     ],
 };
 
@@ -85,17 +84,6 @@ pub struct WhoArguments {
     /// The file of the image, if steps are told too.
     pub image: Option<String>,
 }
-
-// The arguments of which not all may be given together, as messages show them.
-const THE_WORD: Named<'static> = Named {
-    id: WORD,
-    shown: "--word <K>",
-};
-
-const THE_VERSION: Named<'static> = Named {
-    id: VERSION_NUMBER,
-    shown: "[V]",
-};
 
 /// What its arguments ask for.
 #[tactic(auto, unfolding(crate::specs::Asking::versions_in))]

@@ -8,12 +8,11 @@ ghost use Rattle.ir_arguments.specs.Values.{rows_of_matches, first_given, text_f
 ghost use Rattle.ir_arguments.specs.Views.{AsksFor};
 
 use crate::asked::{Asked, Print};
-use crate::bonds::{Bond, Named};
+use crate::bonds::Bond;
 use crate::forms::Form;
 use crate::subcommands::Row;
 use crate::values::{
-    FROM_IMAGE, THE_IMAGE, TRACE, TRACE_FORM, given, given_text, number_in, numbers_in, text_for,
-    text_of,
+    FROM_IMAGE, TRACE, TRACE_FORM, given, given_text, number_in, numbers_in, text_for, text_of,
 };
 use clap::ArgMatches;
 use std::alloc::{AllocError, Global};
@@ -62,7 +61,7 @@ pub const ROW: Row<'static> = Row {
             "The positions of a consistent cut, a position for each thread: tells if what is needed has been left there",
         ),
     ],
-    bonds: &[Bond::Needs(THE_POSITIONS, THE_IMAGE)],
+    bonds: &[Bond::Needs(AT, FROM_IMAGE)],
 };
 
 /// The number of the thread.
@@ -74,11 +73,6 @@ const EVENT: &str = "E";
 const LINES: &str = "lines";
 
 const AT: &str = "at";
-
-const THE_POSITIONS: Named<'static> = Named {
-    id: AT,
-    shown: "--at <P0,P1,..>",
-};
 
 /// The event that is asked about.
 #[derive(Drop)]
