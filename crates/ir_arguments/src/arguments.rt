@@ -5,10 +5,11 @@ ghost use Rattle.std.specs.String.{string_bytes};
 ghost use Rattle.clap.specs.Words.{kind_of, subcommand_rows_of};
 ghost use Rattle.ir_arguments.specs.Parser.{app_in, bare_app, ir_app, with_version};
 ghost use Rattle.ir_arguments.specs.Parsing.{IsAskedBy, IsOrNoMemory, request_at_fault};
-ghost use Rattle.ir_arguments.specs.Subcommands.{request_by_name};
-ghost use Rattle.ir_arguments.specs.Values.{rows_of_matches};
+ghost use Rattle.ir_arguments.specs.Subcommands.{asked_by_name, request_by_name};
+ghost use Rattle.ir_arguments.specs.Values.{YieldsOrNothing, rows_of_matches};
 ghost use Rattle.ir_arguments.specs.Views.{request_view};
 
+use crate::argument_err::ArgumentErr;
 use crate::asked::Asked;
 use crate::subcommands::{SUBCOMMANDS, subcommand_named, with_subcommands};
 use clap::error::ErrorKind;
@@ -133,8 +134,8 @@ fn subcommand_used<'m, 'a>(matches: &'m ArgMatches<'a>) -> Option<(&'a str, &'m 
 }
 
 // What the arguments of the subcommand ask for; without one a session.
-fn by_subcommand(alloc: Global, matches: &ArgMatches<'_>) -> Result<Asked, AllocError>
-    ensures { IfOk result (λ asked. request_view asked ≡ request_by_name (subcommand_rows_of matches.now)) }
+fn by_subcommand(alloc: Global, matches: &ArgMatches<'_>) -> Result<Asked, ArgumentErr>
+    ensures { YieldsOrNothing request_view result (asked_by_name (subcommand_rows_of matches.now)) }
 {
     let Some((name, matches)) = subcommand_used(matches) else {
         return Ok(Asked::Session);
@@ -164,7 +165,8 @@ fn by_matches(alloc: Global, matches: &ArgMatches<'_>) -> Asked
 {
     match by_subcommand(alloc, matches) {
         Ok(asked) => asked,
-        Err(_) => Asked::NoMem,
+        Err(ArgumentErr::Wrong(why)) => Asked::Nothing(why),
+        Err(ArgumentErr::NoMem) => Asked::NoMem,
     }
 }
 

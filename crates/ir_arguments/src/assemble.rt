@@ -3,12 +3,13 @@
 ghost use Rattle.ir_arguments.specs.Asking.{assembly_asked};
 ghost use Rattle.ir_arguments.specs.Views.{AsksFor};
 
+use crate::argument_err::ArgumentErr;
 use crate::asked::{Asked, Make};
 use crate::forms::Form;
 use crate::subcommands::Row;
 use crate::values::{EXPLAIN, IMAGE, IMAGE_OUT_FORM, MAP, given_text, has_flag, text_of};
 use clap::ArgMatches;
-use std::alloc::{AllocError, Global};
+use std::alloc::Global;
 
 const SOURCE: &str = "SOURCE";
 
@@ -102,7 +103,7 @@ pub struct AssembleArguments {
 }
 
 /// What its arguments ask for.
-pub fn asked(alloc: Global, matches: &ArgMatches<'_>) -> Result<Asked, AllocError>
+pub fn asked(alloc: Global, matches: &ArgMatches<'_>) -> Result<Asked, ArgumentErr>
     ensures { AsksFor assembly_asked matches.now result }
 {
     Ok(Asked::Make(Make::Source(AssembleArguments {

@@ -3,11 +3,12 @@
 ghost use Rattle.ir_arguments.specs.Asking.{debug_asked};
 ghost use Rattle.ir_arguments.specs.Views.{AsksFor};
 
+use crate::argument_err::ArgumentErr;
 use crate::asked::Asked;
 use crate::subcommands::Row;
 use crate::values::{IMAGE, IMAGE_FORM, TRACE, TRACE_FORM, text_of};
 use clap::ArgMatches;
-use std::alloc::{AllocError, Global};
+use std::alloc::Global;
 
 /// What follows the help of `ir debug`. The form of each command, and what it does, is a line that begins with two spaces, of which the
 /// last is before the line that begins with `Numbers`.
@@ -76,7 +77,7 @@ pub struct DebugArguments {
 }
 
 /// What its arguments ask for.
-pub fn asked(alloc: Global, matches: &ArgMatches<'_>) -> Result<Asked, AllocError>
+pub fn asked(alloc: Global, matches: &ArgMatches<'_>) -> Result<Asked, ArgumentErr>
     ensures { AsksFor debug_asked matches.now result }
 {
     Ok(Asked::Debug(DebugArguments {

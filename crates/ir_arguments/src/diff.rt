@@ -3,12 +3,13 @@
 ghost use Rattle.ir_arguments.specs.Asking.{difference_asked};
 ghost use Rattle.ir_arguments.specs.Views.{AsksFor};
 
+use crate::argument_err::ArgumentErr;
 use crate::asked::{Asked, Print};
 use crate::forms::Form;
 use crate::subcommands::Row;
 use crate::values::text_of;
 use clap::ArgMatches;
-use std::alloc::{AllocError, Global};
+use std::alloc::Global;
 
 /// What follows the help of `ir diff`.
 pub const DIFF_AFTER: &str =
@@ -57,7 +58,7 @@ pub struct DiffArguments {
 }
 
 /// What its arguments ask for.
-pub fn asked(alloc: Global, matches: &ArgMatches<'_>) -> Result<Asked, AllocError>
+pub fn asked(alloc: Global, matches: &ArgMatches<'_>) -> Result<Asked, ArgumentErr>
     ensures { AsksFor difference_asked matches.now result }
 {
     Ok(Asked::Print(Print::Diff(DiffArguments {

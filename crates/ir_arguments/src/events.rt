@@ -3,11 +3,12 @@
 ghost use Rattle.ir_arguments.specs.Asking.{events_asked};
 ghost use Rattle.ir_arguments.specs.Views.{AsksFor};
 
+use crate::argument_err::ArgumentErr;
 use crate::asked::{Asked, Print};
 use crate::subcommands::Row;
 use crate::values::{IMAGE, IMAGE_FORM, MAP, NAMES_FORM, TRACE, TRACE_FORM, given_text, text_of};
 use clap::ArgMatches;
-use std::alloc::{AllocError, Global};
+use std::alloc::Global;
 
 /// What follows the help of `ir events`.
 pub const EVENTS_AFTER: &str =
@@ -42,7 +43,7 @@ pub struct EventsArguments {
 }
 
 /// What its arguments ask for.
-pub fn asked(alloc: Global, matches: &ArgMatches<'_>) -> Result<Asked, AllocError>
+pub fn asked(alloc: Global, matches: &ArgMatches<'_>) -> Result<Asked, ArgumentErr>
     ensures { AsksFor events_asked matches.now result }
 {
     Ok(Asked::Print(Print::Events(EventsArguments {

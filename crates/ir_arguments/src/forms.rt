@@ -27,6 +27,44 @@ pub enum Form<'a> {
     Flag(&'a str, &'a str),
 }
 
+impl<'a> Form<'a> {
+    /// The name of the argument.
+    pub fn name(self) -> &'a str {
+        match self {
+            Form::NeededPlace(name, _) => name,
+            Form::Place(name, _) => name,
+            Form::Valued(name, _, _) => name,
+            Form::ValuedOr(name, _, _, _) => name,
+            Form::Repeated(name, _, _) => name,
+            Form::NeededRepeated(name, _, _) => name,
+            Form::Event(name, _) => name,
+            Form::Flag(name, _) => name,
+        }
+    }
+
+    /// The argument, as messages show it.
+    pub fn shown(self, alloc: Global) -> Result<String, AllocError> {
+        match self {
+            Form::NeededPlace(name, _) => format!(in alloc; "<{name}>"),
+            Form::Place(name, _) => format!(in alloc; "[{name}]"),
+            Form::Valued(name, value, _) => format!(in alloc; "--{name} <{value}>"),
+            Form::ValuedOr(name, value, _, _) => format!(in alloc; "--{name} <{value}>"),
+            Form::Repeated(name, value, _) => format!(in alloc; "--{name} <{value}>"),
+            Form::NeededRepeated(name, value, _) => format!(in alloc; "--{name} <{value}>"),
+            Form::Event(name, _) => format!(in alloc; "--{name} <T> <E>"),
+            Form::Flag(name, _) => format!(in alloc; "--{name}"),
+        }
+    }
+
+    /// The same where it isn't given and has to be.
+    pub fn shown_needed(self, alloc: Global) -> Result<String, AllocError> {
+        match self {
+            Form::Place(name, _) => format!(in alloc; "<{name}>"),
+            _ => self.shown(alloc),
+        }
+    }
+}
+
 // An argument that is named by its place and may be left out.
 #[tactic(auto, using(crate::proofs::Rules::place_made))]
 fn place_arg<'a>(alloc: Global, name: &'a str, help: &'a str) -> Arg<'a>

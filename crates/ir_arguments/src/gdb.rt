@@ -3,12 +3,13 @@
 ghost use Rattle.ir_arguments.specs.Asking.{gdb_asked};
 ghost use Rattle.ir_arguments.specs.Views.{AsksFor};
 
+use crate::argument_err::ArgumentErr;
 use crate::asked::Asked;
 use crate::debug::DebugArguments;
 use crate::subcommands::Row;
 use crate::values::{IMAGE, IMAGE_FORM, TRACE, TRACE_FORM, text_of};
 use clap::ArgMatches;
-use std::alloc::{AllocError, Global};
+use std::alloc::Global;
 
 /// What follows the help of `ir gdb`.
 pub const GDB_AFTER: &str =
@@ -38,7 +39,7 @@ pub const ROW: Row<'static> = Row {
 };
 
 /// What its arguments ask for.
-pub fn asked(alloc: Global, matches: &ArgMatches<'_>) -> Result<Asked, AllocError>
+pub fn asked(alloc: Global, matches: &ArgMatches<'_>) -> Result<Asked, ArgumentErr>
     ensures { AsksFor gdb_asked matches.now result }
 {
     Ok(Asked::Gdb(DebugArguments {

@@ -1,11 +1,11 @@
 //! The arguments of `ir hunt`.
 
-ghost use Rattle.std.specs.Prelude.{◌≡◌, codes, IfOk};
-ghost use Rattle.std.specs.Result.{result_ok};
+ghost use Rattle.std.specs.Prelude.{codes};
 ghost use Rattle.ir_arguments.specs.Asking.{bounds_in, hunt_asked, jobs_given};
-ghost use Rattle.ir_arguments.specs.Values.{rows_of_matches, first_given};
+ghost use Rattle.ir_arguments.specs.Values.{YieldsOrNothing, rows_of_matches, first_given};
 ghost use Rattle.ir_arguments.specs.Views.{AsksFor};
 
+use crate::argument_err::ArgumentErr;
 use crate::asked::Asked;
 use crate::condition_text::ConditionText;
 use crate::conditions::{UNTIL_FORM, wanted_by};
@@ -21,7 +21,7 @@ use crate::values::{IMAGE, IMAGE_FORM, TRACE, TRACE_OUT_FORM, given, has_flag, t
 use clap::ArgMatches;
 use ir_record_command::number_within;
 use ir_schedule::{Seeds, Way};
-use std::alloc::{AllocError, Global};
+use std::alloc::Global;
 
 const SEEDS: &str = "seeds";
 
@@ -129,62 +129,39 @@ pub struct HuntArguments {
 }
 
 // The most threads that are asked for, or what is wrong with their number.
-fn jobs_by(alloc: Global, matches: &ArgMatches<'_>) -> Result<Result<usize, String>, AllocError>
-    ensures { IfOk result (λ read. result_ok read ≡ jobs_given (first_given (rows_of_matches matches.now) (codes "jobs"))) }
+fn jobs_by(alloc: Global, matches: &ArgMatches<'_>) -> Result<usize, ArgumentErr>
+    ensures { YieldsOrNothing (λ v. v) result (jobs_given (first_given (rows_of_matches matches.now) (codes "jobs"))) }
 {
     let Some(text) = given(matches, JOBS) else {
-        return Ok(Ok(usize::MAX));
+        return Ok(usize::MAX);
     };
     match number_within(1, MOST_JOBS, text) {
-        Some(number) => Ok(Ok(number as usize)),
-        None => Ok(Err(format!(in alloc;
+        Some(number) => Ok(number as usize),
+        None => Err(ArgumentErr::Wrong(format!(in alloc;
             "--{JOBS}: '{text}' is no number from 1 to {MOST_JOBS}"
         )?)),
     }
 }
 
 // The most threads and seconds that are asked for, or what is wrong with one of the numbers.
-fn bounds_by(
-    alloc: Global,
-    matches: &ArgMatches<'_>,
-) -> Result<Result<(usize, Option<u32>), String>, AllocError>
-    ensures { IfOk result (λ read. result_ok read ≡ bounds_in (rows_of_matches matches.now)) }
+fn bounds_by(alloc: Global, matches: &ArgMatches<'_>) -> Result<(usize, Option<u32>), ArgumentErr>
+    ensures { YieldsOrNothing (λ v. v) result (bounds_in (rows_of_matches matches.now)) }
 {
-    let jobs = match jobs_by(alloc, matches)? {
-        Ok(jobs) => jobs,
-        Err(why) => return Ok(Err(why)),
-    };
-    match seconds_by(alloc, matches)? {
-        Ok(seconds) => Ok(Ok((jobs, seconds))),
-        Err(why) => Ok(Err(why)),
-    }
+    let jobs = jobs_by(alloc, matches)?;
+    let seconds = seconds_by(alloc, matches)?;
+    Ok((jobs, seconds))
 }
 
 /// What its arguments ask for.
 #[tactic(auto, unfolding(crate::specs::Asking::hunt_in))]
-pub fn asked(alloc: Global, matches: &ArgMatches<'_>) -> Result<Asked, AllocError>
+pub fn asked(alloc: Global, matches: &ArgMatches<'_>) -> Result<Asked, ArgumentErr>
     ensures { AsksFor hunt_asked matches.now result }
 {
-    let options = match options_of(alloc, matches)? {
-        Ok(options) => options,
-        Err(why) => return Ok(Asked::Nothing(why)),
-    };
-    let seeds = match seeds_by(alloc, SEEDS, text_for(matches, SEEDS))? {
-        Ok(seeds) => seeds,
-        Err(why) => return Ok(Asked::Nothing(why)),
-    };
-    let way = match way_by(alloc, matches)? {
-        Ok(way) => way,
-        Err(why) => return Ok(Asked::Nothing(why)),
-    };
-    let (until, stale) = match wanted_by(alloc, matches)? {
-        Ok(wanted) => wanted,
-        Err(why) => return Ok(Asked::Nothing(why)),
-    };
-    let (jobs, seconds) = match bounds_by(alloc, matches)? {
-        Ok(bounds) => bounds,
-        Err(why) => return Ok(Asked::Nothing(why)),
-    };
+    let options = options_of(alloc, matches)?;
+    let seeds = seeds_by(alloc, SEEDS, text_for(matches, SEEDS))?;
+    let way = way_by(alloc, matches)?;
+    let (until, stale) = wanted_by(alloc, matches)?;
+    let (jobs, seconds) = bounds_by(alloc, matches)?;
     Ok(Asked::Hunt(HuntArguments {
         image: text_of(alloc, matches, IMAGE)?,
         trace: text_of(alloc, matches, TRACE)?,

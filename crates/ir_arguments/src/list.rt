@@ -3,11 +3,12 @@
 ghost use Rattle.ir_arguments.specs.Asking.{code_asked};
 ghost use Rattle.ir_arguments.specs.Views.{AsksFor};
 
+use crate::argument_err::ArgumentErr;
 use crate::asked::{Asked, Print};
 use crate::subcommands::Row;
 use crate::values::{IMAGE, IMAGE_FORM, MAP, NAMES_FORM, given_text, text_of};
 use clap::ArgMatches;
-use std::alloc::{AllocError, Global};
+use std::alloc::Global;
 
 /// What follows the help of `ir list`.
 pub const LIST_AFTER: &str =
@@ -39,7 +40,7 @@ pub struct ListArguments {
 }
 
 /// What its arguments ask for.
-pub fn asked(alloc: Global, matches: &ArgMatches<'_>) -> Result<Asked, AllocError>
+pub fn asked(alloc: Global, matches: &ArgMatches<'_>) -> Result<Asked, ArgumentErr>
     ensures { AsksFor code_asked matches.now result }
 {
     Ok(Asked::Print(Print::Code(ListArguments {

@@ -1,13 +1,13 @@
 //! The arguments of `ir record`.
 
-ghost use Rattle.std.specs.Prelude.{◌≡◌, Some, option_map, IfOk};
-ghost use Rattle.std.specs.Result.{result_ok};
+ghost use Rattle.std.specs.Prelude.{◌≡◌, Some, option_map};
 ghost use Rattle.ir_arguments.specs.Asking.{chaos_by, chaos_in, recording_asked};
-ghost use Rattle.ir_arguments.specs.Values.{rows_of_matches};
+ghost use Rattle.ir_arguments.specs.Values.{YieldsOrNothing, rows_of_matches};
 ghost use Rattle.ir_arguments.specs.Views.{AsksFor};
 
+use crate::argument_err::ArgumentErr;
 use crate::asked::Asked;
-use crate::bonds::{Bond, Named};
+use crate::bonds::Bond;
 use crate::forms::Form;
 use crate::options::{no_number, options_of};
 use crate::recording::{
@@ -21,7 +21,7 @@ use crate::values::{
 use clap::ArgMatches;
 use ir_record_command::{RecordPlan, number_within};
 use ir_schedule::Way;
-use std::alloc::{AllocError, Global};
+use std::alloc::Global;
 
 const ORDER: &str = "order";
 
@@ -111,12 +111,12 @@ pub const ROW: Row<'static> = Row {
         ),
     ],
     bonds: &[
-        Bond::Excludes(THE_ORDER_FILE, THE_ORDER),
-        Bond::Excludes(THE_CHAOS, THE_ORDER),
-        Bond::Excludes(THE_CHAOS, THE_ORDER_FILE),
-        Bond::Excludes(THE_WAY, THE_ORDER),
-        Bond::Excludes(THE_WAY, THE_ORDER_FILE),
-        Bond::Needs(THE_WAY, THE_CHAOS),
+        Bond::Excludes(ORDER_FILE, ORDER),
+        Bond::Excludes(CHAOS, ORDER),
+        Bond::Excludes(CHAOS, ORDER_FILE),
+        Bond::Excludes(BY, ORDER),
+        Bond::Excludes(BY, ORDER_FILE),
+        Bond::Needs(BY, CHAOS),
     ],
 };
 
@@ -155,71 +155,34 @@ impl RecordArguments {
     }
 }
 
-// The arguments of which not all may be given together, as messages show them.
-const THE_ORDER: Named<'static> = Named {
-    id: ORDER,
-    shown: "--order <LIST>",
-};
-
-const THE_ORDER_FILE: Named<'static> = Named {
-    id: ORDER_FILE,
-    shown: "--order-file <LISTFILE>",
-};
-
-const THE_CHAOS: Named<'static> = Named {
-    id: CHAOS,
-    shown: "--chaos <SEED>",
-};
-
-const THE_WAY: Named<'static> = Named {
-    id: BY,
-    shown: "--by <WAY>",
-};
-
 // The seed that a text is and this way, or else what is wrong with the text.
-fn chaos_by(
-    alloc: Global,
-    text: &str,
-    way: Way,
-) -> Result<Result<Option<Chaos>, String>, AllocError>
-    ensures { IfOk result (λ read. result_ok read ≡ option_map (λ chaos. Some chaos) (chaos_by way text.now)) }
+fn chaos_by(alloc: Global, text: &str, way: Way) -> Result<Option<Chaos>, ArgumentErr>
+    ensures { YieldsOrNothing (λ v. v) result (option_map (λ chaos. Some chaos) (chaos_by way text.now)) }
 {
     match number_within(0, u64::MAX, text) {
-        Some(seed) => Ok(Ok(Some(Chaos { seed, way }))),
-        None => Ok(Err(no_number(alloc, CHAOS, text, u64::MAX)?)),
+        Some(seed) => Ok(Some(Chaos { seed, way })),
+        None => Err(ArgumentErr::Wrong(no_number(alloc, CHAOS, text, u64::MAX)?)),
     }
 }
 
 // The seed that gives the order and how, if it is given, or else what is wrong with it.
-fn chaos_of(
-    alloc: Global,
-    matches: &ArgMatches<'_>,
-) -> Result<Result<Option<Chaos>, String>, AllocError>
-    ensures { IfOk result (λ read. result_ok read ≡ chaos_in (rows_of_matches matches.now)) }
+fn chaos_of(alloc: Global, matches: &ArgMatches<'_>) -> Result<Option<Chaos>, ArgumentErr>
+    ensures { YieldsOrNothing (λ v. v) result (chaos_in (rows_of_matches matches.now)) }
 {
-    let way = match way_by(alloc, matches)? {
-        Ok(way) => way,
-        Err(why) => return Ok(Err(why)),
-    };
+    let way = way_by(alloc, matches)?;
     match given(matches, CHAOS) {
         Some(text) => chaos_by(alloc, text, way),
-        None => Ok(Ok(None)),
+        None => Ok(None),
     }
 }
 
 /// What its arguments ask for.
 #[tactic(auto, unfolding(crate::specs::Asking::recording_in))]
-pub fn asked(alloc: Global, matches: &ArgMatches<'_>) -> Result<Asked, AllocError>
+pub fn asked(alloc: Global, matches: &ArgMatches<'_>) -> Result<Asked, ArgumentErr>
     ensures { AsksFor recording_asked matches.now result }
 {
-    let options = match options_of(alloc, matches)? {
-        Ok(options) => options,
-        Err(why) => return Ok(Asked::Nothing(why)),
-    };
-    let chaos = match chaos_of(alloc, matches)? {
-        Ok(chaos) => chaos,
-        Err(why) => return Ok(Asked::Nothing(why)),
-    };
+    let options = options_of(alloc, matches)?;
+    let chaos = chaos_of(alloc, matches)?;
     Ok(Asked::Record(RecordArguments {
         image: text_of(alloc, matches, IMAGE)?,
         trace: text_of(alloc, matches, TRACE)?,

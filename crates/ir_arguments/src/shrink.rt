@@ -3,6 +3,7 @@
 ghost use Rattle.ir_arguments.specs.Asking.{shrinking_asked};
 ghost use Rattle.ir_arguments.specs.Views.{AsksFor};
 
+use crate::argument_err::ArgumentErr;
 use crate::asked::Asked;
 use crate::condition_text::ConditionText;
 use crate::conditions::{UNTIL_FORM, wanted_by};
@@ -13,7 +14,7 @@ use crate::seconds::{SECONDS, seconds_by};
 use crate::subcommands::Row;
 use crate::values::{IMAGE, IMAGE_FORM, TRACE, TRACE_FORM, given_text, text_of};
 use clap::ArgMatches;
-use std::alloc::{AllocError, Global};
+use std::alloc::Global;
 
 const OUT: &str = "OUT";
 
@@ -89,21 +90,12 @@ pub struct ShrinkArguments {
 
 /// What its arguments ask for.
 #[tactic(auto, unfolding(crate::specs::Asking::shrinking_in))]
-pub fn asked(alloc: Global, matches: &ArgMatches<'_>) -> Result<Asked, AllocError>
+pub fn asked(alloc: Global, matches: &ArgMatches<'_>) -> Result<Asked, ArgumentErr>
     ensures { AsksFor shrinking_asked matches.now result }
 {
-    let (until, stale) = match wanted_by(alloc, matches)? {
-        Ok(wanted) => wanted,
-        Err(why) => return Ok(Asked::Nothing(why)),
-    };
-    let seconds = match seconds_by(alloc, matches)? {
-        Ok(seconds) => seconds,
-        Err(why) => return Ok(Asked::Nothing(why)),
-    };
-    let random = match random_in(alloc, matches)? {
-        Ok(random) => random,
-        Err(why) => return Ok(Asked::Nothing(why)),
-    };
+    let (until, stale) = wanted_by(alloc, matches)?;
+    let seconds = seconds_by(alloc, matches)?;
+    let random = random_in(alloc, matches)?;
     Ok(Asked::Shrink(ShrinkArguments {
         image: text_of(alloc, matches, IMAGE)?,
         trace: text_of(alloc, matches, TRACE)?,

@@ -3,12 +3,13 @@
 ghost use Rattle.ir_arguments.specs.Asking.{stale_asked};
 ghost use Rattle.ir_arguments.specs.Views.{AsksFor};
 
+use crate::argument_err::ArgumentErr;
 use crate::asked::{Asked, Print};
 use crate::forms::Form;
 use crate::subcommands::Row;
 use crate::values::{FROM_IMAGE, TRACE, TRACE_FORM, given_text, text_of};
 use clap::ArgMatches;
-use std::alloc::{AllocError, Global};
+use std::alloc::Global;
 
 /// What follows the help of `ir stale`.
 pub const STALE_AFTER: &str =
@@ -59,7 +60,7 @@ pub struct StaleArguments {
 }
 
 /// What its arguments ask for.
-pub fn asked(alloc: Global, matches: &ArgMatches<'_>) -> Result<Asked, AllocError>
+pub fn asked(alloc: Global, matches: &ArgMatches<'_>) -> Result<Asked, ArgumentErr>
     ensures { AsksFor stale_asked matches.now result }
 {
     Ok(Asked::Print(Print::Stale(StaleArguments {

@@ -8,6 +8,7 @@ ghost use Rattle.ir_arguments.specs.Subcommands.{asked_by, asked_if_given, is_na
 ghost use Rattle.ir_arguments.specs.Values.{rows_of_matches};
 ghost use Rattle.ir_arguments.specs.Views.{AsksFor};
 
+use crate::argument_err::ArgumentErr;
 use crate::asked::Asked;
 use crate::bonds::{Bond, broken};
 use crate::forms::{Form, with_forms};
@@ -119,21 +120,21 @@ impl Subcommand {
     fn broken(self, alloc: Global, matches: &ArgMatches<'_>) -> Result<Option<String>, AllocError>
         ensures { IfOk result (λ why. is_none why ≡ may_be_given self (rows_of_matches matches.now)) }
     {
-        broken(alloc, matches, self.row().bonds)
+        broken(alloc, matches, self.row())
     }
 
     /// What its arguments ask for, if they may be given together.
-    pub fn asked(self, alloc: Global, matches: &ArgMatches<'_>) -> Result<Asked, AllocError>
+    pub fn asked(self, alloc: Global, matches: &ArgMatches<'_>) -> Result<Asked, ArgumentErr>
         ensures { AsksFor (asked_if_given self) matches.now result }
     {
         match self.broken(alloc, matches)? {
-            Some(why) => Ok(Asked::Nothing(why)),
+            Some(why) => Err(ArgumentErr::Wrong(why)),
             None => self.asked_so(alloc, matches),
         }
     }
 
     // What its arguments ask for.
-    fn asked_so(self, alloc: Global, matches: &ArgMatches<'_>) -> Result<Asked, AllocError>
+    fn asked_so(self, alloc: Global, matches: &ArgMatches<'_>) -> Result<Asked, ArgumentErr>
         ensures { AsksFor (asked_by self) matches.now result }
     {
         match self {

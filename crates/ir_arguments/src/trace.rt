@@ -3,11 +3,12 @@
 ghost use Rattle.ir_arguments.specs.Asking.{trace_asked};
 ghost use Rattle.ir_arguments.specs.Views.{AsksFor};
 
+use crate::argument_err::ArgumentErr;
 use crate::asked::{Asked, Print};
 use crate::subcommands::Row;
 use crate::values::{TRACE, TRACE_FORM, text_of};
 use clap::ArgMatches;
-use std::alloc::{AllocError, Global};
+use std::alloc::Global;
 
 /// What follows the help of `ir trace`.
 pub const TRACE_AFTER: &str =
@@ -42,7 +43,7 @@ pub struct TraceArguments {
 }
 
 /// What its arguments ask for.
-pub fn asked(alloc: Global, matches: &ArgMatches<'_>) -> Result<Asked, AllocError>
+pub fn asked(alloc: Global, matches: &ArgMatches<'_>) -> Result<Asked, ArgumentErr>
     ensures { AsksFor trace_asked matches.now result }
 {
     Ok(Asked::Print(Print::Trace(TraceArguments {

@@ -2,11 +2,10 @@
 
 ghost use Rattle.std.specs.Prelude.{◌≡◌, map, option_map, IfOk};
 ghost use Rattle.std.specs.String.{string_bytes};
-ghost use Rattle.std.specs.Result.{result_ok};
 ghost use Rattle.ir_arguments.specs.Reading.{if_given, large_numbers, small_number};
-ghost use Rattle.ir_arguments.specs.Values.{rows_of_matches, first_given, text_for, texts_for, has_flag};
+ghost use Rattle.ir_arguments.specs.Values.{YieldsOrNothing, rows_of_matches, first_given, text_for, texts_for, has_flag};
 
-use crate::bonds::Named;
+use crate::argument_err::ArgumentErr;
 use crate::forms::Form;
 use crate::texts::first_part;
 use clap::ArgMatches;
@@ -58,12 +57,6 @@ pub const NAMES_FORM: Form<'static> = Form::Valued(
     "MAP",
     "The file with the names of addresses, as `nm -n` prints them",
 );
-
-/// The option that names the file of an image, as messages show it.
-pub const THE_IMAGE: Named<'static> = Named {
-    id: FROM_IMAGE,
-    shown: "--image <IMAGE>",
-};
 
 /// The text that is given for an argument, if one is.
 #[tactic(auto, using(crate::proofs::Rows::first_value_in_rows))]
@@ -124,35 +117,33 @@ pub fn given_text(
 
 /// The numbers up to 18446744073709551615 that a text lists with commas, or else what is wrong with the argument of this name.
 #[tactic(auto, using(crate::proofs::Numbers::numbers_at_end, crate::proofs::Numbers::numbers_after_part, crate::proofs::Numbers::numbers_fail))]
-pub fn numbers_in(
-    alloc: Global,
-    name: &str,
-    text: &str,
-) -> Result<Result<Vec<u64>, String>, AllocError>
-    ensures { IfOk result (λ read. option_map (λ v. v.items) (result_ok read) ≡ large_numbers text.now) }
+pub fn numbers_in(alloc: Global, name: &str, text: &str) -> Result<Vec<u64>, ArgumentErr>
+    ensures { YieldsOrNothing (λ v. v.items) result (large_numbers text.now) }
 {
     let mut numbers = Vec::new(alloc);
     let mut rest = Some(text);
     'parts: while let Some(text) = rest {
         let (part, others) = first_part(text, ',');
         let Some(number) = number_within(0, u64::MAX, part) else {
-            return Ok(Err(format!(in alloc;
+            return Err(ArgumentErr::Wrong(format!(in alloc;
                 "{name}: '{part}' is no number up to 18446744073709551615"
             )?));
         };
         numbers.push(number)?;
         rest = others;
     }
-    Ok(Ok(numbers))
+    Ok(numbers)
 }
 
 /// The number up to 4294967295 that a text is, or else what is wrong with the argument of this name.
-pub fn number_in(alloc: Global, name: &str, text: &str) -> Result<Result<u32, String>, AllocError>
-    ensures { IfOk result (λ read. result_ok read ≡ small_number text.now) }
+pub fn number_in(alloc: Global, name: &str, text: &str) -> Result<u32, ArgumentErr>
+    ensures { YieldsOrNothing (λ v. v) result (small_number text.now) }
 {
     match number_within(0, u32::MAX as u64, text) {
-        Some(number) => Ok(Ok(number as u32)),
-        None => Ok(Err(format!(in alloc; "{name}: '{text}' is no number up to 4294967295")?)),
+        Some(number) => Ok(number as u32),
+        None => Err(ArgumentErr::Wrong(format!(in alloc;
+            "{name}: '{text}' is no number up to 4294967295"
+        )?)),
     }
 }
 
@@ -162,14 +153,11 @@ pub fn given_number(
     matches: &ArgMatches<'_>,
     argument: &str,
     name: &str,
-) -> Result<Result<Option<u32>, String>, AllocError>
-    ensures { IfOk result (λ read. result_ok read ≡ if_given small_number (first_given (rows_of_matches matches.now) argument.now)) }
+) -> Result<Option<u32>, ArgumentErr>
+    ensures { YieldsOrNothing (λ v. v) result (if_given small_number (first_given (rows_of_matches matches.now) argument.now)) }
 {
-    let Some(text) = given(matches, argument) else {
-        return Ok(Ok(None));
-    };
-    match number_in(alloc, name, text)? {
-        Ok(number) => Ok(Ok(Some(number))),
-        Err(why) => Ok(Err(why)),
+    match given(matches, argument) {
+        Some(text) => Ok(Some(number_in(alloc, name, text)?)),
+        None => Ok(None),
     }
 }

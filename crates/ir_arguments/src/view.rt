@@ -1,14 +1,14 @@
 //! The arguments of `ir view`.
 
-ghost use Rattle.std.specs.Prelude.{◌≡◌, codes, map, IfOk};
-ghost use Rattle.std.specs.Result.{result_ok};
+ghost use Rattle.std.specs.Prelude.{codes, map};
 ghost use Rattle.ir_arguments.specs.Reading.{large_number};
 ghost use Rattle.ir_arguments.specs.Asking.{picture_asked, part_asked, part_of_texts};
-ghost use Rattle.ir_arguments.specs.Values.{rows_of_matches, text_for};
+ghost use Rattle.ir_arguments.specs.Values.{YieldsOrNothing, rows_of_matches, text_for};
 ghost use Rattle.ir_arguments.specs.Views.{AsksFor};
 
+use crate::argument_err::ArgumentErr;
 use crate::asked::{Asked, Print};
-use crate::bonds::{Bond, Named};
+use crate::bonds::Bond;
 use crate::forms::Form;
 use crate::options::no_number;
 use crate::subcommands::Row;
@@ -17,7 +17,7 @@ use crate::values::{
 };
 use clap::ArgMatches;
 use ir_record_command::number_within;
-use std::alloc::{AllocError, Global};
+use std::alloc::Global;
 
 /// What follows the help of `ir view`.
 pub const VIEW_AFTER: &str =
@@ -61,10 +61,7 @@ pub const ROW: Row<'static> = Row {
             "The file with the image, or an ELF file of the guest: boxes from entering to leaving, their steps, and only stale writes that rest on what was read",
         ),
     ],
-    bonds: &[
-        Bond::Excludes(THE_CHROME, THE_JSON),
-        Bond::Needs(THE_SPAN, THE_EVENT),
-    ],
+    bonds: &[Bond::Excludes(CHROME, JSON), Bond::Needs(SPAN, AROUND)],
 };
 
 const JSON: &str = "json";
@@ -101,85 +98,47 @@ pub struct ViewArguments {
     pub image: Option<String>,
 }
 
-// The arguments of which not all may be given together, as messages show them.
-const THE_JSON: Named<'static> = Named {
-    id: JSON,
-    shown: "--json",
-};
-
-const THE_CHROME: Named<'static> = Named {
-    id: CHROME,
-    shown: "--chrome",
-};
-
-const THE_SPAN: Named<'static> = Named {
-    id: SPAN,
-    shown: "--span <N>",
-};
-
-const THE_EVENT: Named<'static> = Named {
-    id: AROUND,
-    shown: "--around <T> <E>",
-};
-
 // How far the part goes, or else what is wrong with the number.
-fn span_of(alloc: Global, matches: &ArgMatches<'_>) -> Result<Result<u64, String>, AllocError>
-    ensures { IfOk result (λ read. result_ok read ≡ large_number (text_for (rows_of_matches matches.now) (codes "span"))) }
+fn span_of(alloc: Global, matches: &ArgMatches<'_>) -> Result<u64, ArgumentErr>
+    ensures { YieldsOrNothing (λ v. v) result (large_number (text_for (rows_of_matches matches.now) (codes "span"))) }
 {
     let text = text_for(matches, SPAN);
     match number_within(0, u64::MAX, text) {
-        Some(span) => Ok(Ok(span)),
-        None => Ok(Err(no_number(alloc, SPAN, text, u64::MAX)?)),
+        Some(span) => Ok(span),
+        None => Err(ArgumentErr::Wrong(no_number(alloc, SPAN, text, u64::MAX)?)),
     }
 }
 
 // The part around the event that two texts give, or else what is wrong with them.
-fn part_around(
-    alloc: Global,
-    span: u64,
-    texts: &[&str],
-) -> Result<Result<Option<Part>, String>, AllocError>
-    ensures { IfOk result (λ read. result_ok read ≡ part_of_texts span (map (λ s. s.now) texts.now)) }
+fn part_around(alloc: Global, span: u64, texts: &[&str]) -> Result<Option<Part>, ArgumentErr>
+    ensures { YieldsOrNothing (λ v. v) result (part_of_texts span (map (λ s. s.now) texts.now)) }
 {
     let [thread, event] = texts else {
-        return Ok(Ok(None));
+        return Ok(None);
     };
-    let thread = match number_in(alloc, "--around", thread)? {
-        Ok(thread) => thread,
-        Err(why) => return Ok(Err(why)),
-    };
-    match number_in(alloc, "--around", event)? {
-        Ok(event) => Ok(Ok(Some(Part {
-            thread,
-            event,
-            span,
-        }))),
-        Err(why) => Ok(Err(why)),
-    }
+    let thread = number_in(alloc, "--around", thread)?;
+    let event = number_in(alloc, "--around", event)?;
+    Ok(Some(Part {
+        thread,
+        event,
+        span,
+    }))
 }
 
 // The part that is asked for, if one is, or else what is wrong with it.
-fn part_of(
-    alloc: Global,
-    matches: &ArgMatches<'_>,
-) -> Result<Result<Option<Part>, String>, AllocError>
-    ensures { IfOk result (λ read. result_ok read ≡ part_asked (rows_of_matches matches.now)) }
+fn part_of(alloc: Global, matches: &ArgMatches<'_>) -> Result<Option<Part>, ArgumentErr>
+    ensures { YieldsOrNothing (λ v. v) result (part_asked (rows_of_matches matches.now)) }
 {
-    match span_of(alloc, matches)? {
-        Ok(span) => part_around(alloc, span, texts_for(matches, AROUND)),
-        Err(why) => Ok(Err(why)),
-    }
+    let span = span_of(alloc, matches)?;
+    part_around(alloc, span, texts_for(matches, AROUND))
 }
 
 /// What its arguments ask for.
 #[tactic(auto, unfolding(crate::specs::Asking::picture_in))]
-pub fn asked(alloc: Global, matches: &ArgMatches<'_>) -> Result<Asked, AllocError>
+pub fn asked(alloc: Global, matches: &ArgMatches<'_>) -> Result<Asked, ArgumentErr>
     ensures { AsksFor picture_asked matches.now result }
 {
-    let part = match part_of(alloc, matches)? {
-        Ok(part) => part,
-        Err(why) => return Ok(Asked::Nothing(why)),
-    };
+    let part = part_of(alloc, matches)?;
     Ok(Asked::Print(Print::View(ViewArguments {
         trace: text_of(alloc, matches, TRACE)?,
         json: has_flag(matches, JSON),

@@ -3,16 +3,16 @@
 ghost use Rattle.ir_arguments.specs.Asking.{versions_asked};
 ghost use Rattle.ir_arguments.specs.Views.{AsksFor};
 
+use crate::argument_err::ArgumentErr;
 use crate::asked::{Asked, Print};
-use crate::bonds::{Bond, Named};
+use crate::bonds::Bond;
 use crate::forms::Form;
 use crate::subcommands::Row;
 use crate::values::{
-    FROM_IMAGE, THE_IMAGE, TRACE, TRACE_FORM, given_number, given_text, number_in, text_for,
-    text_of,
+    FROM_IMAGE, TRACE, TRACE_FORM, given_number, given_text, number_in, text_for, text_of,
 };
 use clap::ArgMatches;
-use std::alloc::{AllocError, Global};
+use std::alloc::Global;
 
 /// What follows the help of `ir who`.
 pub const WHO_AFTER: &str =
@@ -57,8 +57,8 @@ pub const ROW: Row<'static> = Row {
         ),
     ],
     bonds: &[
-        Bond::Excludes(THE_WORD, THE_VERSION),
-        Bond::Needs(THE_WORD, THE_IMAGE),
+        Bond::Excludes(WORD, VERSION_NUMBER),
+        Bond::Needs(WORD, FROM_IMAGE),
     ],
 };
 
@@ -86,34 +86,14 @@ pub struct WhoArguments {
     pub image: Option<String>,
 }
 
-// The arguments of which not all may be given together, as messages show them.
-const THE_WORD: Named<'static> = Named {
-    id: WORD,
-    shown: "--word <K>",
-};
-
-const THE_VERSION: Named<'static> = Named {
-    id: VERSION_NUMBER,
-    shown: "[V]",
-};
-
 /// What its arguments ask for.
 #[tactic(auto, unfolding(crate::specs::Asking::versions_in))]
-pub fn asked(alloc: Global, matches: &ArgMatches<'_>) -> Result<Asked, AllocError>
+pub fn asked(alloc: Global, matches: &ArgMatches<'_>) -> Result<Asked, ArgumentErr>
     ensures { AsksFor versions_asked matches.now result }
 {
-    let object = match number_in(alloc, OBJECT, text_for(matches, OBJECT))? {
-        Ok(object) => object,
-        Err(why) => return Ok(Asked::Nothing(why)),
-    };
-    let version = match given_number(alloc, matches, VERSION_NUMBER, VERSION_NUMBER)? {
-        Ok(version) => version,
-        Err(why) => return Ok(Asked::Nothing(why)),
-    };
-    let word = match given_number(alloc, matches, WORD, "--word")? {
-        Ok(word) => word,
-        Err(why) => return Ok(Asked::Nothing(why)),
-    };
+    let object = number_in(alloc, OBJECT, text_for(matches, OBJECT))?;
+    let version = given_number(alloc, matches, VERSION_NUMBER, VERSION_NUMBER)?;
+    let word = given_number(alloc, matches, WORD, "--word")?;
     Ok(Asked::Print(Print::Who(WhoArguments {
         trace: text_of(alloc, matches, TRACE)?,
         object,

@@ -1,22 +1,21 @@
 //! The arguments of `ir why`.
 
-ghost use Rattle.std.specs.Prelude.{◌≡◌, codes, option_map, IfOk};
-ghost use Rattle.std.specs.Result.{result_ok};
+ghost use Rattle.std.specs.Prelude.{codes, option_map};
 ghost use Rattle.ir_arguments.specs.Reading.{if_given, large_numbers, small_number};
 ghost use Rattle.ir_arguments.specs.Asking.{reasons_asked};
-ghost use Rattle.ir_arguments.specs.Values.{rows_of_matches, first_given, text_for};
+ghost use Rattle.ir_arguments.specs.Values.{YieldsOrNothing, rows_of_matches, first_given, text_for};
 ghost use Rattle.ir_arguments.specs.Views.{AsksFor};
 
+use crate::argument_err::ArgumentErr;
 use crate::asked::{Asked, Print};
-use crate::bonds::{Bond, Named};
+use crate::bonds::Bond;
 use crate::forms::Form;
 use crate::subcommands::Row;
 use crate::values::{
-    FROM_IMAGE, THE_IMAGE, TRACE, TRACE_FORM, given, given_text, number_in, numbers_in, text_for,
-    text_of,
+    FROM_IMAGE, TRACE, TRACE_FORM, given, given_text, number_in, numbers_in, text_for, text_of,
 };
 use clap::ArgMatches;
-use std::alloc::{AllocError, Global};
+use std::alloc::Global;
 
 /// What follows the help of `ir why`.
 pub const WHY_AFTER: &str =
@@ -62,7 +61,7 @@ pub const ROW: Row<'static> = Row {
             "The positions of a consistent cut, a position for each thread: tells if what is needed has been left there",
         ),
     ],
-    bonds: &[Bond::Needs(THE_POSITIONS, THE_IMAGE)],
+    bonds: &[Bond::Needs(AT, FROM_IMAGE)],
 };
 
 /// The number of the thread.
@@ -74,11 +73,6 @@ const EVENT: &str = "E";
 const LINES: &str = "lines";
 
 const AT: &str = "at";
-
-const THE_POSITIONS: Named<'static> = Named {
-    id: AT,
-    shown: "--at <P0,P1,..>",
-};
 
 /// The event that is asked about.
 #[derive(Drop)]
@@ -103,49 +97,31 @@ fn number_of(
     matches: &ArgMatches<'_>,
     argument: &str,
     name: &str,
-) -> Result<Result<u32, String>, AllocError>
-    ensures { IfOk result (λ read. result_ok read ≡ small_number (text_for (rows_of_matches matches.now) argument.now)) }
+) -> Result<u32, ArgumentErr>
+    ensures { YieldsOrNothing (λ v. v) result (small_number (text_for (rows_of_matches matches.now) argument.now)) }
 {
     number_in(alloc, name, text_for(matches, argument))
 }
 
 // The positions of a cut, if they are given, or else what is wrong with them.
-fn positions_of(
-    alloc: Global,
-    matches: &ArgMatches<'_>,
-) -> Result<Result<Option<Vec<u64>>, String>, AllocError>
-    ensures { IfOk result (λ read. option_map (option_map (λ v. v.items)) (result_ok read) ≡ if_given large_numbers (first_given (rows_of_matches matches.now) (codes "at"))) }
+fn positions_of(alloc: Global, matches: &ArgMatches<'_>) -> Result<Option<Vec<u64>>, ArgumentErr>
+    ensures { YieldsOrNothing (option_map (λ v. v.items)) result (if_given large_numbers (first_given (rows_of_matches matches.now) (codes "at"))) }
 {
-    let Some(text) = given(matches, AT) else {
-        return Ok(Ok(None));
-    };
-    match numbers_in(alloc, "--at", text)? {
-        Ok(positions) => Ok(Ok(Some(positions))),
-        Err(why) => Ok(Err(why)),
+    match given(matches, AT) {
+        Some(text) => Ok(Some(numbers_in(alloc, "--at", text)?)),
+        None => Ok(None),
     }
 }
 
 /// What its arguments ask for.
 #[tactic(auto, unfolding(crate::specs::Asking::reasons_in))]
-pub fn asked(alloc: Global, matches: &ArgMatches<'_>) -> Result<Asked, AllocError>
+pub fn asked(alloc: Global, matches: &ArgMatches<'_>) -> Result<Asked, ArgumentErr>
     ensures { AsksFor reasons_asked matches.now result }
 {
-    let thread = match number_of(alloc, matches, THREAD, THREAD)? {
-        Ok(thread) => thread,
-        Err(why) => return Ok(Asked::Nothing(why)),
-    };
-    let event = match number_of(alloc, matches, EVENT, EVENT)? {
-        Ok(event) => event,
-        Err(why) => return Ok(Asked::Nothing(why)),
-    };
-    let lines = match number_of(alloc, matches, LINES, "--lines")? {
-        Ok(lines) => lines,
-        Err(why) => return Ok(Asked::Nothing(why)),
-    };
-    let at = match positions_of(alloc, matches)? {
-        Ok(at) => at,
-        Err(why) => return Ok(Asked::Nothing(why)),
-    };
+    let thread = number_of(alloc, matches, THREAD, THREAD)?;
+    let event = number_of(alloc, matches, EVENT, EVENT)?;
+    let lines = number_of(alloc, matches, LINES, "--lines")?;
+    let at = positions_of(alloc, matches)?;
     Ok(Asked::Print(Print::Why(WhyArguments {
         trace: text_of(alloc, matches, TRACE)?,
         thread,

@@ -1,12 +1,12 @@
 //! The arguments of `ir explore --within` and `--only`.
 
-ghost use Rattle.std.specs.Prelude.{◌≡◌, Some, None, codes, option_map, IfOk, MatchBool};
-ghost use Rattle.std.specs.Result.{result_ok};
+ghost use Rattle.std.specs.Prelude.{◌≡◌, Some, None, codes, IfOk, MatchBool};
 ghost use Rattle.std.specs.String.{string_bytes};
 ghost use Rattle.ir_arguments.specs.Exploring.{parts_given, parts_listed, parts_taken, with_part};
-ghost use Rattle.ir_arguments.specs.Values.{rows_of_matches, first_given, text_for};
+ghost use Rattle.ir_arguments.specs.Values.{YieldsOrNothing, rows_of_matches, first_given, text_for};
 ghost use Rattle.ir_arguments.specs.Views.{parts_view, taken_view};
 
+use crate::argument_err::ArgumentErr;
 use crate::explore::ExploreArguments;
 use crate::forms::Form;
 use crate::texts::first_part;
@@ -120,8 +120,8 @@ fn counted_by(taken: Taken) -> Counted
 
 // What counts by the parts that a text lists, or what is wrong with it.
 #[tactic(auto, using(crate::proofs::Parts::parts_after_part, crate::proofs::Parts::parts_fail))]
-fn counted_in(alloc: Global, text: &str) -> Result<Result<Counted, String>, AllocError>
-    ensures { IfOk result (λ read. option_map parts_view (result_ok read) ≡ parts_listed text.now) }
+fn counted_in(alloc: Global, text: &str) -> Result<Counted, ArgumentErr>
+    ensures { YieldsOrNothing parts_view result (parts_listed text.now) }
 {
     let mut taken = Taken {
         outputs: false,
@@ -133,29 +133,26 @@ fn counted_in(alloc: Global, text: &str) -> Result<Result<Counted, String>, Allo
     'parts: while let Some(text) = rest {
         let (part, others) = first_part(text, ',');
         if !take_part(&mut taken, part)? {
-            return Ok(Err(format!(in alloc;
+            return Err(ArgumentErr::Wrong(format!(in alloc;
                 "--{ONLY}: '{part}' isn't out, codes, objects or the number of an object up to {LAST_OBJECT}"
             )?));
         }
         rest = others;
     }
-    Ok(Ok(counted_by(taken)))
+    Ok(counted_by(taken))
 }
 
 /// What counts of outcomes, all of them without the option; or what is wrong with it.
-pub fn counted_of(
-    alloc: Global,
-    matches: &ArgMatches<'_>,
-) -> Result<Result<Counted, String>, AllocError>
-    ensures { IfOk result (λ read. option_map parts_view (result_ok read) ≡ parts_given (first_given (rows_of_matches matches.now) (codes "only"))) }
+pub fn counted_of(alloc: Global, matches: &ArgMatches<'_>) -> Result<Counted, ArgumentErr>
+    ensures { YieldsOrNothing parts_view result (parts_given (first_given (rows_of_matches matches.now) (codes "only"))) }
 {
     match given(matches, ONLY) {
         Some(text) => counted_in(alloc, text),
-        None => Ok(Ok(Counted {
+        None => Ok(Counted {
             outputs: true,
             ends: true,
             objects: None,
-        })),
+        }),
     }
 }
 
