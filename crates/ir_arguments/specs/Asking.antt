@@ -9,7 +9,7 @@ use Rattle.ir_arguments.specs.Values.{Rows, first_given, has_flag, text_for, tex
 use Rattle.ir_arguments.specs.Reading.{◌>>=◌, if_given, large_number, large_numbers, last_large, profile_named, seeds_named, small_number, way_named}
 use Rattle.ir_arguments.specs.Conditions.{conditions_given, stale_wanted}
 use Rattle.ir_arguments.specs.Requests.{Options, Request, Assemble, Convert, Record, HuntFor, Shrink, Debug, Gdb, ShowCode, ShowTrace, ShowEvents}
-use Rattle.ir_arguments.specs.Requests.{ShowStale, ShowVersions, ShowReasons, ShowDifference, ShowPicture, Nothing, Versions, Reasons, Picture}
+use Rattle.ir_arguments.specs.Requests.{ShowStale, ShowVersions, ShowReasons, ShowDifference, ShowPicture, Versions, Reasons, Picture}
 use Rattle.ir_arguments.specs.Requests.{Recording, SeedHunt, Shrinking}
 
 -- `ir asm SOURCE IMAGE`
