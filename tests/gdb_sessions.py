@@ -565,8 +565,9 @@ def monitored(folder, guest, lines):
     words = [GDB, "-nx", "-q", "-batch", "-ex", "set width 0", "-ex", f"target remote | {program()} gdb {guest}.img {guest}.trc"]
     for line in lines:
         words += ["-ex", r"echo \n== asked\n", "-ex", f"monitor {line}"]
+    words += ["-ex", r"echo \n== asked\n"]
     ended = subprocess.run(words, cwd=folder, stdin=subprocess.DEVNULL, stdout=subprocess.PIPE, stderr=subprocess.STDOUT, text=True, timeout=100, check=False)
-    said = ended.stdout.split("\n== asked\n")[1:]
+    said = ended.stdout.split("\n== asked\n")[1:-1]
     if len(said) != len(lines):
         raise Wrong(f"{guest}: not all lines were answered: {ended.stdout}")
     return said

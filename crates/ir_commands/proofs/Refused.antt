@@ -38,7 +38,7 @@ abbrev guest_or : Guest → Result Guest ImageErr → Guest
 guest_or other (Ok guest) = guest
 guest_or other (Err e) = other
 
-guests_are_same : (a b : Guest) → ◌≡◌ {A = Result Guest ImageErr} (Ok a) (Ok b) → a ≡ b
+pub guests_are_same : (a b : Guest) → ◌≡◌ {A = Result Guest ImageErr} (Ok a) (Ok b) → a ≡ b
 guests_are_same a b e = ap (guest_or a) e
 
 lists_are_same : {a b : List ℕ} → Some a ≡ Some b → a ≡ b

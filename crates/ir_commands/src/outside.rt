@@ -10,11 +10,10 @@ ghost use Rattle.ir_commands.specs.Searching.{TellsNoSearch};
 ghost use Rattle.ir_commands.specs.Writing.{storing};
 
 use crate::ends::tell_ends;
-use crate::explore::plan_of;
 use crate::recording::{Places, RecordingPaths, loses_input, output_places, recorded_into};
 use crate::sought::RunSought;
 use crate::surroundings::Surroundings;
-use crate::within::{aspects_of, both_images, compared_files, lacks_either};
+use crate::within::{both_images, compared_files, comparison_plan};
 use ir_arguments::OutsideArguments;
 use ir_files::{ExitStatus, Folder, OutputSink, WholeSink};
 use ir_record_command::RecordFiles;
@@ -93,16 +92,8 @@ fn outside_by<R: Clock + Eprint + AllocGlobal, D: Folder, G: Observer, O: Sink, 
     }
     let files = compared_files(alloc, folder, within, faults)?;
     let both = both_images(alloc, &files);
-    let plan = WithinPlan {
-        image: &both.0,
-        other: &both.1,
-        explore: plan_of(&within.explore, files.input.as_slice()),
-        aspects: aspects_of(&within.counted),
-        observer: around.gate,
-    };
-    if lacks_either(alloc, &plan.explore, &both, within, faults) {
-        return Err(ExitStatus::BadArguments);
-    }
+    let input = files.guest.input.as_slice();
+    let plan = comparison_plan(around, within, &both, input, faults)?;
     let outputs = output_places(alloc, folder, faults, &paths, &both.0)?;
     let places = Places::new(paths.trace, &outputs);
     let sought = Outside { rt, plan: &plan };
