@@ -33,14 +33,8 @@ fn paths(arguments: &HuntArguments) -> RecordingPaths<'_>
     ensures input { result.input.now ≡ arguments.now.options.input }
     ensures output { option_map (λ prefix. prefix.now) result.output ≡ arguments.now.options.output }
 {
-    RecordingPaths {
-        image: arguments.image.as_str(),
-        other: None,
-        trace: arguments.trace.as_str(),
-        input: &arguments.options.input,
-        list: None,
-        output: arguments.options.output.as_ref(),
-    }
+    let (options, trace) = (&arguments.options, &arguments.trace);
+    RecordingPaths::new(&arguments.image, trace, &options.input, &options.output)
 }
 
 // What is hunted, and as which arguments say.

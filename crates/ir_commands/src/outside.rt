@@ -28,14 +28,11 @@ fn paths(arguments: &OutsideArguments) -> RecordingPaths<'_>
     ensures trace { result.trace.now ≡ string_bytes arguments.now.trace }
     ensures output { option_map (λ prefix. prefix.now) result.output ≡ arguments.now.output }
 {
-    let within = &arguments.within;
+    let (within, output) = (&arguments.within, &arguments.output);
+    let explore = &within.explore;
     RecordingPaths {
-        image: within.explore.image.as_str(),
         other: Some(&within.other),
-        trace: arguments.trace.as_str(),
-        input: &within.explore.input,
-        list: None,
-        output: arguments.output.as_ref(),
+        ..RecordingPaths::new(&explore.image, &arguments.trace, &explore.input, output)
     }
 }
 

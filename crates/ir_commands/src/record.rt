@@ -131,13 +131,10 @@ fn paths(arguments: &RecordArguments) -> RecordingPaths<'_>
     ensures input { result.input.now ≡ arguments.now.options.input }
     ensures output { option_map (λ prefix. prefix.now) result.output ≡ arguments.now.options.output }
 {
+    let (options, trace) = (&arguments.options, &arguments.trace);
     RecordingPaths {
-        image: arguments.image.as_str(),
-        other: None,
-        trace: arguments.trace.as_str(),
-        input: &arguments.options.input,
         list: arguments.order_file.as_ref(),
-        output: arguments.options.output.as_ref(),
+        ..RecordingPaths::new(&arguments.image, trace, &options.input, &options.output)
     }
 }
 

@@ -34,6 +34,30 @@ pub struct RecordingPaths<'a> {
     pub output: Option<&'a String>,
 }
 
+impl<'a> RecordingPaths<'a> {
+    /// Those of a recording of a single guest, with no list in a file.
+    pub fn new(
+        image: &'a String,
+        trace: &'a String,
+        input: &'a Option<String>,
+        output: &'a Option<String>,
+    ) -> RecordingPaths<'a>
+        ensures image { result.image.now ≡ string_bytes image.now }
+        ensures trace { result.trace.now ≡ string_bytes trace.now }
+        ensures input { result.input.now ≡ input.now }
+        ensures output { option_map (λ prefix. prefix.now) result.output ≡ output.now }
+    {
+        RecordingPaths {
+            image: image.as_str(),
+            other: None,
+            trace: trace.as_str(),
+            input,
+            list: None,
+            output: output.as_ref(),
+        }
+    }
+}
+
 /// Where a recording goes.
 #[derive(Clone, Copy)]
 pub struct Places<'a, 'b> {

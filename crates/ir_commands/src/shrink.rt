@@ -36,14 +36,8 @@ fn paths(arguments: &ShrinkArguments) -> RecordingPaths<'_>
     ensures input { result.input.now ≡ arguments.now.input }
     ensures output { option_map (λ prefix. prefix.now) result.output ≡ arguments.now.output }
 {
-    RecordingPaths {
-        image: arguments.image.as_str(),
-        other: None,
-        trace: arguments.out.as_str(),
-        input: &arguments.input,
-        list: None,
-        output: arguments.output.as_ref(),
-    }
+    let (input, output) = (&arguments.input, &arguments.output);
+    RecordingPaths::new(&arguments.image, &arguments.out, input, output)
 }
 
 // Whether a file that is read would be lost by what is written, which is reported.

@@ -28,14 +28,8 @@ fn paths(arguments: &UntilArguments) -> RecordingPaths<'_>
     ensures input { result.input.now ≡ arguments.now.explore.input }
     ensures output { option_map (λ prefix. prefix.now) result.output ≡ arguments.now.output }
 {
-    RecordingPaths {
-        image: arguments.explore.image.as_str(),
-        other: None,
-        trace: arguments.trace.as_str(),
-        input: &arguments.explore.input,
-        list: None,
-        output: arguments.output.as_ref(),
-    }
+    let (explore, output) = (&arguments.explore, &arguments.output);
+    RecordingPaths::new(&explore.image, &arguments.trace, &explore.input, output)
 }
 
 // A run of a guest that is looked for: it hangs, or has an outcome that fulfils conditions.

@@ -1,8 +1,8 @@
-use Rattle.std.proofs.Common.{inl, subst, ◌∙◌}
+use Rattle.std.proofs.Common.{false, inl, inr, refl, subst, sym, ◌∙◌, ◌≡◌}
 use Rattle.ir_files.specs.Writers.{writer_of}
 use Rattle.ir_listing.specs.Events.{AreEventLines}
 use Rattle.ir_opened.specs.Answers.{IsFitAnswerOf}
-use Rattle.ir_commands.specs.Files.{IsFileIn}
+use Rattle.ir_commands.specs.Files.{IsFileIn, TellsFault}
 use Rattle.ir_commands.specs.Printing.{IsPrinted}
 use Rattle.ir_commands.proofs.Written.{holds_of_named_image}
 use Rattle.ir_commands.proofs.events.events_file.Goals as goal
@@ -28,4 +28,15 @@ returns-in-Ok-clause-prints g c =
           (subst (λ z. IsPrinted (IsFitAnswerOf (AreEventLines names) c.as_slice-image.result.now z) answered out
           (writer_of (g.E.Sink.written c.named_image.new.faults) (g.E.Sink.written new) (g.E.Sink.broken new))) c.as_slice-trace.ensures.value
           c.of_run.ensures.prints)));
+    })
+
+pub returns-clause-prints : goal.returns-clause-prints
+returns-clause-prints g c =
+    let new = c.named_image.new.faults in
+    let kept = c.in-Some.ensures.kept in
+    inr (record {
+      status = c.in-Err.ensures.status;
+      kept = refl;
+      told = subst (λ f. TellsFault (writer_of (g.E.Sink.written f) (g.E.Sink.written new) (g.E.Sink.broken new))) kept
+          (c.in-Err.ensures.told (subst (λ f. g.E.Sink.broken f ≡ false) (sym kept) c.requires.reports));
     })

@@ -12,7 +12,7 @@ returns-in-None-clause-prints g c =
 
 pub returns-in-Some-clause-prints : goal.returns-in-Some-clause-prints
 returns-in-Some-clause-prints g c =
-    said_otherwise (printed_by_word (g.D.Folder.bytes_at c.args.folder.now) c.args.arguments.now c.answer_of_files-2.result
-    (writer_of (g.O.Sink.written c.args.out.now) (g.O.Sink.written c.answer_of_files-2.new.out) (g.O.Sink.broken c.answer_of_files-2.new.out))
-    (writer_of (g.E.Sink.written c.args.faults.now) (g.E.Sink.written c.answer_of_files-2.new.faults) (g.E.Sink.broken c.answer_of_files-2.new.faults))
-    (Some c.in-Some.word) c.in-Some.is) c.answer_of_files-2.ensures.prints
+    said_otherwise (printed_by_word (g.D.Folder.bytes_at c.args.folder.now) c.args.arguments.now c.answer_of_files-in-Some.result
+    (writer_of (g.O.Sink.written c.args.out.now) (g.O.Sink.written c.answer_of_files-in-Some.new.out) (g.O.Sink.broken c.answer_of_files-in-Some.new.out))
+    (writer_of (g.E.Sink.written c.args.faults.now) (g.E.Sink.written c.answer_of_files-in-Some.new.faults) (g.E.Sink.broken c.answer_of_files-in-Some.new.faults))
+    (Some c.in-Some.word) c.in-Some.is) c.answer_of_files-in-Some.ensures.prints
