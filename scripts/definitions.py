@@ -1,6 +1,6 @@
 #!/usr/bin/env python3
 """Makes docs/internals/headline.md and claims.md of the definitions in specs/: the relations by which the main theorem is read, as they are, and the files
-on which exploring, hunting, shrinking, gdb and the commands that ask about a recording rest.
+on which exploring, hunting, shrinking, the commands that ask about a recording and gdb rest.
 
 python3 scripts/definitions.py [--check | --index]
 
@@ -119,19 +119,6 @@ CLAIMS = [
         ("ir_shrink", "Stopping", "`RecordsShrunk`, `StopsShrink`: what is written and reported"),
         ("ir_shrink", "Laws", "the law"),
     ], (360, 180)),
-    Claim("gdb", "`ir gdb` replies to gdb; laws compare its moves with a session's moves and with the points' hits.", {
-        "ir_gdb/src/session.rt": ["connect"],
-        "ir_gdb/src/laws.rt": ["alone_is_session", "no_hit_is_passed", "none_is_blocked", "each_hit_is_shown_once", "shown_condition_is_met", "no_bad_end_is_hidden"],
-    }, [
-        ("ir_gdb", "Stub", "`Stub`: the small machine, and what gdb has set"),
-        ("ir_gdb", "Stops", "where a thread stops"),
-        ("ir_gdb", "Together", "`ContinuesAmong`, `FirstMet`: how all threads move"),
-        ("ir_gdb", "Over", "`LeadsAlone`: how a thread moves by itself"),
-        ("ir_gdb", "Endings", "`signal_of`, `ended`: which bad ends a move tells"),
-        ("ir_gdb", "Replies", "`RepliesTo`: the reply to each request"),
-        ("ir_gdb", "Connection", "`RepliesToItems`: the bytes of packets and acknowledgements"),
-        ("ir_gdb", "Laws", "the laws"),
-    ], (3041, 1614)),
     Claim("Questions about a recording", "The lines of `ir stale`, `who`, `why`, `diff`, `view`, `events` and `list`.", {
         "ir_past/src/asking.rt": ["TraceQuestion", "ask_trace"],
         "ir_past/src/run.rt": ["TraceQuestion for StaleQuestion"],
@@ -163,6 +150,21 @@ CLAIMS = [
         ("ir_run_picture", "Laws", "`IsMoment`, `GoesRight`: what left to right means"),
         ("ir_events", "Lines", "the lines of events"),
     ], (3411, 1512)),
+    Claim("gdb", "`ir gdb` replies to gdb; laws compare its moves with a session's moves and with the points' hits.", {
+        "ir_monitor/src/laws.rt": ["no_question_is_a_command"],
+        "ir_gdb/src/session.rt": ["connect"],
+        "ir_gdb/src/laws.rt": ["alone_is_session", "no_hit_is_passed", "none_is_blocked", "each_hit_is_shown_once", "shown_condition_is_met", "no_bad_end_is_hidden"],
+    }, [
+        ("ir_gdb", "Stub", "`Stub`: the small machine, and what gdb has set"),
+        ("ir_gdb", "Stops", "where a thread stops"),
+        ("ir_gdb", "Together", "`ContinuesAmong`, `FirstMet`: how all threads move"),
+        ("ir_gdb", "Over", "`LeadsAlone`: how a thread moves by itself"),
+        ("ir_gdb", "Endings", "`signal_of`, `ended`: which bad ends a move tells"),
+        ("ir_gdb", "Replies", "`RepliesTo`: the reply to each request"),
+        ("ir_monitor", "Answers", "`IsAnswerTo`: what questions of the run are answered"),
+        ("ir_gdb", "Connection", "`RepliesToItems`: the bytes of packets and acknowledgements"),
+        ("ir_gdb", "Laws", "the laws"),
+    ], (3265, 1710)),
 ]
 
 CLAIMS_PAGE = PAGES / "claims.md"
@@ -170,7 +172,7 @@ CLAIMS_PAGE = PAGES / "claims.md"
 CLAIMS_HEAD = """# What the other claims rest on
 
 [The theorem](theorem.md) names the definitions on which a session, a recording, `fit` and `advance` rest.
-This page names the definitions behind exploring, hunting, shrinking, gdb and the commands that ask about a recording.
+This page names the definitions behind exploring, hunting, shrinking, the commands that ask about a recording and gdb.
 Each part lists what neither the theorem nor the parts before it have.
 [Contracts](contracts.md) say in words what each part promises, and [the theorem](theorem.md#how-to-read-it) says how to read definitions.
 `python3 scripts/definitions.py` makes this page, and refuses a part that is longer than its limit, and a name that two files of these parts or of the headline define.

@@ -20,24 +20,16 @@ MAN_PAGE = TOP / "man" / "ir.1"
 
 TEXT = r'"((?:[^"\\]|\\.)*)"'
 CONSTANT = re.compile(r"const (\w+): &str =\s*" + TEXT)
-ROWS = re.compile(r"=> (\w+)::row\(\)")
+ROWS = re.compile(r"=> (\w+)::ROW")
 ROW = re.compile(rf"name: {TEXT},\s+about: {TEXT},\s+after: (\w+)")
-# An argument, and one that may be left out.
-ARGUMENT = re.compile(rf"file_arg\(\s*alloc,\s*(\w+),\s*{TEXT}|place_arg\(\s*alloc,\s*(\w+),\s*{TEXT}")
-# An option: the form that makes it, its name, and its texts, of which the last is the help. Before it stand the names of its values, and then its
-# default.
-OPTION = re.compile(rf"fn (\w+)_arg<'a>\(alloc: Global\)[^\n]*\n(?:    ensures [^\n]*\n)?{{\s+(flag|(?:needed_)?repeated|option(?:_or)?)_arg\(\s*alloc,\s*(\w+),((?:\s*{TEXT},?)+)\s*\)")
-# An option with several values.
-PAIR = re.compile(r"fn (\w+)_arg<'a>\(alloc: Global\)[^\n]*\n(?:    ensures [^\n]*\n)?{\s+Arg::new\(alloc, (\w+)\)\s*\.long\(\w+\)((?:(?!\n}).)*?)\.help\(\s*" + TEXT, re.DOTALL)
-# The argument that names an image, which is the same in each subcommand.
-IMAGE = re.compile(r"pub fn image_arg<'a>.*?\n\{\s+(file_arg\(.*?\))\n\}", re.DOTALL)
-# The option that names an image, of which each subcommand says what it is for.
-FROM_IMAGE = re.compile(rf"from_image_arg\(\s*alloc,\s*{TEXT}")
-# Where a subcommand's arguments are put together, and what is put together there: an option, or the options that are shared.
-PUT_TOGETHER = re.compile(r"pub fn with_arguments<'a>.*?\n\}", re.DOTALL)
-SHARED = re.compile(r"pub fn with_options<'a>.*?\n\}", re.DOTALL)
-PUT = re.compile(r"(\w+)_arg\(\s*alloc|(with_options)\(alloc")
-VALUES = re.compile(r"\.value_names\(&\[([^\]]*)\]")
+# The form of an argument: its kind, the constant that is its name, and its texts, of which the last is the help. Before it are the name of its
+# value and then its default, if it has these.
+FORM = rf"Form::(\w+)\(\s*(\w+),((?:\s*{TEXT},?)+)\s*\)"
+# A form that has a name.
+NAMED = re.compile(rf"const (\w+): Form<'static> =\s*{FORM}")
+# The forms of a subcommand, and a form of them, which is written out or named.
+FORMS = re.compile(rf"forms: &\[\s*((?:(?:{FORM}|\w+),?\s*)+)\]")
+ENTRY = re.compile(rf"{FORM}|(\w+)")
 # The version, as a text or by the name of a constant.
 VERSION = re.compile(rf"\.version\((?:{TEXT}|(\w+))")
 # A cell of a row with several numbers and what each means.
@@ -48,6 +40,8 @@ LINK = re.compile(r"\[([^\]]*)\]\([^)]*\)")
 COMMAND_TABLES = ("Moves", "Points", "What is shown", "Kept cuts")
 # A line that is set in further than any key goes on with the line before.
 CONTINUED = 8
+# The modules whose forms and names several subcommands have.
+SHARED = ("conditions", "recording", "seconds", "seeds", "values", "within")
 
 
 class Subcommand:
@@ -77,47 +71,41 @@ def constants_of(source):
     return {name: meant(text) for name, text in CONSTANT.findall(source)}
 
 
-def options_of(source, files):
-    """The options of a source by their functions' names, each with its form, its help, and whether it has to be given."""
-    constants, found = files | constants_of(source), {}
-    for function, form, name, texts, _ in OPTION.findall(source):
+class Form:
+    """The form of an argument: how it is typed, its help, and whether it is an option and has to be given."""
+
+    def __init__(self, kind, name, texts):
         *values, text = re.findall(TEXT, texts)
-        default = f" [default: {values.pop()}]" if form == "option_or" else ""
-        found[function] = (" ".join([f"--{constants[name]}", *values]), text + default, form == "needed_repeated")
-    for function, name, body, text in PAIR.findall(source):
-        found[function] = (" ".join([f"--{constants[name]}", *re.findall(TEXT, VALUES.search(body)[1])]), text, False)
-    return found
+        default = f" [default: {values.pop()}]" if kind == "ValuedOr" else ""
+        typed = {"NeededPlace": name, "Place": f"[{name}]", "Event": f"--{name} T E"}
+        self.is_option, self.is_needed = "Place" not in kind, kind == "NeededRepeated"
+        self.row = typed.get(kind, " ".join([f"--{name}", *values])), meant(text) + default
 
 
-def named_in(source, pattern):
-    """The functions of options that are called where a source puts arguments together, in order."""
-    found = pattern.search(source)
-    return [option or shared for option, shared in PUT.findall(found[0])] if found else []
+def named_forms(sources, constants):
+    """The forms that have names in sources, by these."""
+    return {form: Form(kind, constants[name], texts) for source in sources for form, kind, name, texts, _ in NAMED.findall(source)}
+
+
+def forms_in(source, constants, named):
+    """The forms of a subcommand, in the order of its help."""
+    return [named[other] if other else Form(kind, constants[name], texts) for kind, name, texts, _, other in ENTRY.findall(FORMS.search(source)[1])]
 
 
 def subcommands():
     """The subcommands, in the order of the help."""
-    values = source_of("values")
-    files, image_file = constants_of(values) | constants_of(source_of("seconds")), IMAGE.search(values)[1]
-    recording = source_of("recording")
+    sources = {path.stem: path.read_text(encoding="utf-8") for path in sorted(ARGUMENTS.glob("*.rt"))}
     shared = {}
-    for module in ("conditions", "recording", "seeds", "values", "within"):
-        shared |= options_of(source_of(module), files)
-    found = []
-    for module in ROWS.findall(source_of("subcommands")):
-        source = source_of(module).replace("image_arg(alloc)", image_file)
-        name, about, after = ROW.search(source).groups()
-        options, forms = shared | options_of(source, files), []
-        if image := FROM_IMAGE.search(source):
-            options["from_image"] = ("--image IMAGE", meant(image[1]), False)
-        for function in named_in(source, PUT_TOGETHER):
-            forms += named_in(recording, SHARED) if function == "with_options" else [function]
-        constants = files | constants_of(source)
-        arguments = [(constants[needed], text) if needed else (f"[{constants[other]}]", more)
-                     for needed, text, other, more in ARGUMENT.findall(source)]
-        named = [options[form] for form in forms if form in options]
-        needed = [form for form, _, is_needed in named if is_needed]
-        found.append(Subcommand(name, about, arguments, [row[:2] for row in named], needed, constants[after]))
+    for module in SHARED:
+        shared |= constants_of(sources[module])
+    named, found = named_forms((sources[module] for module in SHARED), shared), []
+    for module in ROWS.findall(sources["subcommands"]):
+        constants = shared | constants_of(sources[module])
+        name, about, after = ROW.search(sources[module]).groups()
+        forms = forms_in(sources[module], constants, named)
+        arguments, options = ([form.row for form in forms if form.is_option == is_option] for is_option in (False, True))
+        needed = [form.row[0] for form in forms if form.is_needed]
+        found.append(Subcommand(name, about, arguments, options, needed, constants[after]))
     return found
 
 

@@ -534,6 +534,75 @@ def check_other_file(folder):
     check_session(Session("other", [], ["The program of this file isn't the one that was recorded"]), folder)
 
 
+# Questions that `monitor` takes, and what asks the same on the command line, but for the files.
+QUESTIONS = {
+    "who 0": ["who", "TRACE", "0", "--image", "IMAGE"],
+    "who 0 1": ["who", "TRACE", "0", "1", "--image", "IMAGE"],
+    "who 0 word 0": ["who", "TRACE", "0", "--word", "0", "--image", "IMAGE"],
+    "stale": ["stale", "TRACE", "--image", "IMAGE"],
+    "why 1 0": ["why", "TRACE", "1", "0", "--image", "IMAGE"],
+    "events": ["events", "IMAGE", "TRACE"],
+    "who 999": ["who", "TRACE", "999", "--image", "IMAGE"],
+    "who 0 99": ["who", "TRACE", "0", "99", "--image", "IMAGE"],
+    "who 0 word 99": ["who", "TRACE", "0", "--word", "99", "--image", "IMAGE"],
+    "why 9 0": ["why", "TRACE", "9", "0", "--image", "IMAGE"],
+    "why 0 999": ["why", "TRACE", "0", "999", "--image", "IMAGE"],
+}
+
+# How questions are written, said where one is written otherwise.
+USAGES = {
+    "who": "usage: monitor who OBJECT [VERSION], or monitor who OBJECT word WORD",
+    "who 0 words 0": "usage: monitor who OBJECT [VERSION], or monitor who OBJECT word WORD",
+    "who -1": "usage: monitor who OBJECT [VERSION], or monitor who OBJECT word WORD",
+    "stale 0": "usage: monitor stale",
+    "why 1": "usage: monitor why [THREAD EVENT]",
+    "events 0 1": "usage: monitor events [THREAD]",
+}
+
+
+def monitored(folder, guest, lines):
+    """What a gdb without ir.gdb prints for each of these lines of `monitor`."""
+    words = [GDB, "-nx", "-q", "-batch", "-ex", "set width 0", "-ex", f"target remote | {program()} gdb {guest}.img {guest}.trc"]
+    for line in lines:
+        words += ["-ex", r"echo \n== asked\n", "-ex", f"monitor {line}"]
+    words += ["-ex", r"echo \n== asked\n"]
+    ended = subprocess.run(words, cwd=folder, stdin=subprocess.DEVNULL, stdout=subprocess.PIPE, stderr=subprocess.STDOUT, text=True, timeout=100, check=False)
+    said = ended.stdout.split("\n== asked\n")[1:-1]
+    if len(said) != len(lines):
+        raise Wrong(f"{guest}: not all lines were answered: {ended.stdout}")
+    return said
+
+
+def said_by_program(folder, guest, words):
+    """What the program prints, or the words of its fault."""
+    files = {"TRACE": f"{guest}.trc", "IMAGE": f"{guest}.img"}
+    ended = run([files.get(word, word) for word in words], folder)
+    return ended.stdout.decode() or ended.stderr.decode().removeprefix("ir: ").splitlines()[0] + "\n"
+
+
+def why_before(folder, guest, position):
+    """What `ir why` prints of the last event that thread 0 makes before a position."""
+    lines = said_by_program(folder, guest, QUESTIONS["events"]).splitlines()
+    made = [line.split()[3] for line in lines if line.startswith("thread 0 ") and int(line.split()[5]) < position]
+    return said_by_program(folder, guest, ["why", "TRACE", "0", made[-1], "--image", "IMAGE"]) if made else "the thread has made no event yet\n"
+
+
+def check_questions(folder):
+    """Questions of the run that `monitor` takes are answered as by the commands, and no thread moves."""
+    for guest in ("lost", "objs", "cond"):
+        wanted = [(line, said_by_program(folder, guest, words)) for line, words in QUESTIONS.items()]
+        events = said_by_program(folder, guest, QUESTIONS["events"]).splitlines(keepends=True)
+        wanted += [("events 1", "".join(line for line in events if line.startswith("thread 1 ")))]
+        wanted += [(line, f"{text}\n") for line, text in USAGES.items()]
+        (first, *rest) = monitored(folder, guest, ["step 0 30", "step 0 30", "end"])
+        positions = [int(said.split()[1]) for said in rest]
+        wanted += [("why", why_before(folder, guest, 0)), ("step 0 30", first), ("why", why_before(folder, guest, int(first.split()[1])))]
+        wanted += [("step 0 30", rest[0]), ("why", why_before(folder, guest, positions[0])), ("end", rest[1]), ("why", why_before(folder, guest, positions[1]))]
+        for (line, text), said in zip(wanted, monitored(folder, guest, [line for line, _ in wanted])):
+            if said != text:
+                raise Wrong(f"{guest}: monitor {line}: {said!r} instead of {text!r}")
+
+
 def check_forged(folder):
     """What can't be opened is named on standard error, and nothing is read."""
     (folder / "none.trc").write_bytes(b"nothing")
@@ -679,6 +748,7 @@ CHECKS = {
     "26-bad-ends": check_bad_ends,
     "27-other-file": check_other_file,
     "28-object-words": check_object_words,
+    "29-questions": check_questions,
 }
 
 

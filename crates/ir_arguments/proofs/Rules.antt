@@ -1,14 +1,18 @@
 -- What a parse reads of arguments that are made step by step, and of commands that get them.
-use Rattle.std.proofs.Common.{◌≡◌, ℕ, true, false, List, [], ◌∷◌, length, Option, Some, None, ap, ap₂, ◌∙◌}
-use Rattle.std.specs.Prelude.{Err, IfOk, IsSomeAnd, Ok, Result}
+use Rattle.std.proofs.Common.{◌≡◌, ◌<◌, ◌≤◌, ℕ, ◌+◌, true, false, List, [], ◌∷◌, length, drop, get_or, Option, Some, None, sym, ap, ◌∙◌}
+use Rattle.std.specs.Prelude.{IsSomeAnd, map}
 use Rattle.std.specs.Borrow.{Bor}
+use Rattle.std.proofs.lemmas.List.{drop_all}
 use Rattle.clap.specs.Words.{AddsArg, App, Rule, Text, new_rule, rule_of}
 use Rattle.clap.specs.declared.builder.action.ArgAction.TheVariants.{Append, SetTrue}
 use Rattle.clap.specs.declared.builder.arg.Arg.{Arg}
 use Rattle.clap.specs.declared.builder.command.Command.{Command}
 use Rattle.clap.specs.declared.builder.range.ValueRange.{ValueRange}
 use Rattle.clap.specs.declared.builder.texts.Texts.TheVariants.{Many, One}
-use Rattle.ir_arguments.specs.Parser.{IsArgument, and_rule, app_in, flag, needed_place, needed_repeated, option, option_or, pair, place, repeated_option, rule_in}
+use Rattle.ir_arguments.specs.declared.forms.Form.{Form}
+use Rattle.ir_arguments.specs.Parser.{IsArgument, and_rule, and_rules, app_in, flag, needed_place, needed_repeated, option, option_or, pair, place}
+use Rattle.ir_arguments.specs.Parser.{repeated_option, rule_in, rule_of_form}
+use Rattle.ir_arguments.proofs.Names.{drop_begins}
 
 pub place_made : (a : Arg) (name help : Bor Text) → rule_of a ≡ new_rule name.now → rule_in (record a { help = Some help }) ≡ place name.now
 unfolding rule_in place
@@ -75,15 +79,13 @@ pub rule_added : (old : Command) (a : Arg) (new : Command) → AddsArg old a new
 unfolding app_in rule_in and_rule
 rule_added old a new adds local = adds.shape local
 
-pub added : (x y z : App) (r s : Rule) → z ≡ and_rule x r → x ≡ y → r ≡ s → z ≡ and_rule y s
-added x y z r s e same rule = e ∙ ap₂ and_rule same rule
+pub rule_of_next : (old new : Command) (rule : Rule) (form : Form) (xs : List Form) (i : ℕ) (app : App) → app_in new ≡ and_rule (app_in old) rule
+    → rule ≡ rule_of_form form → and_rules (app_in old) (map rule_of_form (drop i xs)) ≡ app → i < length xs → form ≡ get_or xs i form
+    → and_rules (app_in new) (map rule_of_form (drop (i + 1) xs)) ≡ app
+rule_of_next old new rule form xs i app adds is whole l here =
+    ap (λ a. and_rules a (map rule_of_form (drop (i + 1) xs))) (adds ∙ ap (and_rule (app_in old)) is)
+    ∙ sym (ap (λ (ys : List Form). and_rules (app_in old) (map rule_of_form ys)) (drop_begins xs i form l here)) ∙ whole
 
-pub added_at_end : {E : Type 0} (result : Result Command E) (x y : App) (r s : Rule) → IfOk result (λ c. app_in c ≡ and_rule x r) → x ≡ y → r ≡ s
-    → IfOk result (λ c. app_in c ≡ and_rule y s)
-added_at_end (Ok c) x y r s h same rule = h ∙ ap₂ and_rule same rule
-added_at_end (Err e) x y r s h same rule = h
-
-pub ended_at : {E : Type 0} (result : Result Command E) (f : App → App) (x y : App) → IfOk result (λ c. app_in c ≡ f x) → x ≡ y
-    → IfOk result (λ c. app_in c ≡ f y)
-ended_at (Ok c) f x y h same = h ∙ ap f same
-ended_at (Err e) f x y h same = h
+pub no_rules_left : (c : Command) (xs : List Form) (i : ℕ) (app : App) → length xs ≤ i → and_rules (app_in c) (map rule_of_form (drop i xs)) ≡ app
+    → app_in c ≡ app
+no_rules_left c xs i app l whole = sym (ap (λ (ys : List Form). and_rules (app_in c) (map rule_of_form ys)) (drop_all i xs l)) ∙ whole

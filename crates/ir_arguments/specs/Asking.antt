@@ -9,62 +9,57 @@ use Rattle.ir_arguments.specs.Values.{Rows, first_given, has_flag, text_for, tex
 use Rattle.ir_arguments.specs.Reading.{◌>>=◌, if_given, large_number, large_numbers, last_large, profile_named, seeds_named, small_number, way_named}
 use Rattle.ir_arguments.specs.Conditions.{conditions_given, stale_wanted}
 use Rattle.ir_arguments.specs.Requests.{Options, Request, Assemble, Convert, Record, HuntFor, Shrink, Debug, Gdb, ShowCode, ShowTrace, ShowEvents}
-use Rattle.ir_arguments.specs.Requests.{ShowStale, ShowVersions, ShowReasons, ShowDifference, ShowPicture, Nothing, Versions, Reasons, Picture}
+use Rattle.ir_arguments.specs.Requests.{ShowStale, ShowVersions, ShowReasons, ShowDifference, ShowPicture, Versions, Reasons, Picture}
 use Rattle.ir_arguments.specs.Requests.{Recording, SeedHunt, Shrinking}
 
--- a request, if all texts are read
-abbrev pub or_nothing : Option Request → Request
-or_nothing (Some request) = request
-or_nothing None = Nothing
-
 -- `ir asm SOURCE IMAGE`
-abbrev pub assembly_asked : Rows → Request
-assembly_asked rows = Assemble (record {
+abbrev pub assembly_asked : Rows → Option Request
+assembly_asked rows = Some (Assemble (record {
   source = text_for rows (codes "SOURCE");
   image = text_for rows (codes "IMAGE");
   map = first_given rows (codes "map");
   explain = has_flag rows (codes "explain");
-})
+}))
 
 -- `ir elf ELF IMAGE`
-abbrev pub conversion_asked : Rows → Request
-conversion_asked rows = Convert (record {
+abbrev pub conversion_asked : Rows → Option Request
+conversion_asked rows = Some (Convert (record {
   elf = text_for rows (codes "ELF");
   image = text_for rows (codes "IMAGE");
   explain = has_flag rows (codes "explain");
-})
+}))
 
 -- `ir list IMAGE`
-abbrev pub code_asked : Rows → Request
-code_asked rows = ShowCode (record { image = text_for rows (codes "IMAGE"); map = first_given rows (codes "map") })
+abbrev pub code_asked : Rows → Option Request
+code_asked rows = Some (ShowCode (record { image = text_for rows (codes "IMAGE"); map = first_given rows (codes "map") }))
 
 -- `ir debug IMAGE TRACE`
-abbrev pub debug_asked : Rows → Request
-debug_asked rows = Debug (record { image = text_for rows (codes "IMAGE"); trace = text_for rows (codes "TRACE") })
+abbrev pub debug_asked : Rows → Option Request
+debug_asked rows = Some (Debug (record { image = text_for rows (codes "IMAGE"); trace = text_for rows (codes "TRACE") }))
 
 -- `ir gdb IMAGE TRACE`
-abbrev pub gdb_asked : Rows → Request
-gdb_asked rows = Gdb (record { image = text_for rows (codes "IMAGE"); trace = text_for rows (codes "TRACE") })
+abbrev pub gdb_asked : Rows → Option Request
+gdb_asked rows = Some (Gdb (record { image = text_for rows (codes "IMAGE"); trace = text_for rows (codes "TRACE") }))
 
 -- `ir trace TRACE`
-abbrev pub trace_asked : Rows → Request
-trace_asked rows = ShowTrace (text_for rows (codes "TRACE"))
+abbrev pub trace_asked : Rows → Option Request
+trace_asked rows = Some (ShowTrace (text_for rows (codes "TRACE")))
 
 -- `ir events IMAGE TRACE`
-abbrev pub events_asked : Rows → Request
-events_asked rows = ShowEvents (record {
+abbrev pub events_asked : Rows → Option Request
+events_asked rows = Some (ShowEvents (record {
   image = text_for rows (codes "IMAGE");
   trace = text_for rows (codes "TRACE");
   map = first_given rows (codes "map");
-})
+}))
 
 -- `ir stale TRACE`
-abbrev pub stale_asked : Rows → Request
-stale_asked rows = ShowStale (record { trace = text_for rows (codes "TRACE"); image = first_given rows (codes "image") })
+abbrev pub stale_asked : Rows → Option Request
+stale_asked rows = Some (ShowStale (record { trace = text_for rows (codes "TRACE"); image = first_given rows (codes "image") }))
 
 -- `ir diff FIRST SECOND`
-abbrev pub difference_asked : Rows → Request
-difference_asked rows = ShowDifference (record { first = text_for rows (codes "FIRST"); second = text_for rows (codes "SECOND") })
+abbrev pub difference_asked : Rows → Option Request
+difference_asked rows = Some (ShowDifference (record { first = text_for rows (codes "FIRST"); second = text_for rows (codes "SECOND") }))
 
 -- `ir who TRACE O V`
 unfoldable pub versions_in : Rows → Option Versions
@@ -80,8 +75,8 @@ versions_in rows = do
     image = first_given rows (codes "image");
   })
 
-abbrev pub versions_asked : Rows → Request
-versions_asked rows = or_nothing (option_map (λ what. ShowVersions what) (versions_in rows))
+abbrev pub versions_asked : Rows → Option Request
+versions_asked rows = option_map (λ what. ShowVersions what) (versions_in rows)
 
 -- `ir why TRACE T E`
 unfoldable pub reasons_in : Rows → Option Reasons
@@ -99,8 +94,8 @@ reasons_in rows = do
     at = at;
   })
 
-abbrev pub reasons_asked : Rows → Request
-reasons_asked rows = or_nothing (option_map (λ what. ShowReasons what) (reasons_in rows))
+abbrev pub reasons_asked : Rows → Option Request
+reasons_asked rows = option_map (λ what. ShowReasons what) (reasons_in rows)
 
 -- the part around event E of thread T that two texts give; all is shown where there aren't two
 abbrev pub part_of_texts : ℕ → List Text → Option (Option Part)
@@ -123,8 +118,8 @@ picture_in rows = do
     image = first_given rows (codes "image");
   })
 
-abbrev pub picture_asked : Rows → Request
-picture_asked rows = or_nothing (option_map (λ what. ShowPicture what) (picture_in rows))
+abbrev pub picture_asked : Rows → Option Request
+picture_asked rows = option_map (λ what. ShowPicture what) (picture_in rows)
 
 -- the number from which random words start
 abbrev pub random_in : Rows → Option ℕ
@@ -167,8 +162,8 @@ recording_in rows = do
     status = has_flag rows (codes "status");
   })
 
-abbrev pub recording_asked : Rows → Request
-recording_asked rows = or_nothing (option_map (λ what. Record what) (recording_in rows))
+abbrev pub recording_asked : Rows → Option Request
+recording_asked rows = option_map (λ what. Record what) (recording_in rows)
 
 -- the seconds that a search may take, if they are given
 abbrev pub seconds_in : Rows → Option (Option ℕ)
@@ -208,8 +203,8 @@ hunt_in rows = do
     options = options;
   })
 
-abbrev pub hunt_asked : Rows → Request
-hunt_asked rows = or_nothing (option_map (λ what. HuntFor what) (hunt_in rows))
+abbrev pub hunt_asked : Rows → Option Request
+hunt_asked rows = option_map (λ what. HuntFor what) (hunt_in rows)
 
 -- `ir shrink IMAGE TRACE OUT`
 unfoldable pub shrinking_in : Rows → Option Shrinking
@@ -229,5 +224,5 @@ shrinking_in rows = do
     output = first_given rows (codes "output");
   })
 
-abbrev pub shrinking_asked : Rows → Request
-shrinking_asked rows = or_nothing (option_map (λ what. Shrink what) (shrinking_in rows))
+abbrev pub shrinking_asked : Rows → Option Request
+shrinking_asked rows = option_map (λ what. Shrink what) (shrinking_in rows)

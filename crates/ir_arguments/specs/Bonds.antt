@@ -25,9 +25,9 @@ is_obeyed rows (NeedsEither one first second) = not (is_given one rows) || (is_g
 
 -- the rule that the code's value is
 abbrev pub rule_by : Bond → Rule
-rule_by (code.Excludes one other) = Excludes one.id.now other.id.now
-rule_by (code.Needs one other) = Needs one.id.now other.id.now
-rule_by (code.NeedsEither one first second) = NeedsEither one.id.now first.id.now second.id.now
+rule_by (code.Excludes one other) = Excludes one.now other.now
+rule_by (code.Needs one other) = Needs one.now other.now
+rule_by (code.NeedsEither one first second) = NeedsEither one.now first.now second.now
 
 abbrev pub record_bonds : List Rule
 record_bonds = Excludes (codes "order-file") (codes "order") ∷ Excludes (codes "chaos") (codes "order") ∷ Excludes (codes "chaos") (codes "order-file")

@@ -7,7 +7,7 @@ use Rattle.clap.specs.Words.{Text}
 use Rattle.ir_record_command.specs.Numerals.{number_within}
 use Rattle.ir_schedule.specs.Conditions.{Condition, Fact, End, Code, Word, Printed, Fault, Bad, Budget}
 use Rattle.ir_schedule.specs.Spelling.{condition_of}
-use Rattle.ir_arguments.specs.Asking.{or_nothing, random_in, seconds_in}
+use Rattle.ir_arguments.specs.Asking.{random_in, seconds_in}
 use Rattle.ir_arguments.specs.Conditions.{conditions_given, stale_named}
 use Rattle.ir_arguments.specs.Reading.{◌>>=◌, if_given, last_large, profile_named}
 use Rattle.ir_arguments.specs.Requests.{Compare, GuestComparison, Exploration, Explore, Parts, RecordOutside, Request, SearchFor, ShowClasses}
@@ -164,5 +164,5 @@ outcomes_or_parts explore rows =
     if is_some (first_given rows (codes "only")) then classes_asked explore rows else outcomes_asked explore rows
 
 -- `ir explore IMAGE`
-abbrev pub exploring_asked : Rows → Request
-exploring_asked rows = or_nothing (exploration_in rows >>= λ explore. outcomes_or_parts explore rows)
+abbrev pub exploring_asked : Rows → Option Request
+exploring_asked rows = exploration_in rows >>= λ explore. outcomes_or_parts explore rows

@@ -5,6 +5,8 @@ use Rattle.clap.specs.Simple.{new_shape}
 use Rattle.clap.specs.declared.builder.action.ArgAction.TheVariants.{Append, SetTrue}
 use Rattle.clap.specs.declared.builder.arg.Arg.{Arg}
 use Rattle.clap.specs.declared.builder.command.Command.{Command}
+use Rattle.ir_arguments.specs.declared.forms.Form.{Form}
+use Rattle.ir_arguments.specs.declared.forms.Form.TheVariants as form
 use Rattle.ir_arguments.specs.declared.subcommands.Subcommand.{Subcommand}
 use Rattle.ir_arguments.specs.declared.subcommands.Subcommand.TheVariants as sub
 use Rattle.ir_arguments.specs.Subcommands.{subcommand_name, subcommands}
@@ -53,6 +55,17 @@ pair name = record (new_rule name) { long = Some name; value_names = 2; range = 
 unfoldable pub flag : Text → Rule
 flag name = record (new_rule name) { long = Some name; action = Some SetTrue }
 
+-- what a parse reads of an argument of a table
+abbrev pub rule_of_form : Form → Rule
+rule_of_form (form.NeededPlace name help) = needed_place name.now
+rule_of_form (form.Place name help) = place name.now
+rule_of_form (form.Valued name value help) = option name.now
+rule_of_form (form.ValuedOr name value default help) = option_or name.now default.now
+rule_of_form (form.Repeated name value help) = repeated_option name.now
+rule_of_form (form.NeededRepeated name value help) = needed_repeated name.now
+rule_of_form (form.Event name help) = pair name.now
+rule_of_form (form.Flag name help) = flag name.now
+
 -- a command without arguments
 unfoldable pub bare_app : Text → App
 bare_app name = new_app name
@@ -68,11 +81,6 @@ and_rule app rule = with_rule app rule
 abbrev pub and_rules : App → List Rule → App
 and_rules app [] = app
 and_rules app (rule ∷ rules) = and_rules (and_rule app rule) rules
-
--- the options of recordings
-abbrev pub recording_rules : List Rule
-recording_rules = option_or (codes "budget") (codes "1000000") ∷ option_or (codes "random") (codes "0") ∷ option_or (codes "profile") (codes "1")
-    ∷ option (codes "input") ∷ option (codes "output") ∷ []
 
 abbrev pub image_rule : Rule
 image_rule = needed_place (codes "IMAGE")

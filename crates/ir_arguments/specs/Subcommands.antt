@@ -33,7 +33,7 @@ subcommand_name sub.Diff = codes "diff"
 subcommand_name sub.View = codes "view"
 
 -- what its arguments ask for
-abbrev pub asked_by : Subcommand → Rows → Request
+abbrev pub asked_by : Subcommand → Rows → Option Request
 asked_by sub.Assemble rows = assembly_asked rows
 asked_by sub.Elf rows = conversion_asked rows
 asked_by sub.List rows = code_asked rows
@@ -65,10 +65,19 @@ abbrev pub subcommand_named : Text → Option Subcommand
 subcommand_named name = find (is_named name) subcommands
 
 -- what its arguments ask for, if they may be given together
-abbrev pub asked_if_given : Subcommand → Rows → Request
-asked_if_given s rows = if may_be_given s rows then asked_by s rows else Nothing
+abbrev pub asked_if_given : Subcommand → Rows → Option Request
+asked_if_given s rows = if may_be_given s rows then asked_by s rows else None
 
 -- what the subcommand asks for that clap's matches have, by its name and its rows; without one a session
+abbrev pub asked_by_name : Option (Text × Rows) → Option Request
+asked_by_name None = Some Session
+asked_by_name (Some used) = option_map_or (λ s. asked_if_given s used.1) (subcommand_named used.0) (Some Session)
+
+-- a request, if all texts are read
+abbrev pub or_nothing : Option Request → Request
+or_nothing (Some request) = request
+or_nothing None = Nothing
+
+-- the same, where nothing is a request
 abbrev pub request_by_name : Option (Text × Rows) → Request
-request_by_name None = Session
-request_by_name (Some used) = option_map_or (λ s. asked_if_given s used.1) (subcommand_named used.0) Session
+request_by_name used = or_nothing (asked_by_name used)

@@ -1,9 +1,11 @@
 -- What is given for the arguments of a command, by the rows of clap's matches.
-use Rattle.std.specs.Prelude.{Bool, false, List, [], codes, Option, Some, None, unwrap_or, Result, Ok, Err}
+use Rattle.std.specs.Prelude.{◌≡◌, Bool, false, List, [], codes, Option, Some, None, unwrap_or, Result, Ok, Err}
 use Rattle.std.specs.Option.{option_map_or}
 use Rattle.std.specs.Str.{bytes_eq}
 use Rattle.clap.specs.Words.{Row, Text, all_of, first_of, found_of, rows_of}
 use Rattle.clap.specs.declared.parser.matches.ArgMatches.{ArgMatches}
+use Rattle.ir_arguments.specs.declared.argument_err.ArgumentErr.{ArgumentErr}
+use Rattle.ir_arguments.specs.declared.argument_err.ArgumentErr.TheVariants.{Wrong, NoMem}
 
 -- a row for each argument that has a value
 abbrev pub Rows : Type 0
@@ -28,7 +30,12 @@ texts_for rows id = unwrap_or (all_of id rows) []
 abbrev pub has_flag : Rows → Text → Bool
 has_flag rows id = option_map_or (λ value. bytes_eq value (codes "true")) (first_of id rows) false
 
--- what was read, seen by a function, or nothing where a text says what is wrong
-abbrev pub value_read : {T S E : Type 0} → (T → S) → Result T E → Option S
-value_read view (Ok value) = Some (view value)
-value_read view (Err why) = None
+-- nothing is read, as a text says, or memory ran out
+abbrev pub IsWrong : {Y : Type 0} → ArgumentErr → Option Y → Type 0
+IsWrong (Wrong why) read = None ≡ read
+IsWrong NoMem read = Unit {0}
+
+-- an answer, seen by a function, is what is read, unless memory ran out
+abbrev pub YieldsOrNothing : {X Y : Type 0} → (X → Y) → Result X ArgumentErr → Option Y → Type 0
+YieldsOrNothing view (Ok value) read = Some (view value) ≡ read
+YieldsOrNothing view (Err e) read = IsWrong e read

@@ -1,10 +1,12 @@
 -- The requests that the code's values are.
-use Rattle.std.specs.Prelude.{option_map}
+use Rattle.std.specs.Prelude.{Option, Result, option_map}
 use Rattle.std.specs.String.{string_bytes}
+use Rattle.clap.specs.declared.parser.matches.ArgMatches.{ArgMatches}
 use Rattle.ir_arguments.specs.Requests.{Exploration, Options, Parts, Request, Session, Assemble, Convert, Record, HuntFor, Shrink, Debug, Gdb}
 use Rattle.ir_arguments.specs.Requests.{ShowCode, ShowTrace, ShowEvents, ShowStale, ShowVersions, ShowReasons, ShowDifference, ShowPicture, Explore}
 use Rattle.ir_arguments.specs.Requests.{SearchFor, ShowClasses, Compare, GuestComparison, RecordOutside, Help, Nothing, NoMemory}
 use Rattle.ir_arguments.specs.declared.recording.RecordingOptions.{RecordingOptions}
+use Rattle.ir_arguments.specs.declared.argument_err.ArgumentErr.{ArgumentErr}
 use Rattle.ir_arguments.specs.declared.asked.Asked.{Asked}
 use Rattle.ir_arguments.specs.declared.asked.Asked.TheVariants as asked
 use Rattle.ir_arguments.specs.declared.asked.Make.{Make}
@@ -18,6 +20,7 @@ use Rattle.ir_arguments.specs.declared.within.Counted.{Counted}
 use Rattle.ir_arguments.specs.declared.within.Taken as within
 use Rattle.ir_arguments.specs.declared.within.WithinArguments.{WithinArguments}
 use Rattle.ir_arguments.specs.Exploring.{Taken}
+use Rattle.ir_arguments.specs.Values.{Rows, YieldsOrNothing, rows_of_matches}
 
 abbrev pub options_view : RecordingOptions → Options
 options_view o = record {
@@ -151,3 +154,7 @@ request_view (asked.Print p) = print_request p
 request_view (asked.Help text) = Help
 request_view (asked.Nothing why) = Nothing
 request_view asked.NoMem = NoMemory
+
+-- matches ask for what their rows do, unless memory runs out
+abbrev pub AsksFor : (Rows → Option Request) → ArgMatches → Result Asked ArgumentErr → Type 0
+AsksFor request matches result = YieldsOrNothing request_view result (request (rows_of_matches matches))

@@ -5,10 +5,11 @@ ghost use Rattle.std.specs.String.{string_bytes};
 ghost use Rattle.clap.specs.Words.{kind_of, subcommand_rows_of};
 ghost use Rattle.ir_arguments.specs.Parser.{app_in, bare_app, ir_app, with_version};
 ghost use Rattle.ir_arguments.specs.Parsing.{IsAskedBy, IsOrNoMemory, request_at_fault};
-ghost use Rattle.ir_arguments.specs.Subcommands.{request_by_name};
-ghost use Rattle.ir_arguments.specs.Values.{rows_of_matches};
+ghost use Rattle.ir_arguments.specs.Subcommands.{asked_by_name, request_by_name};
+ghost use Rattle.ir_arguments.specs.Values.{YieldsOrNothing, rows_of_matches};
 ghost use Rattle.ir_arguments.specs.Views.{request_view};
 
+use crate::argument_err::ArgumentErr;
 use crate::asked::Asked;
 use crate::subcommands::{SUBCOMMANDS, subcommand_named, with_subcommands};
 use clap::error::ErrorKind;
@@ -35,8 +36,9 @@ const AFTER: &str = "A session of a source of your own:
 Without a subcommand `ir` reads standard input: a line with an image in hexadecimal, a line with its trace in
 hexadecimal, and then the commands of `ir debug`, a line each. With xxd for the hexadecimal:
   { for file in guest.img guest.trc; do xxd -p $file | tr -d '\\n'; echo; done; echo end; echo regs 0; } | ir
-With `--names FILE`, anywhere behind `ir`, the subcommands that print lines about a guest put in names: FILE has a line
-`thread T NAME`, `object O NAME`, `object O word W NAME` or `A NAME` for each, A an address in eight hexadecimal digits.
+With `--names FILE`, anywhere after `ir` but not after `--`, the lines of record, hunt, shrink, explore, list, trace, events, stale,
+who, why and diff have names: FILE has a line `thread T NAME`, `object O NAME`, `object O word W NAME` or `A NAME` for each, A an
+address in eight hexadecimal digits.
 Exit status: 0 done, 1 a fault, 2 bad arguments, 3 a refused source, ELF file, MAP, LIST, COND, image or trace, or a guest that
 needs the second profile, 4 a trace that doesn't fit or contradicts itself, 5 no seed or outcome is as COND says, or, with
 `ir record --status`, a thread didn't end by END with code 0, 6 `ir hunt` or `ir explore` gave up, 7 `ir explore` finished, and
@@ -132,8 +134,8 @@ fn subcommand_used<'m, 'a>(matches: &'m ArgMatches<'a>) -> Option<(&'a str, &'m 
 }
 
 // What the arguments of the subcommand ask for; without one a session.
-fn by_subcommand(alloc: Global, matches: &ArgMatches<'_>) -> Result<Asked, AllocError>
-    ensures { IfOk result (λ asked. request_view asked ≡ request_by_name (subcommand_rows_of matches.now)) }
+fn by_subcommand(alloc: Global, matches: &ArgMatches<'_>) -> Result<Asked, ArgumentErr>
+    ensures { YieldsOrNothing request_view result (asked_by_name (subcommand_rows_of matches.now)) }
 {
     let Some((name, matches)) = subcommand_used(matches) else {
         return Ok(Asked::Session);
@@ -163,7 +165,8 @@ fn by_matches(alloc: Global, matches: &ArgMatches<'_>) -> Asked
 {
     match by_subcommand(alloc, matches) {
         Ok(asked) => asked,
-        Err(_) => Asked::NoMem,
+        Err(ArgumentErr::Wrong(why)) => Asked::Nothing(why),
+        Err(ArgumentErr::NoMem) => Asked::NoMem,
     }
 }
 

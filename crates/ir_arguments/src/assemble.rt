@@ -1,18 +1,15 @@
 //! The arguments of `ir asm`.
 
-ghost use Rattle.std.specs.Prelude.{◌≡◌, IfOk, codes};
 ghost use Rattle.ir_arguments.specs.Asking.{assembly_asked};
-ghost use Rattle.ir_arguments.specs.Values.{rows_of_matches};
-ghost use Rattle.ir_arguments.specs.Views.{request_view};
-ghost use Rattle.ir_arguments.specs.Parser.{IsArgument, and_rules, app_in, flag, option, rules_of};
-ghost use Rattle.ir_arguments.specs.declared.subcommands.Subcommand.TheVariants as sub;
+ghost use Rattle.ir_arguments.specs.Views.{AsksFor};
 
+use crate::argument_err::ArgumentErr;
 use crate::asked::{Asked, Make};
-use crate::forms::{flag_arg, option_arg, with_arg};
+use crate::forms::Form;
 use crate::subcommands::Row;
-use crate::values::{EXPLAIN, IMAGE, MAP, file_arg, given_text, has_flag, text_of};
-use clap::{Arg, ArgMatches, Command};
-use std::alloc::{AllocError, Global};
+use crate::values::{EXPLAIN, IMAGE, IMAGE_OUT_FORM, MAP, given_text, has_flag, text_of};
+use clap::ArgMatches;
+use std::alloc::Global;
 
 const SOURCE: &str = "SOURCE";
 
@@ -71,16 +68,26 @@ data, and the name, as `nm -n` prints them. `ir list` and `ir events` read it. I
 Exit status: 0 assembled, 1 a file that can't be read or written, 2 bad arguments, 3 a fault of the source.
 ";
 
-/// What the help says of it, beside its arguments.
-pub fn row<'a>() -> Row<'a>
-    ensures { result.name.now ≡ codes "asm" }
-{
-    Row {
-        name: "asm",
-        about: "Assembles a guest's source into an image",
-        after: ASM_AFTER,
-    }
-}
+/// What the help says of it, and its arguments.
+pub const ROW: Row<'static> = Row {
+    name: "asm",
+    about: "Assembles a guest's source into an image",
+    after: ASM_AFTER,
+    forms: &[
+        Form::NeededPlace(SOURCE, "The file with the source"),
+        IMAGE_OUT_FORM,
+        Form::Valued(
+            MAP,
+            "MAP",
+            "The file that the labels are written to, by rising address",
+        ),
+        Form::Flag(
+            EXPLAIN,
+            "Explains a fault in a second line, as is done at a terminal",
+        ),
+    ],
+    bonds: &[],
+};
 
 /// What is assembled, and where to.
 #[derive(Drop)]
@@ -95,43 +102,9 @@ pub struct AssembleArguments {
     pub explain: bool,
 }
 
-fn map_arg<'a>(alloc: Global) -> Arg<'a>
-    ensures { IsArgument result (option (codes "map")) }
-{
-    option_arg(
-        alloc,
-        MAP,
-        "MAP",
-        "The file that the labels are written to, by rising address",
-    )
-}
-
-fn explain_arg<'a>(alloc: Global) -> Arg<'a>
-    ensures { IsArgument result (flag (codes "explain")) }
-{
-    flag_arg(
-        alloc,
-        EXPLAIN,
-        "Explains a fault in a second line, as is done at a terminal",
-    )
-}
-
-/// The command with its arguments.
-pub fn with_arguments<'a>(alloc: Global, command: Command<'a>) -> Result<Command<'a>, AllocError>
-    ensures { IfOk result (λ c. app_in c ≡ and_rules (app_in command.entry) (rules_of sub.Assemble)) }
-{
-    let command = with_arg(command, file_arg(alloc, SOURCE, "The file with the source"))?;
-    let command = with_arg(
-        command,
-        file_arg(alloc, IMAGE, "The file that the image is written to"),
-    )?;
-    let command = with_arg(command, map_arg(alloc))?;
-    with_arg(command, explain_arg(alloc))
-}
-
 /// What its arguments ask for.
-pub fn asked(alloc: Global, matches: &ArgMatches<'_>) -> Result<Asked, AllocError>
-    ensures { IfOk result (λ asked. request_view asked ≡ assembly_asked (rows_of_matches matches.now)) }
+pub fn asked(alloc: Global, matches: &ArgMatches<'_>) -> Result<Asked, ArgumentErr>
+    ensures { AsksFor assembly_asked matches.now result }
 {
     Ok(Asked::Make(Make::Source(AssembleArguments {
         source: text_of(alloc, matches, SOURCE)?,

@@ -7,26 +7,21 @@ ghost use Rattle.clap.specs.Takes.{is_given};
 ghost use Rattle.ir_arguments.specs.Bonds.{is_obeyed, rule_by};
 ghost use Rattle.ir_arguments.specs.Values.{rows_of_matches};
 
+use crate::forms::Form;
+use crate::subcommands::Row;
 use clap::ArgMatches;
 use clap::parser::ValueSource;
 use std::alloc::{AllocError, Global};
 
-/// An argument by its name, and as messages show it.
-#[derive(Clone, Copy)]
-pub struct Named<'a> {
-    pub id: &'a str,
-    pub shown: &'a str,
-}
-
-/// A rule on arguments.
+/// A rule on arguments, by their names.
 #[derive(Clone, Copy)]
 pub enum Bond<'a> {
     /// Not both are given.
-    Excludes(Named<'a>, Named<'a>),
+    Excludes(&'a str, &'a str),
     /// The first is given only with the second.
-    Needs(Named<'a>, Named<'a>),
+    Needs(&'a str, &'a str),
     /// The first is given only with one of the others.
-    NeedsEither(Named<'a>, Named<'a>, Named<'a>),
+    NeedsEither(&'a str, &'a str, &'a str),
 }
 
 // Whether an argument is given, and not by its default.
@@ -47,16 +42,16 @@ fn is_obeyed(matches: &ArgMatches<'_>, bond: Bond<'_>) -> bool
 {
     match bond {
         Bond::Excludes(one, other) => {
-            let (one, other) = (is_given(matches, one.id), is_given(matches, other.id));
+            let (one, other) = (is_given(matches, one), is_given(matches, other));
             !(one && other)
         }
         Bond::Needs(one, other) => {
-            let (one, other) = (is_given(matches, one.id), is_given(matches, other.id));
+            let (one, other) = (is_given(matches, one), is_given(matches, other));
             !one || other
         }
         Bond::NeedsEither(one, first, second) => {
-            let (first, second) = (is_given(matches, first.id), is_given(matches, second.id));
-            !is_given(matches, one.id) || (first || second)
+            let (first, second) = (is_given(matches, first), is_given(matches, second));
+            !is_given(matches, one) || (first || second)
         }
     }
 }
@@ -80,7 +75,7 @@ fn place_of(matches: &ArgMatches<'_>, name: &str) -> usize {
 }
 
 // The argument that comes first of those that aren't given together.
-fn first_excluded<'a>(matches: &ArgMatches<'_>, bonds: &[Bond<'a>]) -> Option<Named<'a>> {
+fn first_excluded<'a>(matches: &ArgMatches<'_>, bonds: &[Bond<'a>]) -> Option<&'a str> {
     let mut first = None;
     let mut least = usize::MAX;
     for &bond in bonds {
@@ -90,10 +85,10 @@ fn first_excluded<'a>(matches: &ArgMatches<'_>, bonds: &[Bond<'a>]) -> Option<Na
         if is_obeyed(matches, bond) {
             continue;
         }
-        for named in [one, other] {
-            let place = place_of(matches, named.id);
+        for name in [one, other] {
+            let place = place_of(matches, name);
             if place < least {
-                first = Some(named);
+                first = Some(name);
                 least = place;
             }
         }
@@ -102,33 +97,33 @@ fn first_excluded<'a>(matches: &ArgMatches<'_>, bonds: &[Bond<'a>]) -> Option<Na
 }
 
 // The argument that the rule doesn't let be given together with this one, if it is given.
-fn excluded_by<'a>(matches: &ArgMatches<'_>, bond: Bond<'a>, name: &str) -> Option<Named<'a>> {
+fn excluded_by<'a>(matches: &ArgMatches<'_>, bond: Bond<'a>, name: &str) -> Option<&'a str> {
     let Bond::Excludes(one, other) = bond else {
         return None;
     };
     if is_obeyed(matches, bond) {
         return None;
     }
-    if one.id == name {
+    if one == name {
         return Some(other);
     }
-    (other.id == name).then_some(one)
+    (other == name).then_some(one)
 }
 
-// The next argument behind this place that isn't given together with the one of this name.
+// The next argument behind this place that isn't given together with this one.
 fn next_excluded<'a>(
     matches: &ArgMatches<'_>,
     bonds: &[Bond<'a>],
     name: &str,
     place: usize,
-) -> Option<Named<'a>> {
+) -> Option<&'a str> {
     let mut next = None;
     let mut least = usize::MAX;
     for &bond in bonds {
-        if let Some(named) = excluded_by(matches, bond, name) {
-            let at = place_of(matches, named.id);
+        if let Some(other) = excluded_by(matches, bond, name) {
+            let at = place_of(matches, other);
             if place < at && at < least {
-                next = Some(named);
+                next = Some(other);
                 least = at;
             }
         }
@@ -136,27 +131,48 @@ fn next_excluded<'a>(
     next
 }
 
+// The argument of this name, as messages show it.
+fn shown(alloc: Global, forms: &[Form<'_>], name: &str) -> Result<String, AllocError> {
+    for form in forms {
+        if form.name() == name {
+            return form.shown(alloc);
+        }
+    }
+    String::from_str(alloc, name)
+}
+
+// The same where it isn't given and has to be.
+fn shown_needed(alloc: Global, forms: &[Form<'_>], name: &str) -> Result<String, AllocError> {
+    for form in forms {
+        if form.name() == name {
+            return form.shown_needed(alloc);
+        }
+    }
+    String::from_str(alloc, name)
+}
+
 // That an argument isn't given together with others.
 fn excluded_line(
     alloc: Global,
     matches: &ArgMatches<'_>,
-    bonds: &[Bond<'_>],
-    first: Named<'_>,
+    row: Row<'_>,
+    first: &str,
 ) -> Result<String, AllocError> {
     let mut others = String::new(alloc);
     let mut several = false;
     let mut place = 0;
-    for _ in bonds {
-        if let Some(next) = next_excluded(matches, bonds, first.id, place) {
+    for _ in row.bonds {
+        if let Some(next) = next_excluded(matches, row.bonds, first, place) {
             if !others.is_empty() {
                 others.push(' ')?;
                 several = true;
             }
-            others.push_str(next.shown)?;
-            place = place_of(matches, next.id);
+            others.push_str(shown(alloc, row.forms, next)?.as_str())?;
+            place = place_of(matches, next);
         }
     }
-    let (first, others) = (first.shown, others.as_str());
+    let first = shown(alloc, row.forms, first)?;
+    let (first, others) = (first.as_str(), others.as_str());
     if several {
         format!(in alloc; "the argument '{first}' cannot be used with: {others}")
     } else {
@@ -168,6 +184,7 @@ fn excluded_line(
 fn needed(
     alloc: Global,
     matches: &ArgMatches<'_>,
+    forms: &[Form<'_>],
     bond: Bond<'_>,
 ) -> Result<Option<String>, AllocError> {
     if is_obeyed(matches, bond) {
@@ -175,9 +192,11 @@ fn needed(
     }
     let needed = match bond {
         Bond::Excludes(_, _) => return Ok(None),
-        Bond::Needs(_, other) => String::from_str(alloc, other.shown)?,
+        Bond::Needs(_, other) => shown_needed(alloc, forms, other)?,
         Bond::NeedsEither(_, first, second) => {
-            let (first, second) = (first.shown, second.shown);
+            let first = shown_needed(alloc, forms, first)?;
+            let second = shown_needed(alloc, forms, second)?;
+            let (first, second) = (first.as_str(), second.as_str());
             format!(in alloc; "<{first}|{second}>")?
         }
     };
@@ -188,11 +207,11 @@ fn needed(
 fn needed_line(
     alloc: Global,
     matches: &ArgMatches<'_>,
-    bonds: &[Bond<'_>],
+    row: Row<'_>,
 ) -> Result<String, AllocError> {
     let mut others = String::new(alloc);
-    for &bond in bonds {
-        if let Some(needed) = needed(alloc, matches, bond)? {
+    for &bond in row.bonds {
+        if let Some(needed) = needed(alloc, matches, row.forms, bond)? {
             if others.as_str().contains(needed.as_str()) {
                 continue;
             }
@@ -207,30 +226,26 @@ fn needed_line(
 }
 
 // Why the arguments may not be given so.
-fn why_not(
-    alloc: Global,
-    matches: &ArgMatches<'_>,
-    bonds: &[Bond<'_>],
-) -> Result<String, AllocError> {
-    match first_excluded(matches, bonds) {
-        Some(first) => excluded_line(alloc, matches, bonds, first),
-        None => needed_line(alloc, matches, bonds),
+fn why_not(alloc: Global, matches: &ArgMatches<'_>, row: Row<'_>) -> Result<String, AllocError> {
+    match first_excluded(matches, row.bonds) {
+        Some(first) => excluded_line(alloc, matches, row, first),
+        None => needed_line(alloc, matches, row),
     }
 }
 
-/// Why the arguments that are given may not be given together, if they may not.
+/// Why the arguments of a subcommand that are given may not be given together, if they may not.
 ///
 /// # Errors
 /// Out of memory.
 pub fn broken(
     alloc: Global,
     matches: &ArgMatches<'_>,
-    bonds: &[Bond<'_>],
+    row: Row<'_>,
 ) -> Result<Option<String>, AllocError>
-    ensures { IfOk result (λ why. is_none why ≡ list_all (is_obeyed (rows_of_matches matches.now)) (map rule_by bonds.now)) }
+    ensures { IfOk result (λ why. is_none why ≡ list_all (is_obeyed (rows_of_matches matches.now)) (map rule_by row.entry.bonds.now)) }
 {
-    if all_obeyed(matches, bonds) {
+    if all_obeyed(matches, row.bonds) {
         return Ok(None);
     }
-    Ok(Some(why_not(alloc, matches, bonds)?))
+    Ok(Some(why_not(alloc, matches, row)?))
 }

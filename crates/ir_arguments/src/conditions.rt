@@ -1,7 +1,6 @@
 //! Conditions of what a run comes to.
 
-ghost use Rattle.std.specs.Prelude.{◌≡◌, ◌≢◌, ℕ, List, ◌∷◌, codes, map, option_map, drop, IfOk, MatchOption};
-ghost use Rattle.std.specs.Result.{result_ok};
+ghost use Rattle.std.specs.Prelude.{◌≡◌, ◌≢◌, ℕ, List, ◌∷◌, codes, map, drop, IfOk, MatchOption};
 ghost use Rattle.std.specs.List.{list_all, list_any};
 ghost use Rattle.std.specs.Option.{is_none};
 ghost use Rattle.std.specs.Str.{bytes_eq};
@@ -10,28 +9,23 @@ ghost use Rattle.ir_schedule.specs.Spelling.{marks};
 ghost use Rattle.ir_arguments.specs.Asking.{wanted_in};
 ghost use Rattle.ir_arguments.specs.Conditions.{asked_also, conditions_given, stale_named, stale_wanted};
 ghost use Rattle.ir_arguments.specs.Exploring.{asks_for_budget, hang_wanted, is_budget, is_of_outcome, conditions_on_outcome};
-ghost use Rattle.ir_arguments.specs.Parser.{IsArgument, needed_repeated};
-ghost use Rattle.ir_arguments.specs.Values.{rows_of_matches, texts_for};
+ghost use Rattle.ir_arguments.specs.Values.{YieldsOrNothing, rows_of_matches, texts_for};
 
+use crate::argument_err::ArgumentErr;
 use crate::condition_text::ConditionText;
-use crate::forms::needed_repeated_arg;
+use crate::forms::Form;
 use crate::values::{UNTIL, texts_for};
 use crate::wrong_condition::why_no_condition;
-use clap::{Arg, ArgMatches};
+use clap::ArgMatches;
 use ir_schedule::{Condition, Fact, Literal, condition_of};
 use std::alloc::{AllocError, Global};
 
 /// The option for a condition on a run, which is given once or more often.
-pub fn until_arg<'a>(alloc: Global) -> Arg<'a>
-    ensures { IsArgument result (needed_repeated (codes "until")) }
-{
-    needed_repeated_arg(
-        alloc,
-        UNTIL,
-        "COND",
-        "What has to hold of a run; given more than once, all of it",
-    )
-}
+pub const UNTIL_FORM: Form<'static> = Form::NeededRepeated(
+    UNTIL,
+    "COND",
+    "What has to hold of a run; given more than once, all of it",
+);
 
 // What comes after the mark at the start of a text, if it begins with one.
 fn after_mark(text: &str) -> Option<&str>
@@ -97,15 +91,14 @@ fn stale_wanted(texts: &[&str]) -> Option<Option<bool>>
 }
 
 /// What is asked of stale writes, by the conditions that are about them, or that these exclude each other.
-pub fn stale_by(
-    alloc: Global,
-    matches: &ArgMatches<'_>,
-) -> Result<Result<Option<bool>, String>, AllocError>
-    ensures { IfOk result (λ read. result_ok read ≡ stale_wanted (texts_for (rows_of_matches matches.now) (codes "until"))) }
+pub fn stale_by(alloc: Global, matches: &ArgMatches<'_>) -> Result<Option<bool>, ArgumentErr>
+    ensures { YieldsOrNothing (λ v. v) result (stale_wanted (texts_for (rows_of_matches matches.now) (codes "until"))) }
 {
     match stale_wanted(texts_for(matches, UNTIL)) {
-        Some(asked) => Ok(Ok(asked)),
-        None => Ok(Err(format!(in alloc; "--{UNTIL}: 'stale' and '!stale' exclude each other")?)),
+        Some(asked) => Ok(asked),
+        None => Err(ArgumentErr::Wrong(format!(in alloc;
+            "--{UNTIL}: 'stale' and '!stale' exclude each other"
+        )?)),
     }
 }
 
@@ -125,11 +118,8 @@ fn no_condition(alloc: Global, text: &str, kinds: &str) -> Result<String, AllocE
 
 // The texts that aren't about stale writes, as conditions, or that one is none.
 #[tactic(auto, using(crate::proofs::Wishes::conditions_after_text, crate::proofs::Wishes::conditions_after_stale, crate::proofs::Wishes::conditions_at_end, crate::proofs::Wishes::conditions_fail))]
-fn conditions_in(
-    alloc: Global,
-    texts: &[&str],
-) -> Result<Result<Vec<ConditionText>, String>, AllocError>
-    ensures { IfOk result (λ read. option_map (λ v. v.items) (result_ok read) ≡ conditions_given (map (λ s. s.now) texts.now)) }
+fn conditions_in(alloc: Global, texts: &[&str]) -> Result<Vec<ConditionText>, ArgumentErr>
+    ensures { YieldsOrNothing (λ v. v.items) result (conditions_given (map (λ s. s.now) texts.now)) }
 {
     let mut conditions = Vec::new(alloc);
     'texts: for text in texts {
@@ -138,18 +128,18 @@ fn conditions_in(
         }
         match ConditionText::new(alloc, text)? {
             Some(condition) => conditions.push(condition)?,
-            None => return Ok(Err(no_condition(alloc, text, OF_A_RUN)?)),
+            None => return Err(ArgumentErr::Wrong(no_condition(alloc, text, OF_A_RUN)?)),
         }
     }
-    Ok(Ok(conditions))
+    Ok(conditions)
 }
 
 /// The other conditions, or that one is none.
 pub fn conditions_of(
     alloc: Global,
     matches: &ArgMatches<'_>,
-) -> Result<Result<Vec<ConditionText>, String>, AllocError>
-    ensures { IfOk result (λ read. option_map (λ v. v.items) (result_ok read) ≡ conditions_given (texts_for (rows_of_matches matches.now) (codes "until"))) }
+) -> Result<Vec<ConditionText>, ArgumentErr>
+    ensures { YieldsOrNothing (λ v. v.items) result (conditions_given (texts_for (rows_of_matches matches.now) (codes "until"))) }
 {
     conditions_in(alloc, texts_for(matches, UNTIL))
 }
@@ -158,17 +148,12 @@ pub fn conditions_of(
 pub fn wanted_by(
     alloc: Global,
     matches: &ArgMatches<'_>,
-) -> Result<Result<(Vec<ConditionText>, Option<bool>), String>, AllocError>
-    ensures { IfOk result (λ read. option_map (λ w. (w.0.items, w.1)) (result_ok read) ≡ wanted_in (rows_of_matches matches.now)) }
+) -> Result<(Vec<ConditionText>, Option<bool>), ArgumentErr>
+    ensures { YieldsOrNothing (λ w. (w.0.items, w.1)) result (wanted_in (rows_of_matches matches.now)) }
 {
-    let until = match conditions_of(alloc, matches)? {
-        Ok(until) => until,
-        Err(why) => return Ok(Err(why)),
-    };
-    match stale_by(alloc, matches)? {
-        Ok(stale) => Ok(Ok((until, stale))),
-        Err(why) => Ok(Err(why)),
-    }
+    let until = conditions_of(alloc, matches)?;
+    let stale = stale_by(alloc, matches)?;
+    Ok((until, stale))
 }
 
 // Whether some literal is about a spent budget.
@@ -228,12 +213,12 @@ fn hang_wanted(texts: &[&str]) -> Option<bool>
 }
 
 /// Whether a run that hangs is asked for, or that this excludes other conditions.
-pub fn hang_by(alloc: Global, matches: &ArgMatches<'_>) -> Result<Result<bool, String>, AllocError>
-    ensures { IfOk result (λ read. result_ok read ≡ hang_wanted (texts_for (rows_of_matches matches.now) (codes "until"))) }
+pub fn hang_by(alloc: Global, matches: &ArgMatches<'_>) -> Result<bool, ArgumentErr>
+    ensures { YieldsOrNothing (λ v. v) result (hang_wanted (texts_for (rows_of_matches matches.now) (codes "until"))) }
 {
     match hang_wanted(texts_for(matches, UNTIL)) {
-        Some(hang) => Ok(Ok(hang)),
-        None => Ok(Err(format!(in alloc;
+        Some(hang) => Ok(hang),
+        None => Err(ArgumentErr::Wrong(format!(in alloc;
             "--{UNTIL}: '{HANG}' stands alone, since a run that hangs has no outcome"
         )?)),
     }
@@ -276,11 +261,11 @@ fn first_wrong(alloc: Global, texts: &[&str]) -> Result<Option<String>, AllocErr
 pub fn outcome_conditions_of(
     alloc: Global,
     matches: &ArgMatches<'_>,
-) -> Result<Result<Vec<ConditionText>, String>, AllocError>
-    ensures { IfOk result (λ read. option_map (λ v. v.items) (result_ok read) ≡ conditions_on_outcome (texts_for (rows_of_matches matches.now) (codes "until"))) }
+) -> Result<Vec<ConditionText>, ArgumentErr>
+    ensures { YieldsOrNothing (λ v. v.items) result (conditions_on_outcome (texts_for (rows_of_matches matches.now) (codes "until"))) }
 {
     match first_wrong(alloc, texts_for(matches, UNTIL))? {
-        Some(why) => Ok(Err(why)),
+        Some(why) => Err(ArgumentErr::Wrong(why)),
         None => conditions_of(alloc, matches),
     }
 }

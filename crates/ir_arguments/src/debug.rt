@@ -1,18 +1,14 @@
 //! The arguments of `ir debug`.
 
-ghost use Rattle.std.specs.Prelude.{◌≡◌, IfOk, codes};
 ghost use Rattle.ir_arguments.specs.Asking.{debug_asked};
-ghost use Rattle.ir_arguments.specs.Values.{rows_of_matches};
-ghost use Rattle.ir_arguments.specs.Views.{request_view};
-ghost use Rattle.ir_arguments.specs.Parser.{and_rules, app_in, rules_of};
-ghost use Rattle.ir_arguments.specs.declared.subcommands.Subcommand.TheVariants as sub;
+ghost use Rattle.ir_arguments.specs.Views.{AsksFor};
 
+use crate::argument_err::ArgumentErr;
 use crate::asked::Asked;
-use crate::forms::with_arg;
 use crate::subcommands::Row;
-use crate::values::{IMAGE, TRACE, file_arg, image_arg, text_of};
-use clap::{ArgMatches, Command};
-use std::alloc::{AllocError, Global};
+use crate::values::{IMAGE, IMAGE_FORM, TRACE, TRACE_FORM, text_of};
+use clap::ArgMatches;
+use std::alloc::Global;
 
 /// What follows the help of `ir debug`. The form of each command, and what it does, is a line that begins with two spaces, of which the
 /// last is before the line that begins with `Numbers`.
@@ -62,16 +58,14 @@ What a session opens with instead of `ready`:
 Exit status: 0 done, 1 a fault, 2 bad arguments, 3 a refused image or trace, 4 a trace that doesn't fit.
 ";
 
-/// What the help says of it, beside its arguments.
-pub fn row<'a>() -> Row<'a>
-    ensures { result.name.now ≡ codes "debug" }
-{
-    Row {
-        name: "debug",
-        about: "Debugs a recorded run, forwards and backwards",
-        after: DEBUG_AFTER,
-    }
-}
+/// What the help says of it, and its arguments.
+pub const ROW: Row<'static> = Row {
+    name: "debug",
+    about: "Debugs a recorded run, forwards and backwards",
+    after: DEBUG_AFTER,
+    forms: &[IMAGE_FORM, TRACE_FORM],
+    bonds: &[],
+};
 
 /// Which run is debugged.
 #[derive(Drop)]
@@ -82,17 +76,9 @@ pub struct DebugArguments {
     pub trace: String,
 }
 
-/// The command with its arguments.
-pub fn with_arguments<'a>(alloc: Global, command: Command<'a>) -> Result<Command<'a>, AllocError>
-    ensures { IfOk result (λ c. app_in c ≡ and_rules (app_in command.entry) (rules_of sub.Debug)) }
-{
-    let command = with_arg(command, image_arg(alloc))?;
-    with_arg(command, file_arg(alloc, TRACE, "The file with the trace"))
-}
-
 /// What its arguments ask for.
-pub fn asked(alloc: Global, matches: &ArgMatches<'_>) -> Result<Asked, AllocError>
-    ensures { IfOk result (λ asked. request_view asked ≡ debug_asked (rows_of_matches matches.now)) }
+pub fn asked(alloc: Global, matches: &ArgMatches<'_>) -> Result<Asked, ArgumentErr>
+    ensures { AsksFor debug_asked matches.now result }
 {
     Ok(Asked::Debug(DebugArguments {
         image: text_of(alloc, matches, IMAGE)?,

@@ -1,18 +1,15 @@
 //! The arguments of `ir diff`.
 
-ghost use Rattle.std.specs.Prelude.{◌≡◌, IfOk, codes};
 ghost use Rattle.ir_arguments.specs.Asking.{difference_asked};
-ghost use Rattle.ir_arguments.specs.Values.{rows_of_matches};
-ghost use Rattle.ir_arguments.specs.Views.{request_view};
-ghost use Rattle.ir_arguments.specs.Parser.{and_rules, app_in, rules_of};
-ghost use Rattle.ir_arguments.specs.declared.subcommands.Subcommand.TheVariants as sub;
+ghost use Rattle.ir_arguments.specs.Views.{AsksFor};
 
+use crate::argument_err::ArgumentErr;
 use crate::asked::{Asked, Print};
-use crate::forms::with_arg;
+use crate::forms::Form;
 use crate::subcommands::Row;
-use crate::values::{file_arg, text_of};
-use clap::{ArgMatches, Command};
-use std::alloc::{AllocError, Global};
+use crate::values::text_of;
+use clap::ArgMatches;
+use std::alloc::Global;
 
 /// What follows the help of `ir diff`.
 pub const DIFF_AFTER: &str =
@@ -33,16 +30,17 @@ Exit status: 0 printed, 1 a file that can't be read or standard output that can'
 trace, 4 an incoherent trace or headers that differ.
 ";
 
-/// What the help says of it, beside its arguments.
-pub fn row<'a>() -> Row<'a>
-    ensures { result.name.now ≡ codes "diff" }
-{
-    Row {
-        name: "diff",
-        about: "Prints what two recordings have in common, and where they part",
-        after: DIFF_AFTER,
-    }
-}
+/// What the help says of it, and its arguments.
+pub const ROW: Row<'static> = Row {
+    name: "diff",
+    about: "Prints what two recordings have in common, and where they part",
+    after: DIFF_AFTER,
+    forms: &[
+        Form::NeededPlace(FIRST, "The file with a trace"),
+        Form::NeededPlace(SECOND, "The file with the trace that it is compared with"),
+    ],
+    bonds: &[],
+};
 
 /// The file of the first trace.
 const FIRST: &str = "FIRST";
@@ -59,24 +57,9 @@ pub struct DiffArguments {
     pub second: String,
 }
 
-/// The command with its arguments.
-pub fn with_arguments<'a>(alloc: Global, command: Command<'a>) -> Result<Command<'a>, AllocError>
-    ensures { IfOk result (λ c. app_in c ≡ and_rules (app_in command.entry) (rules_of sub.Diff)) }
-{
-    let command = with_arg(command, file_arg(alloc, FIRST, "The file with a trace"))?;
-    with_arg(
-        command,
-        file_arg(
-            alloc,
-            SECOND,
-            "The file with the trace that it is compared with",
-        ),
-    )
-}
-
 /// What its arguments ask for.
-pub fn asked(alloc: Global, matches: &ArgMatches<'_>) -> Result<Asked, AllocError>
-    ensures { IfOk result (λ asked. request_view asked ≡ difference_asked (rows_of_matches matches.now)) }
+pub fn asked(alloc: Global, matches: &ArgMatches<'_>) -> Result<Asked, ArgumentErr>
+    ensures { AsksFor difference_asked matches.now result }
 {
     Ok(Asked::Print(Print::Diff(DiffArguments {
         first: text_of(alloc, matches, FIRST)?,

@@ -1,18 +1,15 @@
 //! The arguments of `ir elf`.
 
-ghost use Rattle.std.specs.Prelude.{◌≡◌, IfOk, codes};
 ghost use Rattle.ir_arguments.specs.Asking.{conversion_asked};
-ghost use Rattle.ir_arguments.specs.Values.{rows_of_matches};
-ghost use Rattle.ir_arguments.specs.Views.{request_view};
-ghost use Rattle.ir_arguments.specs.Parser.{IsArgument, and_rules, app_in, flag, rules_of};
-ghost use Rattle.ir_arguments.specs.declared.subcommands.Subcommand.TheVariants as sub;
+ghost use Rattle.ir_arguments.specs.Views.{AsksFor};
 
+use crate::argument_err::ArgumentErr;
 use crate::asked::{Asked, Make};
-use crate::forms::{flag_arg, with_arg};
+use crate::forms::Form;
 use crate::subcommands::Row;
-use crate::values::{EXPLAIN, IMAGE, file_arg, has_flag, text_of};
-use clap::{Arg, ArgMatches, Command};
-use std::alloc::{AllocError, Global};
+use crate::values::{EXPLAIN, IMAGE, IMAGE_OUT_FORM, has_flag, text_of};
+use clap::ArgMatches;
+use std::alloc::Global;
 
 const ELF: &str = "ELF";
 
@@ -43,16 +40,21 @@ standard error then says how many bytes of variables each thread has for itself,
 Exit status: 0 converted, 1 a file that can't be read or written, 2 bad arguments, 3 a refused file.
 ";
 
-/// What the help says of it, beside its arguments.
-pub fn row<'a>() -> Row<'a>
-    ensures { result.name.now ≡ codes "elf" }
-{
-    Row {
-        name: "elf",
-        about: "Makes the image of a guest that a C compiler and linker made",
-        after: ELF_AFTER,
-    }
-}
+/// What the help says of it, and its arguments.
+pub const ROW: Row<'static> = Row {
+    name: "elf",
+    about: "Makes the image of a guest that a C compiler and linker made",
+    after: ELF_AFTER,
+    forms: &[
+        Form::NeededPlace(ELF, "The file with the program"),
+        IMAGE_OUT_FORM,
+        Form::Flag(
+            EXPLAIN,
+            "Explains a refusal, or tells how many bytes of variables each thread has for itself, as is done at a terminal",
+        ),
+    ],
+    bonds: &[],
+};
 
 /// What is converted, and where to.
 #[derive(Drop)]
@@ -65,31 +67,9 @@ pub struct ElfArguments {
     pub explain: bool,
 }
 
-fn explain_arg<'a>(alloc: Global) -> Arg<'a>
-    ensures { IsArgument result (flag (codes "explain")) }
-{
-    flag_arg(
-        alloc,
-        EXPLAIN,
-        "Explains a refusal, or tells how many bytes of variables each thread has for itself, as is done at a terminal",
-    )
-}
-
-/// The command with its arguments.
-pub fn with_arguments<'a>(alloc: Global, command: Command<'a>) -> Result<Command<'a>, AllocError>
-    ensures { IfOk result (λ c. app_in c ≡ and_rules (app_in command.entry) (rules_of sub.Elf)) }
-{
-    let command = with_arg(command, file_arg(alloc, ELF, "The file with the program"))?;
-    let command = with_arg(
-        command,
-        file_arg(alloc, IMAGE, "The file that the image is written to"),
-    )?;
-    with_arg(command, explain_arg(alloc))
-}
-
 /// What its arguments ask for.
-pub fn asked(alloc: Global, matches: &ArgMatches<'_>) -> Result<Asked, AllocError>
-    ensures { IfOk result (λ asked. request_view asked ≡ conversion_asked (rows_of_matches matches.now)) }
+pub fn asked(alloc: Global, matches: &ArgMatches<'_>) -> Result<Asked, ArgumentErr>
+    ensures { AsksFor conversion_asked matches.now result }
 {
     Ok(Asked::Make(Make::Elf(ElfArguments {
         elf: text_of(alloc, matches, ELF)?,

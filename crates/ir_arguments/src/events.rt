@@ -1,18 +1,14 @@
 //! The arguments of `ir events`.
 
-ghost use Rattle.std.specs.Prelude.{◌≡◌, IfOk, codes};
 ghost use Rattle.ir_arguments.specs.Asking.{events_asked};
-ghost use Rattle.ir_arguments.specs.Values.{rows_of_matches};
-ghost use Rattle.ir_arguments.specs.Views.{request_view};
-ghost use Rattle.ir_arguments.specs.Parser.{and_rules, app_in, rules_of};
-ghost use Rattle.ir_arguments.specs.declared.subcommands.Subcommand.TheVariants as sub;
+ghost use Rattle.ir_arguments.specs.Views.{AsksFor};
 
+use crate::argument_err::ArgumentErr;
 use crate::asked::{Asked, Print};
-use crate::forms::with_arg;
 use crate::subcommands::Row;
-use crate::values::{IMAGE, MAP, TRACE, file_arg, given_text, image_arg, names_arg, text_of};
-use clap::{ArgMatches, Command};
-use std::alloc::{AllocError, Global};
+use crate::values::{IMAGE, IMAGE_FORM, MAP, NAMES_FORM, TRACE, TRACE_FORM, given_text, text_of};
+use clap::ArgMatches;
+use std::alloc::Global;
 
 /// What follows the help of `ir events`.
 pub const EVENTS_AFTER: &str =
@@ -26,16 +22,14 @@ Exit status: 0 printed, 1 a file that can't be read or standard output that can'
 image or trace, or a line of MAP that is no symbol, 4 a trace that doesn't fit.
 ";
 
-/// What the help says of it, beside its arguments.
-pub fn row<'a>() -> Row<'a>
-    ensures { result.name.now ≡ codes "events" }
-{
-    Row {
-        name: "events",
-        about: "Prints each event of a recorded run with its position and address",
-        after: EVENTS_AFTER,
-    }
-}
+/// What the help says of it, and its arguments.
+pub const ROW: Row<'static> = Row {
+    name: "events",
+    about: "Prints each event of a recorded run with its position and address",
+    after: EVENTS_AFTER,
+    forms: &[IMAGE_FORM, TRACE_FORM, NAMES_FORM],
+    bonds: &[],
+};
 
 /// Which events are listed, and by which names.
 #[derive(Drop)]
@@ -48,18 +42,9 @@ pub struct EventsArguments {
     pub map: Option<String>,
 }
 
-/// The command with its arguments.
-pub fn with_arguments<'a>(alloc: Global, command: Command<'a>) -> Result<Command<'a>, AllocError>
-    ensures { IfOk result (λ c. app_in c ≡ and_rules (app_in command.entry) (rules_of sub.Events)) }
-{
-    let command = with_arg(command, image_arg(alloc))?;
-    let command = with_arg(command, file_arg(alloc, TRACE, "The file with the trace"))?;
-    with_arg(command, names_arg(alloc))
-}
-
 /// What its arguments ask for.
-pub fn asked(alloc: Global, matches: &ArgMatches<'_>) -> Result<Asked, AllocError>
-    ensures { IfOk result (λ asked. request_view asked ≡ events_asked (rows_of_matches matches.now)) }
+pub fn asked(alloc: Global, matches: &ArgMatches<'_>) -> Result<Asked, ArgumentErr>
+    ensures { AsksFor events_asked matches.now result }
 {
     Ok(Asked::Print(Print::Events(EventsArguments {
         image: text_of(alloc, matches, IMAGE)?,

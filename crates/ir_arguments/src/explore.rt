@@ -1,25 +1,23 @@
 //! The arguments of `ir explore`.
 
-ghost use Rattle.std.specs.Prelude.{◌≡◌, ◌≤◌, codes, option_map, IfOk};
-ghost use Rattle.std.specs.Result.{result_ok};
+ghost use Rattle.std.specs.Prelude.{◌≤◌, codes, IfOk};
 ghost use Rattle.ir_record_command.specs.Numerals.{number_within};
 ghost use Rattle.ir_arguments.specs.Exploring.{ends_in, outcomes_in, reach_in, switches_given};
-ghost use Rattle.ir_arguments.specs.Values.{rows_of_matches, first_given, text_for};
-ghost use Rattle.ir_arguments.specs.Parser.{IsArgument, and_rules, app_in, option, option_or, place, repeated_option, rules_of};
-ghost use Rattle.ir_arguments.specs.declared.subcommands.Subcommand.TheVariants as sub;
+ghost use Rattle.ir_arguments.specs.Values.{YieldsOrNothing, rows_of_matches, first_given, text_for};
 
-use crate::bonds::{Bond, Named};
+use crate::argument_err::ArgumentErr;
+use crate::bonds::Bond;
 use crate::condition_text::ConditionText;
-use crate::forms::{option_arg, option_or_arg, place_arg, repeated_arg, with_arg};
-use crate::recording::{OUTPUT, input_arg, output_arg, profile_arg, random_arg};
+use crate::forms::Form;
+use crate::recording::{INPUT_FORM, OUTPUT, OUTPUT_FORM, PROFILE_FORM, RANDOM_FORM};
 use crate::seconds::{SECONDS, seconds_by};
 use crate::subcommands::Row;
-use crate::values::{TRACE, UNTIL, given, image_arg, text_for};
-use crate::within::{ONLY, WITHIN, only_arg, within_arg};
-use clap::{Arg, ArgMatches, Command};
+use crate::values::{IMAGE_FORM, TRACE, UNTIL, given, text_for};
+use crate::within::{ONLY, ONLY_FORM, WITHIN, WITHIN_FORM};
+use clap::ArgMatches;
 use ir_record_command::number_within;
 use ir_thread::{MOST_BUDGET, Profile};
-use std::alloc::{AllocError, Global};
+use std::alloc::Global;
 
 /// What follows the help of `ir explore`.
 pub const EXPLORE_AFTER: &str =
@@ -83,16 +81,65 @@ With COND: 0 found, 5 finished or covered, and no outcome fulfils them, 6 stoppe
 finished, and no run hangs, 6 covered or stopped. With OTHER: 0 within, 5 outside, 6 unknown.
 ";
 
-/// What the help says of it, beside its arguments.
-pub fn row<'a>() -> Row<'a>
-    ensures { result.name.now ≡ codes "explore" }
-{
-    Row {
-        name: "explore",
-        about: "Prints each different outcome of a guest, with an order that leads to it",
-        after: EXPLORE_AFTER,
-    }
-}
+/// What the help says of it, and its arguments.
+pub const ROW: Row<'static> = Row {
+    name: "explore",
+    about: "Prints each different outcome of a guest, with an order that leads to it",
+    after: EXPLORE_AFTER,
+    forms: &[
+        IMAGE_FORM,
+        Form::Place(
+            TRACE,
+            "The file that the trace of the outcome is written to, with --until or --within",
+        ),
+        Form::Repeated(
+            UNTIL,
+            "COND",
+            "What has to hold of the outcome that is recorded; given more than once, all of it",
+        ),
+        Form::ValuedOr(
+            STATES,
+            "N",
+            "1000000",
+            "The most states, from 1 to 100000000",
+        ),
+        Form::Valued(
+            SWITCHES,
+            "C",
+            "The most switches, at most 1000000; without it all outcomes are looked for",
+        ),
+        Form::ValuedOr(
+            PRIVATE,
+            "N",
+            "1000000",
+            "The most steps of a thread up to its next entry or try, from 1 to 1000000000000",
+        ),
+        Form::Valued(
+            SECONDS,
+            "N",
+            "The seconds after which the search stops, from 1 to 1000000; without it the search goes on to its end",
+        ),
+        Form::Valued(
+            MAX,
+            "K",
+            "The most outcomes, from 1 to 100000000: the search stops once it knows one more; without it all are looked for",
+        ),
+        RANDOM_FORM,
+        PROFILE_FORM,
+        INPUT_FORM,
+        OUTPUT_FORM,
+        WITHIN_FORM,
+        ONLY_FORM,
+    ],
+    bonds: &[
+        Bond::Excludes(WITHIN, UNTIL),
+        Bond::Excludes(ONLY, UNTIL),
+        Bond::NeedsEither(TRACE, UNTIL, WITHIN),
+        Bond::NeedsEither(OUTPUT, UNTIL, WITHIN),
+        Bond::Needs(UNTIL, TRACE),
+        Bond::Needs(OUTPUT, TRACE),
+    ],
+};
 
 const STATES: &str = "states";
 
@@ -157,140 +204,6 @@ pub struct UntilArguments {
     pub output: Option<String>,
 }
 
-fn until_arg<'a>(alloc: Global) -> Arg<'a>
-    ensures { IsArgument result (repeated_option (codes "until")) }
-{
-    repeated_arg(
-        alloc,
-        UNTIL,
-        "COND",
-        "What has to hold of the outcome that is recorded; given more than once, all of it",
-    )
-}
-
-fn states_arg<'a>(alloc: Global) -> Arg<'a>
-    ensures { IsArgument result (option_or (codes "states") (codes "1000000")) }
-{
-    option_or_arg(
-        alloc,
-        STATES,
-        "N",
-        "1000000",
-        "The most states, from 1 to 100000000",
-    )
-}
-
-fn switches_arg<'a>(alloc: Global) -> Arg<'a>
-    ensures { IsArgument result (option (codes "switches")) }
-{
-    option_arg(
-        alloc,
-        SWITCHES,
-        "C",
-        "The most switches, at most 1000000; without it all outcomes are looked for",
-    )
-}
-
-fn private_arg<'a>(alloc: Global) -> Arg<'a>
-    ensures { IsArgument result (option_or (codes "private") (codes "1000000")) }
-{
-    option_or_arg(
-        alloc,
-        PRIVATE,
-        "N",
-        "1000000",
-        "The most steps of a thread up to its next entry or try, from 1 to 1000000000000",
-    )
-}
-
-fn seconds_arg<'a>(alloc: Global) -> Arg<'a>
-    ensures { IsArgument result (option (codes "seconds")) }
-{
-    option_arg(
-        alloc,
-        SECONDS,
-        "N",
-        "The seconds after which the search stops, from 1 to 1000000; without it the search goes on to its end",
-    )
-}
-
-fn max_arg<'a>(alloc: Global) -> Arg<'a>
-    ensures { IsArgument result (option (codes "max")) }
-{
-    option_arg(
-        alloc,
-        MAX,
-        "K",
-        "The most outcomes, from 1 to 100000000: the search stops once it knows one more; without it all are looked for",
-    )
-}
-
-// The arguments of which not all may be given together, as messages show them.
-const THE_TRACE: Named<'static> = Named {
-    id: TRACE,
-    shown: "<TRACE>",
-};
-
-const THE_CONDITION: Named<'static> = Named {
-    id: UNTIL,
-    shown: "--until <COND>",
-};
-
-const THE_OUTPUT: Named<'static> = Named {
-    id: OUTPUT,
-    shown: "--output <PREFIX>",
-};
-
-const THE_OTHER: Named<'static> = Named {
-    id: WITHIN,
-    shown: "--within <OTHER>",
-};
-
-const THE_PARTS: Named<'static> = Named {
-    id: ONLY,
-    shown: "--only <PARTS>",
-};
-
-/// Which arguments exclude each other, and which need others.
-pub const BONDS: [Bond<'static>; 6] = [
-    Bond::Excludes(THE_OTHER, THE_CONDITION),
-    Bond::Excludes(THE_PARTS, THE_CONDITION),
-    Bond::NeedsEither(THE_TRACE, THE_CONDITION, THE_OTHER),
-    Bond::NeedsEither(THE_OUTPUT, THE_CONDITION, THE_OTHER),
-    Bond::Needs(THE_CONDITION, THE_TRACE),
-    Bond::Needs(THE_OUTPUT, THE_TRACE),
-];
-
-/// The command with its arguments.
-pub fn with_arguments<'a>(alloc: Global, command: Command<'a>) -> Result<Command<'a>, AllocError>
-    ensures { IfOk result (λ c. app_in c ≡ and_rules (app_in command.entry) (rules_of sub.Explore)) }
-{
-    let command = with_arg(command, image_arg(alloc))?;
-    let command = with_arg(command, trace_arg(alloc))?;
-    let command = with_arg(command, until_arg(alloc))?;
-    let command = with_arg(command, states_arg(alloc))?;
-    let command = with_arg(command, switches_arg(alloc))?;
-    let command = with_arg(command, private_arg(alloc))?;
-    let command = with_arg(command, seconds_arg(alloc))?;
-    let command = with_arg(command, max_arg(alloc))?;
-    let command = with_arg(command, random_arg(alloc))?;
-    let command = with_arg(command, profile_arg(alloc))?;
-    let command = with_arg(command, input_arg(alloc))?;
-    let command = with_arg(command, output_arg(alloc))?;
-    let command = with_arg(command, within_arg(alloc))?;
-    with_arg(command, only_arg(alloc))
-}
-
-fn trace_arg<'a>(alloc: Global) -> Arg<'a>
-    ensures { IsArgument result (place (codes "TRACE")) }
-{
-    place_arg(
-        alloc,
-        TRACE,
-        "The file that the trace of the outcome is written to, with --until or --within",
-    )
-}
-
 // The number that the value of an option is, or else what is wrong with it.
 fn number_in_option(
     alloc: Global,
@@ -298,94 +211,67 @@ fn number_in_option(
     option: &str,
     least: u64,
     most: u64,
-) -> Result<Result<u64, String>, AllocError>
-    ensures value { IfOk result (λ read. result_ok read ≡ number_within least most (text_for (rows_of_matches matches.now) option.now)) }
-    ensures within { IfOk result (λ read. IfOk read (λ number. (least ≤ number) × (number ≤ most))) }
+) -> Result<u64, ArgumentErr>
+    ensures value { YieldsOrNothing (λ v. v) result (number_within least most (text_for (rows_of_matches matches.now) option.now)) }
+    ensures within { IfOk result (λ number. (least ≤ number) × (number ≤ most)) }
 {
     let value = text_for(matches, option);
     match number_within(least, most, value) {
-        Some(number) => Ok(Ok(number)),
-        None => Ok(Err(format!(in alloc;
+        Some(number) => Ok(number),
+        None => Err(ArgumentErr::Wrong(format!(in alloc;
             "--{option}: '{value}' is no number from {least} to {most}"
         )?)),
     }
 }
 
 // The most switches that are asked for, if any are.
-fn switches_of(alloc: Global, matches: &ArgMatches<'_>) -> Result<Result<usize, String>, AllocError>
-    ensures { IfOk result (λ read. result_ok read ≡ switches_given (first_given (rows_of_matches matches.now) (codes "switches"))) }
+fn switches_of(alloc: Global, matches: &ArgMatches<'_>) -> Result<usize, ArgumentErr>
+    ensures { YieldsOrNothing (λ v. v) result (switches_given (first_given (rows_of_matches matches.now) (codes "switches"))) }
 {
     if given(matches, SWITCHES).is_none() {
-        return Ok(Ok(usize::MAX));
+        return Ok(usize::MAX);
     }
-    match number_in_option(alloc, matches, SWITCHES, 0, MOST_SWITCHES)? {
-        Ok(switches) => Ok(Ok(switches as usize)),
-        Err(why) => Ok(Err(why)),
-    }
+    let switches = number_in_option(alloc, matches, SWITCHES, 0, MOST_SWITCHES)?;
+    Ok(switches as usize)
 }
 
 // The most outcomes that are asked for, if they are, or what is wrong with their number.
-fn outcomes_of(
-    alloc: Global,
-    matches: &ArgMatches<'_>,
-) -> Result<Result<Option<usize>, String>, AllocError>
-    ensures { IfOk result (λ read. result_ok read ≡ outcomes_in (rows_of_matches matches.now)) }
+fn outcomes_of(alloc: Global, matches: &ArgMatches<'_>) -> Result<Option<usize>, ArgumentErr>
+    ensures { YieldsOrNothing (λ v. v) result (outcomes_in (rows_of_matches matches.now)) }
 {
     if given(matches, MAX).is_none() {
-        return Ok(Ok(None));
+        return Ok(None);
     }
-    match number_in_option(alloc, matches, MAX, 1, MOST_OUTCOMES)? {
-        Ok(most) => Ok(Ok(Some(most as usize))),
-        Err(why) => Ok(Err(why)),
-    }
+    let most = number_in_option(alloc, matches, MAX, 1, MOST_OUTCOMES)?;
+    Ok(Some(most as usize))
 }
 
 // The most seconds and outcomes that are asked for, if they are, or what is wrong with one of the numbers.
 fn ends_of(
     alloc: Global,
     matches: &ArgMatches<'_>,
-) -> Result<Result<(Option<u32>, Option<usize>), String>, AllocError>
-    ensures { IfOk result (λ read. result_ok read ≡ ends_in (rows_of_matches matches.now)) }
+) -> Result<(Option<u32>, Option<usize>), ArgumentErr>
+    ensures { YieldsOrNothing (λ v. v) result (ends_in (rows_of_matches matches.now)) }
 {
-    let seconds = match seconds_by(alloc, matches)? {
-        Ok(seconds) => seconds,
-        Err(why) => return Ok(Err(why)),
-    };
-    match outcomes_of(alloc, matches)? {
-        Ok(outcomes) => Ok(Ok((seconds, outcomes))),
-        Err(why) => Ok(Err(why)),
-    }
+    let seconds = seconds_by(alloc, matches)?;
+    let outcomes = outcomes_of(alloc, matches)?;
+    Ok((seconds, outcomes))
 }
 
 /// How far a guest is explored, or what is wrong with an option.
 #[tactic(auto, unfolding(crate::specs::Exploring::reach_in))]
-pub fn reach_of(
-    alloc: Global,
-    matches: &ArgMatches<'_>,
-) -> Result<Result<Reach, String>, AllocError>
-    ensures { IfOk result (λ read. option_map (λ r. (r.states, r.private, r.switches, r.seconds, r.outcomes)) (result_ok read) ≡ reach_in (rows_of_matches matches.now)) }
+pub fn reach_of(alloc: Global, matches: &ArgMatches<'_>) -> Result<Reach, ArgumentErr>
+    ensures { YieldsOrNothing (λ r. (r.states, r.private, r.switches, r.seconds, r.outcomes)) result (reach_in (rows_of_matches matches.now)) }
 {
-    let states = match number_in_option(alloc, matches, STATES, 1, MOST_STATES)? {
-        Ok(states) => states,
-        Err(why) => return Ok(Err(why)),
-    };
-    let private = match number_in_option(alloc, matches, PRIVATE, 1, MOST_PRIVATE)? {
-        Ok(private) => private,
-        Err(why) => return Ok(Err(why)),
-    };
-    let switches = match switches_of(alloc, matches)? {
-        Ok(switches) => switches,
-        Err(why) => return Ok(Err(why)),
-    };
-    let (seconds, outcomes) = match ends_of(alloc, matches)? {
-        Ok(ends) => ends,
-        Err(why) => return Ok(Err(why)),
-    };
-    Ok(Ok(Reach {
+    let states = number_in_option(alloc, matches, STATES, 1, MOST_STATES)?;
+    let private = number_in_option(alloc, matches, PRIVATE, 1, MOST_PRIVATE)?;
+    let switches = switches_of(alloc, matches)?;
+    let (seconds, outcomes) = ends_of(alloc, matches)?;
+    Ok(Reach {
         states: states as usize,
         private,
         switches,
         seconds,
         outcomes,
-    }))
+    })
 }

@@ -1,19 +1,15 @@
 //! The arguments of `ir gdb`.
 
-ghost use Rattle.std.specs.Prelude.{◌≡◌, IfOk, codes};
 ghost use Rattle.ir_arguments.specs.Asking.{gdb_asked};
-ghost use Rattle.ir_arguments.specs.Values.{rows_of_matches};
-ghost use Rattle.ir_arguments.specs.Views.{request_view};
-ghost use Rattle.ir_arguments.specs.Parser.{and_rules, app_in, rules_of};
-ghost use Rattle.ir_arguments.specs.declared.subcommands.Subcommand.TheVariants as sub;
+ghost use Rattle.ir_arguments.specs.Views.{AsksFor};
 
+use crate::argument_err::ArgumentErr;
 use crate::asked::Asked;
 use crate::debug::DebugArguments;
-use crate::forms::with_arg;
 use crate::subcommands::Row;
-use crate::values::{IMAGE, TRACE, file_arg, image_arg, text_of};
-use clap::{ArgMatches, Command};
-use std::alloc::{AllocError, Global};
+use crate::values::{IMAGE, IMAGE_FORM, TRACE, TRACE_FORM, text_of};
+use clap::ArgMatches;
+use std::alloc::Global;
 
 /// What follows the help of `ir gdb`.
 pub const GDB_AFTER: &str =
@@ -33,28 +29,18 @@ What can't be opened is named on standard error in the lines of `ir debug`.
 Exit status: 0 done, 1 a fault, 2 bad arguments, 3 a refused image or trace, 4 a trace that doesn't fit.
 ";
 
-/// What the help says of it, beside its arguments.
-pub fn row<'a>() -> Row<'a>
-    ensures { result.name.now ≡ codes "gdb" }
-{
-    Row {
-        name: "gdb",
-        about: "Lets gdb debug a recorded run, forwards and backwards",
-        after: GDB_AFTER,
-    }
-}
-
-/// The command with its arguments.
-pub fn with_arguments<'a>(alloc: Global, command: Command<'a>) -> Result<Command<'a>, AllocError>
-    ensures { IfOk result (λ c. app_in c ≡ and_rules (app_in command.entry) (rules_of sub.Gdb)) }
-{
-    let command = with_arg(command, image_arg(alloc))?;
-    with_arg(command, file_arg(alloc, TRACE, "The file with the trace"))
-}
+/// What the help says of it, and its arguments.
+pub const ROW: Row<'static> = Row {
+    name: "gdb",
+    about: "Lets gdb debug a recorded run, forwards and backwards",
+    after: GDB_AFTER,
+    forms: &[IMAGE_FORM, TRACE_FORM],
+    bonds: &[],
+};
 
 /// What its arguments ask for.
-pub fn asked(alloc: Global, matches: &ArgMatches<'_>) -> Result<Asked, AllocError>
-    ensures { IfOk result (λ asked. request_view asked ≡ gdb_asked (rows_of_matches matches.now)) }
+pub fn asked(alloc: Global, matches: &ArgMatches<'_>) -> Result<Asked, ArgumentErr>
+    ensures { AsksFor gdb_asked matches.now result }
 {
     Ok(Asked::Gdb(DebugArguments {
         image: text_of(alloc, matches, IMAGE)?,

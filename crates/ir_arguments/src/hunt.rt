@@ -1,27 +1,27 @@
 //! The arguments of `ir hunt`.
 
-ghost use Rattle.std.specs.Prelude.{◌≡◌, codes, IfOk};
-ghost use Rattle.std.specs.Result.{result_ok};
+ghost use Rattle.std.specs.Prelude.{codes};
 ghost use Rattle.ir_arguments.specs.Asking.{bounds_in, hunt_asked, jobs_given};
-ghost use Rattle.ir_arguments.specs.Values.{rows_of_matches, first_given};
-ghost use Rattle.ir_arguments.specs.Views.{request_view};
-ghost use Rattle.ir_arguments.specs.Parser.{IsArgument, and_rules, app_in, flag, option, option_or, rules_of};
-ghost use Rattle.ir_arguments.specs.declared.subcommands.Subcommand.TheVariants as sub;
+ghost use Rattle.ir_arguments.specs.Values.{YieldsOrNothing, rows_of_matches, first_given};
+ghost use Rattle.ir_arguments.specs.Views.{AsksFor};
 
+use crate::argument_err::ArgumentErr;
 use crate::asked::Asked;
 use crate::condition_text::ConditionText;
-use crate::conditions::{until_arg, wanted_by};
-use crate::forms::{flag_arg, option_arg, option_or_arg, with_arg};
+use crate::conditions::{UNTIL_FORM, wanted_by};
+use crate::forms::Form;
 use crate::options::options_of;
-use crate::recording::{RecordingOptions, with_options};
+use crate::recording::{
+    BUDGET_FORM, INPUT_FORM, OUTPUT_FORM, PROFILE_FORM, RANDOM_FORM, RecordingOptions,
+};
 use crate::seconds::{SECONDS, seconds_by};
-use crate::seeds::{by_arg, seeds_by, way_by};
+use crate::seeds::{BY_FORM, seeds_by, way_by};
 use crate::subcommands::Row;
-use crate::values::{IMAGE, TRACE, file_arg, given, has_flag, image_arg, text_for, text_of};
-use clap::{Arg, ArgMatches, Command};
+use crate::values::{IMAGE, IMAGE_FORM, TRACE, TRACE_OUT_FORM, given, has_flag, text_for, text_of};
+use clap::ArgMatches;
 use ir_record_command::number_within;
 use ir_schedule::{Seeds, Way};
-use std::alloc::{AllocError, Global};
+use std::alloc::Global;
 
 const SEEDS: &str = "seeds";
 
@@ -64,16 +64,44 @@ that were followed, and some were left out because their runs have too many turn
 `ir shrink` ends with.
 ";
 
-/// What the help says of it, beside its arguments.
-pub fn row<'a>() -> Row<'a>
-    ensures { result.name.now ≡ codes "hunt" }
-{
-    Row {
-        name: "hunt",
-        about: "Records the first of many seeds' orders that fulfils conditions",
-        after: HUNT_AFTER,
-    }
-}
+/// What the help says of it, and its arguments.
+pub const ROW: Row<'static> = Row {
+    name: "hunt",
+    about: "Records the first of many seeds' orders that fulfils conditions",
+    after: HUNT_AFTER,
+    forms: &[
+        IMAGE_FORM,
+        TRACE_OUT_FORM,
+        Form::ValuedOr(
+            SEEDS,
+            "SEEDS",
+            "0+10000",
+            "The seeds that are tried: A..B, from A to B, or A+N, N from A on",
+        ),
+        UNTIL_FORM,
+        BY_FORM,
+        Form::Valued(
+            JOBS,
+            "N",
+            "The most seeds that are run at once, from 1 to 64; without it as many as there are processors",
+        ),
+        Form::Valued(
+            SECONDS,
+            "N",
+            "The seconds after which no further seeds are begun, from 1 to 1000000; without it all seeds are tried",
+        ),
+        Form::Flag(
+            SHRINK,
+            "Then shrinks what was found, as `ir shrink` does: TRACE is of the run with fewer context switches",
+        ),
+        BUDGET_FORM,
+        RANDOM_FORM,
+        PROFILE_FORM,
+        INPUT_FORM,
+        OUTPUT_FORM,
+    ],
+    bonds: &[],
+};
 
 /// What is hunted, how, and where what is found goes.
 #[derive(Drop)]
@@ -100,125 +128,40 @@ pub struct HuntArguments {
     pub options: RecordingOptions,
 }
 
-fn seeds_arg<'a>(alloc: Global) -> Arg<'a>
-    ensures { IsArgument result (option_or (codes "seeds") (codes "0+10000")) }
-{
-    option_or_arg(
-        alloc,
-        SEEDS,
-        "SEEDS",
-        "0+10000",
-        "The seeds that are tried: A..B, from A to B, or A+N, N from A on",
-    )
-}
-
-fn jobs_arg<'a>(alloc: Global) -> Arg<'a>
-    ensures { IsArgument result (option (codes "jobs")) }
-{
-    option_arg(
-        alloc,
-        JOBS,
-        "N",
-        "The most seeds that are run at once, from 1 to 64; without it as many as there are processors",
-    )
-}
-
-fn seconds_arg<'a>(alloc: Global) -> Arg<'a>
-    ensures { IsArgument result (option (codes "seconds")) }
-{
-    option_arg(
-        alloc,
-        SECONDS,
-        "N",
-        "The seconds after which no further seeds are begun, from 1 to 1000000; without it all seeds are tried",
-    )
-}
-
-fn shrink_arg<'a>(alloc: Global) -> Arg<'a>
-    ensures { IsArgument result (flag (codes "shrink")) }
-{
-    flag_arg(
-        alloc,
-        SHRINK,
-        "Then shrinks what was found, as `ir shrink` does: TRACE is of the run with fewer context switches",
-    )
-}
-
-/// The command with its arguments.
-pub fn with_arguments<'a>(alloc: Global, command: Command<'a>) -> Result<Command<'a>, AllocError>
-    ensures { IfOk result (λ c. app_in c ≡ and_rules (app_in command.entry) (rules_of sub.Hunt)) }
-{
-    let command = with_arg(command, image_arg(alloc))?;
-    let command = with_arg(
-        command,
-        file_arg(alloc, TRACE, "The file that the trace is written to"),
-    )?;
-    let command = with_arg(command, seeds_arg(alloc))?;
-    let command = with_arg(command, until_arg(alloc))?;
-    let command = with_arg(command, by_arg(alloc))?;
-    let command = with_arg(command, jobs_arg(alloc))?;
-    let command = with_arg(command, seconds_arg(alloc))?;
-    let command = with_arg(command, shrink_arg(alloc))?;
-    with_options(alloc, command)
-}
-
 // The most threads that are asked for, or what is wrong with their number.
-fn jobs_by(alloc: Global, matches: &ArgMatches<'_>) -> Result<Result<usize, String>, AllocError>
-    ensures { IfOk result (λ read. result_ok read ≡ jobs_given (first_given (rows_of_matches matches.now) (codes "jobs"))) }
+fn jobs_by(alloc: Global, matches: &ArgMatches<'_>) -> Result<usize, ArgumentErr>
+    ensures { YieldsOrNothing (λ v. v) result (jobs_given (first_given (rows_of_matches matches.now) (codes "jobs"))) }
 {
     let Some(text) = given(matches, JOBS) else {
-        return Ok(Ok(usize::MAX));
+        return Ok(usize::MAX);
     };
     match number_within(1, MOST_JOBS, text) {
-        Some(number) => Ok(Ok(number as usize)),
-        None => Ok(Err(format!(in alloc;
+        Some(number) => Ok(number as usize),
+        None => Err(ArgumentErr::Wrong(format!(in alloc;
             "--{JOBS}: '{text}' is no number from 1 to {MOST_JOBS}"
         )?)),
     }
 }
 
 // The most threads and seconds that are asked for, or what is wrong with one of the numbers.
-fn bounds_by(
-    alloc: Global,
-    matches: &ArgMatches<'_>,
-) -> Result<Result<(usize, Option<u32>), String>, AllocError>
-    ensures { IfOk result (λ read. result_ok read ≡ bounds_in (rows_of_matches matches.now)) }
+fn bounds_by(alloc: Global, matches: &ArgMatches<'_>) -> Result<(usize, Option<u32>), ArgumentErr>
+    ensures { YieldsOrNothing (λ v. v) result (bounds_in (rows_of_matches matches.now)) }
 {
-    let jobs = match jobs_by(alloc, matches)? {
-        Ok(jobs) => jobs,
-        Err(why) => return Ok(Err(why)),
-    };
-    match seconds_by(alloc, matches)? {
-        Ok(seconds) => Ok(Ok((jobs, seconds))),
-        Err(why) => Ok(Err(why)),
-    }
+    let jobs = jobs_by(alloc, matches)?;
+    let seconds = seconds_by(alloc, matches)?;
+    Ok((jobs, seconds))
 }
 
 /// What its arguments ask for.
 #[tactic(auto, unfolding(crate::specs::Asking::hunt_in))]
-pub fn asked(alloc: Global, matches: &ArgMatches<'_>) -> Result<Asked, AllocError>
-    ensures { IfOk result (λ asked. request_view asked ≡ hunt_asked (rows_of_matches matches.now)) }
+pub fn asked(alloc: Global, matches: &ArgMatches<'_>) -> Result<Asked, ArgumentErr>
+    ensures { AsksFor hunt_asked matches.now result }
 {
-    let options = match options_of(alloc, matches)? {
-        Ok(options) => options,
-        Err(why) => return Ok(Asked::Nothing(why)),
-    };
-    let seeds = match seeds_by(alloc, SEEDS, text_for(matches, SEEDS))? {
-        Ok(seeds) => seeds,
-        Err(why) => return Ok(Asked::Nothing(why)),
-    };
-    let way = match way_by(alloc, matches)? {
-        Ok(way) => way,
-        Err(why) => return Ok(Asked::Nothing(why)),
-    };
-    let (until, stale) = match wanted_by(alloc, matches)? {
-        Ok(wanted) => wanted,
-        Err(why) => return Ok(Asked::Nothing(why)),
-    };
-    let (jobs, seconds) = match bounds_by(alloc, matches)? {
-        Ok(bounds) => bounds,
-        Err(why) => return Ok(Asked::Nothing(why)),
-    };
+    let options = options_of(alloc, matches)?;
+    let seeds = seeds_by(alloc, SEEDS, text_for(matches, SEEDS))?;
+    let way = way_by(alloc, matches)?;
+    let (until, stale) = wanted_by(alloc, matches)?;
+    let (jobs, seconds) = bounds_by(alloc, matches)?;
     Ok(Asked::Hunt(HuntArguments {
         image: text_of(alloc, matches, IMAGE)?,
         trace: text_of(alloc, matches, TRACE)?,

@@ -1,6 +1,7 @@
 //! Command-line arguments of the program `ir`: what they ask for, and the help.
 #![tactic(auto)]
 
+mod argument_err;
 mod arguments;
 mod asked;
 mod assemble;

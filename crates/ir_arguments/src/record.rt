@@ -1,25 +1,27 @@
 //! The arguments of `ir record`.
 
-ghost use Rattle.std.specs.Prelude.{◌≡◌, Some, option_map, IfOk, codes};
-ghost use Rattle.std.specs.Result.{result_ok};
+ghost use Rattle.std.specs.Prelude.{◌≡◌, Some, option_map};
 ghost use Rattle.ir_arguments.specs.Asking.{chaos_by, chaos_in, recording_asked};
-ghost use Rattle.ir_arguments.specs.Values.{rows_of_matches};
-ghost use Rattle.ir_arguments.specs.Views.{request_view};
-ghost use Rattle.ir_arguments.specs.Parser.{IsArgument, and_rules, app_in, flag, option, option_or, rules_of};
-ghost use Rattle.ir_arguments.specs.declared.subcommands.Subcommand.TheVariants as sub;
+ghost use Rattle.ir_arguments.specs.Values.{YieldsOrNothing, rows_of_matches};
+ghost use Rattle.ir_arguments.specs.Views.{AsksFor};
 
+use crate::argument_err::ArgumentErr;
 use crate::asked::Asked;
-use crate::bonds::{Bond, Named};
-use crate::forms::{flag_arg, option_arg, with_arg};
+use crate::bonds::Bond;
+use crate::forms::Form;
 use crate::options::{no_number, options_of};
-use crate::recording::{RecordingOptions, with_options};
-use crate::seeds::{BY, by_arg, way_by};
+use crate::recording::{
+    BUDGET_FORM, INPUT_FORM, OUTPUT_FORM, PROFILE_FORM, RANDOM_FORM, RecordingOptions,
+};
+use crate::seeds::{BY, BY_FORM, way_by};
 use crate::subcommands::Row;
-use crate::values::{IMAGE, TRACE, file_arg, given, given_text, has_flag, image_arg, text_of};
-use clap::{Arg, ArgMatches, Command};
+use crate::values::{
+    IMAGE, IMAGE_FORM, TRACE, TRACE_OUT_FORM, given, given_text, has_flag, text_of,
+};
+use clap::ArgMatches;
 use ir_record_command::{RecordPlan, number_within};
 use ir_schedule::Way;
-use std::alloc::{AllocError, Global};
+use std::alloc::Global;
 
 const ORDER: &str = "order";
 
@@ -74,16 +76,49 @@ with --status 5 if it is recorded, and a thread doesn't end by END with code 0:
 `until ! ir record --status IMAGE TRACE; do :; done` records until one doesn't.
 ";
 
-/// What the help says of it, beside its arguments.
-pub fn row<'a>() -> Row<'a>
-    ensures { result.name.now ≡ codes "record" }
-{
-    Row {
-        name: "record",
-        about: "Records a guest, and prints a line for each thread",
-        after: RECORD_AFTER,
-    }
-}
+/// What the help says of it, and its arguments.
+pub const ROW: Row<'static> = Row {
+    name: "record",
+    about: "Records a guest, and prints a line for each thread",
+    after: RECORD_AFTER,
+    forms: &[
+        IMAGE_FORM,
+        TRACE_OUT_FORM,
+        Form::Valued(
+            ORDER,
+            "LIST",
+            "Which thread takes each next step; without it, --order-file and --chaos the guest runs on real threads",
+        ),
+        Form::Valued(
+            ORDER_FILE,
+            "LISTFILE",
+            "The file with LIST, in place of --order",
+        ),
+        Form::Valued(
+            CHAOS,
+            "SEED",
+            "The seed that gives the order, at most 18446744073709551615",
+        ),
+        BY_FORM,
+        BUDGET_FORM,
+        RANDOM_FORM,
+        PROFILE_FORM,
+        INPUT_FORM,
+        OUTPUT_FORM,
+        Form::Flag(
+            STATUS,
+            "Exits with status 5 if a thread doesn't end by END with code 0",
+        ),
+    ],
+    bonds: &[
+        Bond::Excludes(ORDER_FILE, ORDER),
+        Bond::Excludes(CHAOS, ORDER),
+        Bond::Excludes(CHAOS, ORDER_FILE),
+        Bond::Excludes(BY, ORDER),
+        Bond::Excludes(BY, ORDER_FILE),
+        Bond::Needs(BY, CHAOS),
+    ],
+};
 
 /// What is recorded, how, and where to.
 #[derive(Drop)]
@@ -120,141 +155,34 @@ impl RecordArguments {
     }
 }
 
-fn order_arg<'a>(alloc: Global) -> Arg<'a>
-    ensures { IsArgument result (option (codes "order")) }
-{
-    option_arg(
-        alloc,
-        ORDER,
-        "LIST",
-        "Which thread takes each next step; without it, --order-file and --chaos the guest runs on real threads",
-    )
-}
-
-fn order_file_arg<'a>(alloc: Global) -> Arg<'a>
-    ensures { IsArgument result (option (codes "order-file")) }
-{
-    option_arg(
-        alloc,
-        ORDER_FILE,
-        "LISTFILE",
-        "The file with LIST, in place of --order",
-    )
-}
-
-fn status_arg<'a>(alloc: Global) -> Arg<'a>
-    ensures { IsArgument result (flag (codes "status")) }
-{
-    flag_arg(
-        alloc,
-        STATUS,
-        "Exits with status 5 if a thread doesn't end by END with code 0",
-    )
-}
-
-fn chaos_arg<'a>(alloc: Global) -> Arg<'a>
-    ensures { IsArgument result (option (codes "chaos")) }
-{
-    option_arg(
-        alloc,
-        CHAOS,
-        "SEED",
-        "The seed that gives the order, at most 18446744073709551615",
-    )
-}
-
-// The arguments of which not all may be given together, as messages show them.
-const THE_ORDER: Named<'static> = Named {
-    id: ORDER,
-    shown: "--order <LIST>",
-};
-
-const THE_ORDER_FILE: Named<'static> = Named {
-    id: ORDER_FILE,
-    shown: "--order-file <LISTFILE>",
-};
-
-const THE_CHAOS: Named<'static> = Named {
-    id: CHAOS,
-    shown: "--chaos <SEED>",
-};
-
-const THE_WAY: Named<'static> = Named {
-    id: BY,
-    shown: "--by <WAY>",
-};
-
-/// Which arguments exclude each other, and which need others.
-pub const BONDS: [Bond<'static>; 6] = [
-    Bond::Excludes(THE_ORDER_FILE, THE_ORDER),
-    Bond::Excludes(THE_CHAOS, THE_ORDER),
-    Bond::Excludes(THE_CHAOS, THE_ORDER_FILE),
-    Bond::Excludes(THE_WAY, THE_ORDER),
-    Bond::Excludes(THE_WAY, THE_ORDER_FILE),
-    Bond::Needs(THE_WAY, THE_CHAOS),
-];
-
-/// The command with its arguments.
-pub fn with_arguments<'a>(alloc: Global, command: Command<'a>) -> Result<Command<'a>, AllocError>
-    ensures { IfOk result (λ c. app_in c ≡ and_rules (app_in command.entry) (rules_of sub.Record)) }
-{
-    let command = with_arg(command, image_arg(alloc))?;
-    let command = with_arg(
-        command,
-        file_arg(alloc, TRACE, "The file that the trace is written to"),
-    )?;
-    let command = with_arg(command, order_arg(alloc))?;
-    let command = with_arg(command, order_file_arg(alloc))?;
-    let command = with_arg(command, chaos_arg(alloc))?;
-    let command = with_arg(command, by_arg(alloc))?;
-    let command = with_options(alloc, command)?;
-    with_arg(command, status_arg(alloc))
-}
-
 // The seed that a text is and this way, or else what is wrong with the text.
-fn chaos_by(
-    alloc: Global,
-    text: &str,
-    way: Way,
-) -> Result<Result<Option<Chaos>, String>, AllocError>
-    ensures { IfOk result (λ read. result_ok read ≡ option_map (λ chaos. Some chaos) (chaos_by way text.now)) }
+fn chaos_by(alloc: Global, text: &str, way: Way) -> Result<Option<Chaos>, ArgumentErr>
+    ensures { YieldsOrNothing (λ v. v) result (option_map (λ chaos. Some chaos) (chaos_by way text.now)) }
 {
     match number_within(0, u64::MAX, text) {
-        Some(seed) => Ok(Ok(Some(Chaos { seed, way }))),
-        None => Ok(Err(no_number(alloc, CHAOS, text, u64::MAX)?)),
+        Some(seed) => Ok(Some(Chaos { seed, way })),
+        None => Err(ArgumentErr::Wrong(no_number(alloc, CHAOS, text, u64::MAX)?)),
     }
 }
 
 // The seed that gives the order and how, if it is given, or else what is wrong with it.
-fn chaos_of(
-    alloc: Global,
-    matches: &ArgMatches<'_>,
-) -> Result<Result<Option<Chaos>, String>, AllocError>
-    ensures { IfOk result (λ read. result_ok read ≡ chaos_in (rows_of_matches matches.now)) }
+fn chaos_of(alloc: Global, matches: &ArgMatches<'_>) -> Result<Option<Chaos>, ArgumentErr>
+    ensures { YieldsOrNothing (λ v. v) result (chaos_in (rows_of_matches matches.now)) }
 {
-    let way = match way_by(alloc, matches)? {
-        Ok(way) => way,
-        Err(why) => return Ok(Err(why)),
-    };
+    let way = way_by(alloc, matches)?;
     match given(matches, CHAOS) {
         Some(text) => chaos_by(alloc, text, way),
-        None => Ok(Ok(None)),
+        None => Ok(None),
     }
 }
 
 /// What its arguments ask for.
 #[tactic(auto, unfolding(crate::specs::Asking::recording_in))]
-pub fn asked(alloc: Global, matches: &ArgMatches<'_>) -> Result<Asked, AllocError>
-    ensures { IfOk result (λ asked. request_view asked ≡ recording_asked (rows_of_matches matches.now)) }
+pub fn asked(alloc: Global, matches: &ArgMatches<'_>) -> Result<Asked, ArgumentErr>
+    ensures { AsksFor recording_asked matches.now result }
 {
-    let options = match options_of(alloc, matches)? {
-        Ok(options) => options,
-        Err(why) => return Ok(Asked::Nothing(why)),
-    };
-    let chaos = match chaos_of(alloc, matches)? {
-        Ok(chaos) => chaos,
-        Err(why) => return Ok(Asked::Nothing(why)),
-    };
+    let options = options_of(alloc, matches)?;
+    let chaos = chaos_of(alloc, matches)?;
     Ok(Asked::Record(RecordArguments {
         image: text_of(alloc, matches, IMAGE)?,
         trace: text_of(alloc, matches, TRACE)?,

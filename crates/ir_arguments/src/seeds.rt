@@ -1,37 +1,31 @@
 //! Seeds, and how they choose.
 
-ghost use Rattle.std.specs.Prelude.{◌≡◌, ◌≤◌, codes, IfOk};
-ghost use Rattle.std.specs.Result.{result_ok};
+ghost use Rattle.std.specs.Prelude.{◌≡◌, ◌≤◌, codes};
 ghost use Rattle.ir_arguments.specs.Reading.{counted_seeds, depth_named, number_after, seeds_between, seeds_from, seeds_named, way_named};
-ghost use Rattle.ir_arguments.specs.Values.{rows_of_matches, text_for};
-ghost use Rattle.ir_arguments.specs.Parser.{IsArgument, option_or};
+ghost use Rattle.ir_arguments.specs.Values.{YieldsOrNothing, rows_of_matches, text_for};
 
-use crate::forms::option_or_arg;
+use crate::argument_err::ArgumentErr;
+use crate::forms::Form;
 use crate::texts::cut;
 use crate::values::text_for;
-use clap::{Arg, ArgMatches};
+use clap::ArgMatches;
 use ir_record_command::number_within;
 use ir_schedule::{Seeds, Way};
-use std::alloc::{AllocError, Global};
+use std::alloc::Global;
+
+/// The name of the option that says how seeds choose.
+pub const BY: &str = "by";
 
 /// The option that says how seeds choose.
-pub const BY: &str = "by";
+pub const BY_FORM: Form<'static> = Form::ValuedOr(
+    BY,
+    "WAY",
+    "mix",
+    "How a seed chooses: walk, pct:D with D from 1 to 1000, or mix",
+);
 
 // The most places of change and one.
 const MOST_DEPTH: u64 = 1000;
-
-/// The option that says how seeds choose.
-pub fn by_arg<'a>(alloc: Global) -> Arg<'a>
-    ensures { IsArgument result (option_or (codes "by") (codes "mix")) }
-{
-    option_or_arg(
-        alloc,
-        BY,
-        "WAY",
-        "mix",
-        "How a seed chooses: walk, pct:D with D from 1 to 1000, or mix",
-    )
-}
 
 // The way by priorities, of so many places and one, that two texts give.
 fn depth_of(name: &str, depth: &str) -> Option<Way>
@@ -60,17 +54,17 @@ fn way_of(text: &str) -> Option<Way>
 }
 
 /// How seeds choose, or that the option names no way.
-pub fn way_by(alloc: Global, matches: &ArgMatches<'_>) -> Result<Result<Way, String>, AllocError>
-    ensures { IfOk result (λ read. result_ok read ≡ way_named (text_for (rows_of_matches matches.now) (codes "by"))) }
+pub fn way_by(alloc: Global, matches: &ArgMatches<'_>) -> Result<Way, ArgumentErr>
+    ensures { YieldsOrNothing (λ v. v) result (way_named (text_for (rows_of_matches matches.now) (codes "by"))) }
 {
     let text = text_for(matches, BY);
     match way_of(text) {
-        Some(way) => Ok(Ok(way)),
+        Some(way) => Ok(way),
         None => {
             let why = format!(in alloc;
                 "--{BY}: '{text}' is none of mix, walk and pct:D, D from 1 to {MOST_DEPTH}"
             )?;
-            Ok(Err(why))
+            Err(ArgumentErr::Wrong(why))
         }
     }
 }
@@ -126,20 +120,16 @@ fn seeds_of(text: &str) -> Option<Seeds>
 }
 
 /// The seeds that the value of an option names, or that it names none.
-pub fn seeds_by(
-    alloc: Global,
-    option: &str,
-    text: &str,
-) -> Result<Result<Seeds, String>, AllocError>
-    ensures { IfOk result (λ read. result_ok read ≡ seeds_named text.now) }
+pub fn seeds_by(alloc: Global, option: &str, text: &str) -> Result<Seeds, ArgumentErr>
+    ensures { YieldsOrNothing (λ v. v) result (seeds_named text.now) }
 {
     match seeds_of(text) {
-        Some(seeds) => Ok(Ok(seeds)),
+        Some(seeds) => Ok(seeds),
         None => {
             let why = format!(in alloc;
                 "--{option}: '{text}' is neither A..B, A not above B, nor A+N, of numbers up to 18446744073709551615"
             )?;
-            Ok(Err(why))
+            Err(ArgumentErr::Wrong(why))
         }
     }
 }

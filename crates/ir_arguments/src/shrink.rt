@@ -1,23 +1,20 @@
 //! The arguments of `ir shrink`.
 
-ghost use Rattle.std.specs.Prelude.{◌≡◌, IfOk, codes};
 ghost use Rattle.ir_arguments.specs.Asking.{shrinking_asked};
-ghost use Rattle.ir_arguments.specs.Values.{rows_of_matches};
-ghost use Rattle.ir_arguments.specs.Views.{request_view};
-ghost use Rattle.ir_arguments.specs.Parser.{IsArgument, and_rules, app_in, option, rules_of};
-ghost use Rattle.ir_arguments.specs.declared.subcommands.Subcommand.TheVariants as sub;
+ghost use Rattle.ir_arguments.specs.Views.{AsksFor};
 
+use crate::argument_err::ArgumentErr;
 use crate::asked::Asked;
 use crate::condition_text::ConditionText;
-use crate::conditions::{until_arg, wanted_by};
-use crate::forms::{option_arg, with_arg};
+use crate::conditions::{UNTIL_FORM, wanted_by};
+use crate::forms::Form;
 use crate::options::random_in;
-use crate::recording::{INPUT, OUTPUT, input_arg, output_arg, random_arg};
+use crate::recording::{INPUT, INPUT_FORM, OUTPUT, OUTPUT_FORM, RANDOM_FORM};
 use crate::seconds::{SECONDS, seconds_by};
 use crate::subcommands::Row;
-use crate::values::{IMAGE, TRACE, file_arg, given_text, image_arg, text_of};
-use clap::{Arg, ArgMatches, Command};
-use std::alloc::{AllocError, Global};
+use crate::values::{IMAGE, IMAGE_FORM, TRACE, TRACE_FORM, given_text, text_of};
+use clap::ArgMatches;
+use std::alloc::Global;
 
 const OUT: &str = "OUT";
 
@@ -43,16 +40,30 @@ COND about what the guest hasn't, 4 no run of IMAGE has TRACE, or none with this
 and a line says which, 6 the time was over: OUT is the best run so far.
 ";
 
-/// What the help says of it, beside its arguments.
-pub fn row<'a>() -> Row<'a>
-    ensures { result.name.now ≡ codes "shrink" }
-{
-    Row {
-        name: "shrink",
-        about: "Records a run with fewer context switches that fulfils the same conditions",
-        after: SHRINK_AFTER,
-    }
-}
+/// What the help says of it, and its arguments.
+pub const ROW: Row<'static> = Row {
+    name: "shrink",
+    about: "Records a run with fewer context switches that fulfils the same conditions",
+    after: SHRINK_AFTER,
+    forms: &[
+        IMAGE_FORM,
+        TRACE_FORM,
+        Form::NeededPlace(
+            OUT,
+            "The file that the trace of the shrunk run is written to",
+        ),
+        UNTIL_FORM,
+        Form::Valued(
+            SECONDS,
+            "N",
+            "The seconds after which no further run is begun, from 1 to 1000000; without it the search goes on to its end",
+        ),
+        RANDOM_FORM,
+        INPUT_FORM,
+        OUTPUT_FORM,
+    ],
+    bonds: &[],
+};
 
 /// What is shrunk, how, and where to.
 #[derive(Drop)]
@@ -77,55 +88,14 @@ pub struct ShrinkArguments {
     pub output: Option<String>,
 }
 
-fn seconds_arg<'a>(alloc: Global) -> Arg<'a>
-    ensures { IsArgument result (option (codes "seconds")) }
-{
-    option_arg(
-        alloc,
-        SECONDS,
-        "N",
-        "The seconds after which no further run is begun, from 1 to 1000000; without it the search goes on to its end",
-    )
-}
-
-/// The command with its arguments.
-pub fn with_arguments<'a>(alloc: Global, command: Command<'a>) -> Result<Command<'a>, AllocError>
-    ensures { IfOk result (λ c. app_in c ≡ and_rules (app_in command.entry) (rules_of sub.Shrink)) }
-{
-    let command = with_arg(command, image_arg(alloc))?;
-    let command = with_arg(command, file_arg(alloc, TRACE, "The file with the trace"))?;
-    let command = with_arg(
-        command,
-        file_arg(
-            alloc,
-            OUT,
-            "The file that the trace of the shrunk run is written to",
-        ),
-    )?;
-    let command = with_arg(command, until_arg(alloc))?;
-    let command = with_arg(command, seconds_arg(alloc))?;
-    let command = with_arg(command, random_arg(alloc))?;
-    let command = with_arg(command, input_arg(alloc))?;
-    with_arg(command, output_arg(alloc))
-}
-
 /// What its arguments ask for.
 #[tactic(auto, unfolding(crate::specs::Asking::shrinking_in))]
-pub fn asked(alloc: Global, matches: &ArgMatches<'_>) -> Result<Asked, AllocError>
-    ensures { IfOk result (λ asked. request_view asked ≡ shrinking_asked (rows_of_matches matches.now)) }
+pub fn asked(alloc: Global, matches: &ArgMatches<'_>) -> Result<Asked, ArgumentErr>
+    ensures { AsksFor shrinking_asked matches.now result }
 {
-    let (until, stale) = match wanted_by(alloc, matches)? {
-        Ok(wanted) => wanted,
-        Err(why) => return Ok(Asked::Nothing(why)),
-    };
-    let seconds = match seconds_by(alloc, matches)? {
-        Ok(seconds) => seconds,
-        Err(why) => return Ok(Asked::Nothing(why)),
-    };
-    let random = match random_in(alloc, matches)? {
-        Ok(random) => random,
-        Err(why) => return Ok(Asked::Nothing(why)),
-    };
+    let (until, stale) = wanted_by(alloc, matches)?;
+    let seconds = seconds_by(alloc, matches)?;
+    let random = random_in(alloc, matches)?;
     Ok(Asked::Shrink(ShrinkArguments {
         image: text_of(alloc, matches, IMAGE)?,
         trace: text_of(alloc, matches, TRACE)?,

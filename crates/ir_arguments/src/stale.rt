@@ -1,18 +1,15 @@
 //! The arguments of `ir stale`.
 
-ghost use Rattle.std.specs.Prelude.{◌≡◌, IfOk, codes};
 ghost use Rattle.ir_arguments.specs.Asking.{stale_asked};
-ghost use Rattle.ir_arguments.specs.Values.{rows_of_matches};
-ghost use Rattle.ir_arguments.specs.Views.{request_view};
-ghost use Rattle.ir_arguments.specs.Parser.{and_rules, app_in, rules_of};
-ghost use Rattle.ir_arguments.specs.declared.subcommands.Subcommand.TheVariants as sub;
+ghost use Rattle.ir_arguments.specs.Views.{AsksFor};
 
+use crate::argument_err::ArgumentErr;
 use crate::asked::{Asked, Print};
-use crate::forms::with_arg;
+use crate::forms::Form;
 use crate::subcommands::Row;
-use crate::values::{FROM_IMAGE, TRACE, file_arg, from_image_arg, given_text, text_of};
-use clap::{ArgMatches, Command};
-use std::alloc::{AllocError, Global};
+use crate::values::{FROM_IMAGE, TRACE, TRACE_FORM, given_text, text_of};
+use clap::ArgMatches;
+use std::alloc::Global;
 
 /// What follows the help of `ir stale`.
 pub const STALE_AFTER: &str =
@@ -37,16 +34,21 @@ Exit status: 0 printed, also if there are stale writes, 1 a file that can't be r
 written, 2 bad arguments, 3 a refused image or trace, 4 an incoherent trace, or a trace of no run of the image.
 ";
 
-/// What the help says of it, beside its arguments.
-pub fn row<'a>() -> Row<'a>
-    ensures { result.name.now ≡ codes "stale" }
-{
-    Row {
-        name: "stale",
-        about: "Prints the writes that may rest on a read that was written over",
-        after: STALE_AFTER,
-    }
-}
+/// What the help says of it, and its arguments.
+pub const ROW: Row<'static> = Row {
+    name: "stale",
+    about: "Prints the writes that may rest on a read that was written over",
+    after: STALE_AFTER,
+    forms: &[
+        TRACE_FORM,
+        Form::Valued(
+            FROM_IMAGE,
+            "IMAGE",
+            "The file with the image, or an ELF file of the guest: only writes that rest on what was read",
+        ),
+    ],
+    bonds: &[],
+};
 
 /// Whose stale writes are printed.
 #[derive(Drop)]
@@ -57,23 +59,9 @@ pub struct StaleArguments {
     pub image: Option<String>,
 }
 
-/// The command with its arguments.
-pub fn with_arguments<'a>(alloc: Global, command: Command<'a>) -> Result<Command<'a>, AllocError>
-    ensures { IfOk result (λ c. app_in c ≡ and_rules (app_in command.entry) (rules_of sub.Stale)) }
-{
-    let command = with_arg(command, file_arg(alloc, TRACE, "The file with the trace"))?;
-    with_arg(
-        command,
-        from_image_arg(
-            alloc,
-            "The file with the image, or an ELF file of the guest: only writes that rest on what was read",
-        ),
-    )
-}
-
 /// What its arguments ask for.
-pub fn asked(alloc: Global, matches: &ArgMatches<'_>) -> Result<Asked, AllocError>
-    ensures { IfOk result (λ asked. request_view asked ≡ stale_asked (rows_of_matches matches.now)) }
+pub fn asked(alloc: Global, matches: &ArgMatches<'_>) -> Result<Asked, ArgumentErr>
+    ensures { AsksFor stale_asked matches.now result }
 {
     Ok(Asked::Print(Print::Stale(StaleArguments {
         trace: text_of(alloc, matches, TRACE)?,

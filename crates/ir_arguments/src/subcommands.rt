@@ -1,15 +1,17 @@
 //! The subcommands, in one table.
 
-ghost use Rattle.std.specs.Prelude.{◌≡◌, find, IfOk};
+ghost use Rattle.std.specs.Prelude.{◌≡◌, find, map, IfOk};
 ghost use Rattle.std.specs.Option.{is_none};
-ghost use Rattle.ir_arguments.specs.Bonds.{may_be_given};
-ghost use Rattle.ir_arguments.specs.Parser.{and_rules, app_in, bare_app, rules_of, with_subcommands};
+ghost use Rattle.ir_arguments.specs.Bonds.{bonds_of, may_be_given, rule_by};
+ghost use Rattle.ir_arguments.specs.Parser.{and_rules, app_in, bare_app, rule_of_form, rules_of, with_subcommands};
 ghost use Rattle.ir_arguments.specs.Subcommands.{asked_by, asked_if_given, is_named, subcommand_name, subcommand_named};
 ghost use Rattle.ir_arguments.specs.Values.{rows_of_matches};
-ghost use Rattle.ir_arguments.specs.Views.{request_view};
+ghost use Rattle.ir_arguments.specs.Views.{AsksFor};
 
+use crate::argument_err::ArgumentErr;
 use crate::asked::Asked;
-use crate::bonds::broken;
+use crate::bonds::{Bond, broken};
+use crate::forms::{Form, with_forms};
 use crate::{
     assemble, debug, diff, elf, events, explore, exploring, gdb, hunt, list, record, shrink, stale,
     trace, view, who, why,
@@ -58,12 +60,16 @@ pub const SUBCOMMANDS: [Subcommand; 16] = [
     Subcommand::View,
 ];
 
-/// What the help says of a subcommand, beside its arguments.
+/// What the help says of a subcommand, and its arguments.
 #[derive(Clone, Copy)]
 pub struct Row<'a> {
     pub name: &'a str,
     pub about: &'a str,
     pub after: &'a str,
+    /// Its arguments, in the order in which the help lists them.
+    pub forms: &'a [Form<'a>],
+    /// Which of them exclude each other, and which need others.
+    pub bonds: &'a [Bond<'a>],
 }
 
 // A subcommand without its arguments.
@@ -76,27 +82,29 @@ fn bare_command<'a>(alloc: Global, row: Row<'a>) -> Command<'a>
 }
 
 impl Subcommand {
-    /// Its name, what it does, and what follows its help.
+    /// Its name, what it does, what follows its help, and its arguments.
     pub fn row<'a>(self) -> Row<'a>
-        ensures { result.name.now ≡ subcommand_name self }
+        ensures name { result.name.now ≡ subcommand_name self }
+        ensures forms { map rule_of_form result.forms.now ≡ rules_of self }
+        ensures bonds { map rule_by result.bonds.now ≡ bonds_of self }
     {
         match self {
-            Subcommand::Assemble => assemble::row(),
-            Subcommand::Elf => elf::row(),
-            Subcommand::List => list::row(),
-            Subcommand::Record => record::row(),
-            Subcommand::Hunt => hunt::row(),
-            Subcommand::Shrink => shrink::row(),
-            Subcommand::Explore => explore::row(),
-            Subcommand::Debug => debug::row(),
-            Subcommand::Gdb => gdb::row(),
-            Subcommand::Trace => trace::row(),
-            Subcommand::Events => events::row(),
-            Subcommand::Stale => stale::row(),
-            Subcommand::Who => who::row(),
-            Subcommand::Why => why::row(),
-            Subcommand::Diff => diff::row(),
-            Subcommand::View => view::row(),
+            Subcommand::Assemble => assemble::ROW,
+            Subcommand::Elf => elf::ROW,
+            Subcommand::List => list::ROW,
+            Subcommand::Record => record::ROW,
+            Subcommand::Hunt => hunt::ROW,
+            Subcommand::Shrink => shrink::ROW,
+            Subcommand::Explore => explore::ROW,
+            Subcommand::Debug => debug::ROW,
+            Subcommand::Gdb => gdb::ROW,
+            Subcommand::Trace => trace::ROW,
+            Subcommand::Events => events::ROW,
+            Subcommand::Stale => stale::ROW,
+            Subcommand::Who => who::ROW,
+            Subcommand::Why => why::ROW,
+            Subcommand::Diff => diff::ROW,
+            Subcommand::View => view::ROW,
         }
     }
 
@@ -104,64 +112,30 @@ impl Subcommand {
     pub fn command<'a>(self, alloc: Global) -> Result<Command<'a>, AllocError>
         ensures { IfOk result (λ c. app_in c ≡ and_rules (bare_app (subcommand_name self)) (rules_of self)) }
     {
-        let command = bare_command(alloc, self.row());
-        match self {
-            Subcommand::Assemble => assemble::with_arguments(alloc, command),
-            Subcommand::Elf => elf::with_arguments(alloc, command),
-            Subcommand::List => list::with_arguments(alloc, command),
-            Subcommand::Record => record::with_arguments(alloc, command),
-            Subcommand::Hunt => hunt::with_arguments(alloc, command),
-            Subcommand::Shrink => shrink::with_arguments(alloc, command),
-            Subcommand::Explore => explore::with_arguments(alloc, command),
-            Subcommand::Debug => debug::with_arguments(alloc, command),
-            Subcommand::Gdb => gdb::with_arguments(alloc, command),
-            Subcommand::Trace => trace::with_arguments(alloc, command),
-            Subcommand::Events => events::with_arguments(alloc, command),
-            Subcommand::Stale => stale::with_arguments(alloc, command),
-            Subcommand::Who => who::with_arguments(alloc, command),
-            Subcommand::Why => why::with_arguments(alloc, command),
-            Subcommand::Diff => diff::with_arguments(alloc, command),
-            Subcommand::View => view::with_arguments(alloc, command),
-        }
+        let row = self.row();
+        with_forms(alloc, bare_command(alloc, row), row.forms)
     }
 
     // Why its arguments may not be given together, if they may not.
     fn broken(self, alloc: Global, matches: &ArgMatches<'_>) -> Result<Option<String>, AllocError>
         ensures { IfOk result (λ why. is_none why ≡ may_be_given self (rows_of_matches matches.now)) }
     {
-        match self {
-            Subcommand::Record => broken(alloc, matches, record::BONDS.as_slice()),
-            Subcommand::Explore => broken(alloc, matches, explore::BONDS.as_slice()),
-            Subcommand::Who => broken(alloc, matches, who::BONDS.as_slice()),
-            Subcommand::Why => broken(alloc, matches, why::BONDS.as_slice()),
-            Subcommand::View => broken(alloc, matches, view::BONDS.as_slice()),
-            Subcommand::Assemble => Ok(None),
-            Subcommand::Elf => Ok(None),
-            Subcommand::List => Ok(None),
-            Subcommand::Hunt => Ok(None),
-            Subcommand::Shrink => Ok(None),
-            Subcommand::Debug => Ok(None),
-            Subcommand::Gdb => Ok(None),
-            Subcommand::Trace => Ok(None),
-            Subcommand::Events => Ok(None),
-            Subcommand::Stale => Ok(None),
-            Subcommand::Diff => Ok(None),
-        }
+        broken(alloc, matches, self.row())
     }
 
     /// What its arguments ask for, if they may be given together.
-    pub fn asked(self, alloc: Global, matches: &ArgMatches<'_>) -> Result<Asked, AllocError>
-        ensures { IfOk result (λ asked. request_view asked ≡ asked_if_given self (rows_of_matches matches.now)) }
+    pub fn asked(self, alloc: Global, matches: &ArgMatches<'_>) -> Result<Asked, ArgumentErr>
+        ensures { AsksFor (asked_if_given self) matches.now result }
     {
         match self.broken(alloc, matches)? {
-            Some(why) => Ok(Asked::Nothing(why)),
+            Some(why) => Err(ArgumentErr::Wrong(why)),
             None => self.asked_so(alloc, matches),
         }
     }
 
     // What its arguments ask for.
-    fn asked_so(self, alloc: Global, matches: &ArgMatches<'_>) -> Result<Asked, AllocError>
-        ensures { IfOk result (λ asked. request_view asked ≡ asked_by self (rows_of_matches matches.now)) }
+    fn asked_so(self, alloc: Global, matches: &ArgMatches<'_>) -> Result<Asked, ArgumentErr>
+        ensures { AsksFor (asked_by self) matches.now result }
     {
         match self {
             Subcommand::Assemble => assemble::asked(alloc, matches),

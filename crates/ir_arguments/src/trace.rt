@@ -1,18 +1,14 @@
 //! The arguments of `ir trace`.
 
-ghost use Rattle.std.specs.Prelude.{◌≡◌, IfOk, codes};
 ghost use Rattle.ir_arguments.specs.Asking.{trace_asked};
-ghost use Rattle.ir_arguments.specs.Values.{rows_of_matches};
-ghost use Rattle.ir_arguments.specs.Views.{request_view};
-ghost use Rattle.ir_arguments.specs.Parser.{and_rules, app_in, rules_of};
-ghost use Rattle.ir_arguments.specs.declared.subcommands.Subcommand.TheVariants as sub;
+ghost use Rattle.ir_arguments.specs.Views.{AsksFor};
 
+use crate::argument_err::ArgumentErr;
 use crate::asked::{Asked, Print};
-use crate::forms::with_arg;
 use crate::subcommands::Row;
-use crate::values::{TRACE, file_arg, text_of};
-use clap::{ArgMatches, Command};
-use std::alloc::{AllocError, Global};
+use crate::values::{TRACE, TRACE_FORM, text_of};
+use clap::ArgMatches;
+use std::alloc::Global;
 
 /// What follows the help of `ir trace`.
 pub const TRACE_AFTER: &str =
@@ -30,16 +26,14 @@ Exit status: 0 printed, 1 a file that can't be read or standard output that can'
 3 a refused trace.
 ";
 
-/// What the help says of it, beside its arguments.
-pub fn row<'a>() -> Row<'a>
-    ensures { result.name.now ≡ codes "trace" }
-{
-    Row {
-        name: "trace",
-        about: "Prints a trace in lines",
-        after: TRACE_AFTER,
-    }
-}
+/// What the help says of it, and its arguments.
+pub const ROW: Row<'static> = Row {
+    name: "trace",
+    about: "Prints a trace in lines",
+    after: TRACE_AFTER,
+    forms: &[TRACE_FORM],
+    bonds: &[],
+};
 
 /// Which trace is printed.
 #[derive(Drop)]
@@ -48,16 +42,9 @@ pub struct TraceArguments {
     pub trace: String,
 }
 
-/// The command with its arguments.
-pub fn with_arguments<'a>(alloc: Global, command: Command<'a>) -> Result<Command<'a>, AllocError>
-    ensures { IfOk result (λ c. app_in c ≡ and_rules (app_in command.entry) (rules_of sub.Trace)) }
-{
-    with_arg(command, file_arg(alloc, TRACE, "The file with the trace"))
-}
-
 /// What its arguments ask for.
-pub fn asked(alloc: Global, matches: &ArgMatches<'_>) -> Result<Asked, AllocError>
-    ensures { IfOk result (λ asked. request_view asked ≡ trace_asked (rows_of_matches matches.now)) }
+pub fn asked(alloc: Global, matches: &ArgMatches<'_>) -> Result<Asked, ArgumentErr>
+    ensures { AsksFor trace_asked matches.now result }
 {
     Ok(Asked::Print(Print::Trace(TraceArguments {
         trace: text_of(alloc, matches, TRACE)?,

@@ -1,15 +1,14 @@
 //! Arguments that more than one subcommand has, and how their values are read.
 
-ghost use Rattle.std.specs.Prelude.{◌≡◌, codes, map, option_map, IfOk};
+ghost use Rattle.std.specs.Prelude.{◌≡◌, map, option_map, IfOk};
 ghost use Rattle.std.specs.String.{string_bytes};
-ghost use Rattle.std.specs.Result.{result_ok};
-ghost use Rattle.ir_arguments.specs.Parser.{IsArgument, image_rule, needed_place, option};
 ghost use Rattle.ir_arguments.specs.Reading.{if_given, large_numbers, small_number};
-ghost use Rattle.ir_arguments.specs.Values.{rows_of_matches, first_given, text_for, texts_for, has_flag};
+ghost use Rattle.ir_arguments.specs.Values.{YieldsOrNothing, rows_of_matches, first_given, text_for, texts_for, has_flag};
 
-use crate::forms::option_arg;
+use crate::argument_err::ArgumentErr;
+use crate::forms::Form;
 use crate::texts::first_part;
-use clap::{Arg, ArgMatches};
+use clap::ArgMatches;
 use ir_record_command::number_within;
 use std::alloc::{AllocError, Global};
 
@@ -31,31 +30,33 @@ pub const UNTIL: &str = "until";
 /// Whether a fault is explained.
 pub const EXPLAIN: &str = "explain";
 
-/// A file that has to be named.
-#[tactic(auto, using(crate::proofs::Rules::needed_place_made))]
-pub fn file_arg<'a>(alloc: Global, name: &'a str, help: &'a str) -> Arg<'a>
-    ensures { IsArgument result (needed_place name.now) }
-{
-    Arg::new(alloc, name).required(true).help(help)
-}
-
 /// The file of an image, which has to be named.
-pub fn image_arg<'a>(alloc: Global) -> Arg<'a>
-    ensures { IsArgument result image_rule }
-{
-    file_arg(
-        alloc,
-        IMAGE,
-        "The file with the image, or an ELF file of the guest",
-    )
-}
+pub const IMAGE_FORM: Form<'static> = Form::NeededPlace(
+    IMAGE,
+    "The file with the image, or an ELF file of the guest",
+);
 
-/// The option that names the file of an image.
-pub fn from_image_arg<'a>(alloc: Global, help: &'a str) -> Arg<'a>
-    ensures { IsArgument result (option (codes "image")) }
-{
-    option_arg(alloc, FROM_IMAGE, "IMAGE", help)
-}
+/// The file that an image is written to.
+pub const IMAGE_OUT_FORM: Form<'static> = Form::NeededPlace(
+    IMAGE,
+    "The file that the image is written to",
+);
+
+/// The file of a trace, which has to be named.
+pub const TRACE_FORM: Form<'static> = Form::NeededPlace(TRACE, "The file with the trace");
+
+/// The file that a trace is written to.
+pub const TRACE_OUT_FORM: Form<'static> = Form::NeededPlace(
+    TRACE,
+    "The file that the trace is written to",
+);
+
+/// The option that names the file with the names of addresses.
+pub const NAMES_FORM: Form<'static> = Form::Valued(
+    MAP,
+    "MAP",
+    "The file with the names of addresses, as `nm -n` prints them",
+);
 
 /// The text that is given for an argument, if one is.
 #[tactic(auto, using(crate::proofs::Rows::first_value_in_rows))]
@@ -114,49 +115,35 @@ pub fn given_text(
     }
 }
 
-/// The option that names the file with the names of addresses.
-pub fn names_arg<'a>(alloc: Global) -> Arg<'a>
-    ensures { IsArgument result (option (codes "map")) }
-{
-    option_arg(
-        alloc,
-        MAP,
-        "MAP",
-        "The file with the names of addresses, as `nm -n` prints them",
-    )
-}
-
 /// The numbers up to 18446744073709551615 that a text lists with commas, or else what is wrong with the argument of this name.
 #[tactic(auto, using(crate::proofs::Numbers::numbers_at_end, crate::proofs::Numbers::numbers_after_part, crate::proofs::Numbers::numbers_fail))]
-pub fn numbers_in(
-    alloc: Global,
-    name: &str,
-    text: &str,
-) -> Result<Result<Vec<u64>, String>, AllocError>
-    ensures { IfOk result (λ read. option_map (λ v. v.items) (result_ok read) ≡ large_numbers text.now) }
+pub fn numbers_in(alloc: Global, name: &str, text: &str) -> Result<Vec<u64>, ArgumentErr>
+    ensures { YieldsOrNothing (λ v. v.items) result (large_numbers text.now) }
 {
     let mut numbers = Vec::new(alloc);
     let mut rest = Some(text);
     'parts: while let Some(text) = rest {
         let (part, others) = first_part(text, ',');
         let Some(number) = number_within(0, u64::MAX, part) else {
-            return Ok(Err(format!(in alloc;
+            return Err(ArgumentErr::Wrong(format!(in alloc;
                 "{name}: '{part}' is no number up to 18446744073709551615"
             )?));
         };
         numbers.push(number)?;
         rest = others;
     }
-    Ok(Ok(numbers))
+    Ok(numbers)
 }
 
 /// The number up to 4294967295 that a text is, or else what is wrong with the argument of this name.
-pub fn number_in(alloc: Global, name: &str, text: &str) -> Result<Result<u32, String>, AllocError>
-    ensures { IfOk result (λ read. result_ok read ≡ small_number text.now) }
+pub fn number_in(alloc: Global, name: &str, text: &str) -> Result<u32, ArgumentErr>
+    ensures { YieldsOrNothing (λ v. v) result (small_number text.now) }
 {
     match number_within(0, u32::MAX as u64, text) {
-        Some(number) => Ok(Ok(number as u32)),
-        None => Ok(Err(format!(in alloc; "{name}: '{text}' is no number up to 4294967295")?)),
+        Some(number) => Ok(number as u32),
+        None => Err(ArgumentErr::Wrong(format!(in alloc;
+            "{name}: '{text}' is no number up to 4294967295"
+        )?)),
     }
 }
 
@@ -166,14 +153,11 @@ pub fn given_number(
     matches: &ArgMatches<'_>,
     argument: &str,
     name: &str,
-) -> Result<Result<Option<u32>, String>, AllocError>
-    ensures { IfOk result (λ read. result_ok read ≡ if_given small_number (first_given (rows_of_matches matches.now) argument.now)) }
+) -> Result<Option<u32>, ArgumentErr>
+    ensures { YieldsOrNothing (λ v. v) result (if_given small_number (first_given (rows_of_matches matches.now) argument.now)) }
 {
-    let Some(text) = given(matches, argument) else {
-        return Ok(Ok(None));
-    };
-    match number_in(alloc, name, text)? {
-        Ok(number) => Ok(Ok(Some(number))),
-        Err(why) => Ok(Err(why)),
+    match given(matches, argument) {
+        Some(text) => Ok(Some(number_in(alloc, name, text)?)),
+        None => Ok(None),
     }
 }

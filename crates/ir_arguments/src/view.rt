@@ -1,26 +1,23 @@
 //! The arguments of `ir view`.
 
-ghost use Rattle.std.specs.Prelude.{◌≡◌, codes, map, IfOk};
-ghost use Rattle.std.specs.Result.{result_ok};
+ghost use Rattle.std.specs.Prelude.{codes, map};
 ghost use Rattle.ir_arguments.specs.Reading.{large_number};
 ghost use Rattle.ir_arguments.specs.Asking.{picture_asked, part_asked, part_of_texts};
-ghost use Rattle.ir_arguments.specs.Values.{rows_of_matches, text_for};
-ghost use Rattle.ir_arguments.specs.Views.{request_view};
-ghost use Rattle.ir_arguments.specs.Parser.{IsArgument, and_rules, app_in, flag, option_or, pair, rules_of};
-ghost use Rattle.ir_arguments.specs.declared.subcommands.Subcommand.TheVariants as sub;
+ghost use Rattle.ir_arguments.specs.Values.{YieldsOrNothing, rows_of_matches, text_for};
+ghost use Rattle.ir_arguments.specs.Views.{AsksFor};
 
+use crate::argument_err::ArgumentErr;
 use crate::asked::{Asked, Print};
-use crate::bonds::{Bond, Named};
-use crate::forms::{flag_arg, option_or_arg, with_arg};
+use crate::bonds::Bond;
+use crate::forms::Form;
 use crate::options::no_number;
 use crate::subcommands::Row;
 use crate::values::{
-    FROM_IMAGE, TRACE, file_arg, from_image_arg, given_text, has_flag, number_in, text_for,
-    text_of, texts_for,
+    FROM_IMAGE, TRACE, TRACE_FORM, given_text, has_flag, number_in, text_for, text_of, texts_for,
 };
-use clap::{Arg, ArgMatches, Command};
+use clap::ArgMatches;
 use ir_record_command::number_within;
-use std::alloc::{AllocError, Global};
+use std::alloc::Global;
 
 /// What follows the help of `ir view`.
 pub const VIEW_AFTER: &str =
@@ -42,16 +39,30 @@ that the trace doesn't have, 3 a refused trace or image, 4 an incoherent trace, 
 boxes.
 ";
 
-/// What the help says of it, beside its arguments.
-pub fn row<'a>() -> Row<'a>
-    ensures { result.name.now ≡ codes "view" }
-{
-    Row {
-        name: "view",
-        about: "Prints a picture of a trace as an HTML page",
-        after: VIEW_AFTER,
-    }
-}
+/// What the help says of it, and its arguments.
+pub const ROW: Row<'static> = Row {
+    name: "view",
+    about: "Prints a picture of a trace as an HTML page",
+    after: VIEW_AFTER,
+    forms: &[
+        TRACE_FORM,
+        Form::Flag(JSON, "Prints only the data of the page"),
+        Form::Flag(CHROME, "Prints events in the Trace Event format"),
+        Form::Event(AROUND, "Shows only the boxes near event E of thread T"),
+        Form::ValuedOr(
+            SPAN,
+            "N",
+            "1000",
+            "How near: boxes that start at most N places left or right of that event's box",
+        ),
+        Form::Valued(
+            FROM_IMAGE,
+            "IMAGE",
+            "The file with the image, or an ELF file of the guest: boxes from entering to leaving, their steps, and only stale writes that rest on what was read",
+        ),
+    ],
+    bonds: &[Bond::Excludes(CHROME, JSON), Bond::Needs(SPAN, AROUND)],
+};
 
 const JSON: &str = "json";
 
@@ -87,143 +98,47 @@ pub struct ViewArguments {
     pub image: Option<String>,
 }
 
-fn json_arg<'a>(alloc: Global) -> Arg<'a>
-    ensures { IsArgument result (flag (codes "json")) }
-{
-    flag_arg(alloc, JSON, "Prints only the data of the page")
-}
-
-fn chrome_arg<'a>(alloc: Global) -> Arg<'a>
-    ensures { IsArgument result (flag (codes "chrome")) }
-{
-    flag_arg(alloc, CHROME, "Prints events in the Trace Event format")
-}
-
-fn around_arg<'a>(alloc: Global) -> Arg<'a>
-    ensures { IsArgument result (pair (codes "around")) }
-{
-    Arg::new(alloc, AROUND)
-        .long(AROUND)
-        .num_args(2)
-        .value_names(&["T", "E"])
-        .help("Shows only the boxes near event E of thread T")
-}
-
-fn span_arg<'a>(alloc: Global) -> Arg<'a>
-    ensures { IsArgument result (option_or (codes "span") (codes "1000")) }
-{
-    option_or_arg(
-        alloc,
-        SPAN,
-        "N",
-        "1000",
-        "How near: boxes that start at most N places left or right of that event's box",
-    )
-}
-
-// The arguments of which not all may be given together, as messages show them.
-const THE_JSON: Named<'static> = Named {
-    id: JSON,
-    shown: "--json",
-};
-
-const THE_CHROME: Named<'static> = Named {
-    id: CHROME,
-    shown: "--chrome",
-};
-
-const THE_SPAN: Named<'static> = Named {
-    id: SPAN,
-    shown: "--span <N>",
-};
-
-const THE_EVENT: Named<'static> = Named {
-    id: AROUND,
-    shown: "--around <T> <E>",
-};
-
-/// Which arguments exclude each other, and which need others.
-pub const BONDS: [Bond<'static>; 2] = [
-    Bond::Excludes(THE_CHROME, THE_JSON),
-    Bond::Needs(THE_SPAN, THE_EVENT),
-];
-
-/// The command with its arguments.
-pub fn with_arguments<'a>(alloc: Global, command: Command<'a>) -> Result<Command<'a>, AllocError>
-    ensures { IfOk result (λ c. app_in c ≡ and_rules (app_in command.entry) (rules_of sub.View)) }
-{
-    let command = with_arg(command, file_arg(alloc, TRACE, "The file with the trace"))?;
-    let command = with_arg(command, json_arg(alloc))?;
-    let command = with_arg(command, chrome_arg(alloc))?;
-    let command = with_arg(command, around_arg(alloc))?;
-    let command = with_arg(command, span_arg(alloc))?;
-    with_arg(
-        command,
-        from_image_arg(
-            alloc,
-            "The file with the image, or an ELF file of the guest: boxes from entering to leaving, their steps, and only stale writes that rest on what was read",
-        ),
-    )
-}
-
 // How far the part goes, or else what is wrong with the number.
-fn span_of(alloc: Global, matches: &ArgMatches<'_>) -> Result<Result<u64, String>, AllocError>
-    ensures { IfOk result (λ read. result_ok read ≡ large_number (text_for (rows_of_matches matches.now) (codes "span"))) }
+fn span_of(alloc: Global, matches: &ArgMatches<'_>) -> Result<u64, ArgumentErr>
+    ensures { YieldsOrNothing (λ v. v) result (large_number (text_for (rows_of_matches matches.now) (codes "span"))) }
 {
     let text = text_for(matches, SPAN);
     match number_within(0, u64::MAX, text) {
-        Some(span) => Ok(Ok(span)),
-        None => Ok(Err(no_number(alloc, SPAN, text, u64::MAX)?)),
+        Some(span) => Ok(span),
+        None => Err(ArgumentErr::Wrong(no_number(alloc, SPAN, text, u64::MAX)?)),
     }
 }
 
 // The part around the event that two texts give, or else what is wrong with them.
-fn part_around(
-    alloc: Global,
-    span: u64,
-    texts: &[&str],
-) -> Result<Result<Option<Part>, String>, AllocError>
-    ensures { IfOk result (λ read. result_ok read ≡ part_of_texts span (map (λ s. s.now) texts.now)) }
+fn part_around(alloc: Global, span: u64, texts: &[&str]) -> Result<Option<Part>, ArgumentErr>
+    ensures { YieldsOrNothing (λ v. v) result (part_of_texts span (map (λ s. s.now) texts.now)) }
 {
     let [thread, event] = texts else {
-        return Ok(Ok(None));
+        return Ok(None);
     };
-    let thread = match number_in(alloc, "--around", thread)? {
-        Ok(thread) => thread,
-        Err(why) => return Ok(Err(why)),
-    };
-    match number_in(alloc, "--around", event)? {
-        Ok(event) => Ok(Ok(Some(Part {
-            thread,
-            event,
-            span,
-        }))),
-        Err(why) => Ok(Err(why)),
-    }
+    let thread = number_in(alloc, "--around", thread)?;
+    let event = number_in(alloc, "--around", event)?;
+    Ok(Some(Part {
+        thread,
+        event,
+        span,
+    }))
 }
 
 // The part that is asked for, if one is, or else what is wrong with it.
-fn part_of(
-    alloc: Global,
-    matches: &ArgMatches<'_>,
-) -> Result<Result<Option<Part>, String>, AllocError>
-    ensures { IfOk result (λ read. result_ok read ≡ part_asked (rows_of_matches matches.now)) }
+fn part_of(alloc: Global, matches: &ArgMatches<'_>) -> Result<Option<Part>, ArgumentErr>
+    ensures { YieldsOrNothing (λ v. v) result (part_asked (rows_of_matches matches.now)) }
 {
-    match span_of(alloc, matches)? {
-        Ok(span) => part_around(alloc, span, texts_for(matches, AROUND)),
-        Err(why) => Ok(Err(why)),
-    }
+    let span = span_of(alloc, matches)?;
+    part_around(alloc, span, texts_for(matches, AROUND))
 }
 
 /// What its arguments ask for.
 #[tactic(auto, unfolding(crate::specs::Asking::picture_in))]
-pub fn asked(alloc: Global, matches: &ArgMatches<'_>) -> Result<Asked, AllocError>
-    ensures { IfOk result (λ asked. request_view asked ≡ picture_asked (rows_of_matches matches.now)) }
+pub fn asked(alloc: Global, matches: &ArgMatches<'_>) -> Result<Asked, ArgumentErr>
+    ensures { AsksFor picture_asked matches.now result }
 {
-    let part = match part_of(alloc, matches)? {
-        Ok(part) => part,
-        Err(why) => return Ok(Asked::Nothing(why)),
-    };
+    let part = part_of(alloc, matches)?;
     Ok(Asked::Print(Print::View(ViewArguments {
         trace: text_of(alloc, matches, TRACE)?,
         json: has_flag(matches, JSON),

@@ -1,22 +1,18 @@
 //! The arguments of `ir who`.
 
-ghost use Rattle.std.specs.Prelude.{◌≡◌, IfOk, codes};
 ghost use Rattle.ir_arguments.specs.Asking.{versions_asked};
-ghost use Rattle.ir_arguments.specs.Values.{rows_of_matches};
-ghost use Rattle.ir_arguments.specs.Views.{request_view};
-ghost use Rattle.ir_arguments.specs.Parser.{IsArgument, and_rules, app_in, option, rules_of};
-ghost use Rattle.ir_arguments.specs.declared.subcommands.Subcommand.TheVariants as sub;
+ghost use Rattle.ir_arguments.specs.Views.{AsksFor};
 
+use crate::argument_err::ArgumentErr;
 use crate::asked::{Asked, Print};
-use crate::bonds::{Bond, Named};
-use crate::forms::{option_arg, place_arg, with_arg};
+use crate::bonds::Bond;
+use crate::forms::Form;
 use crate::subcommands::Row;
 use crate::values::{
-    FROM_IMAGE, TRACE, file_arg, from_image_arg, given_number, given_text, number_in, text_for,
-    text_of,
+    FROM_IMAGE, TRACE, TRACE_FORM, given_number, given_text, number_in, text_for, text_of,
 };
-use clap::{Arg, ArgMatches, Command};
-use std::alloc::{AllocError, Global};
+use clap::ArgMatches;
+use std::alloc::Global;
 
 /// What follows the help of `ir who`.
 pub const WHO_AFTER: &str =
@@ -37,16 +33,34 @@ Exit status: 0 printed, 1 a file that can't be read or standard output that can'
 version or a word that isn't there, 3 a refused image or trace, 4 an incoherent trace, or a trace of no run of the image.
 ";
 
-/// What the help says of it, beside its arguments.
-pub fn row<'a>() -> Row<'a>
-    ensures { result.name.now ≡ codes "who" }
-{
-    Row {
-        name: "who",
-        about: "Prints who made and who read the versions of an object",
-        after: WHO_AFTER,
-    }
-}
+/// What the help says of it, and its arguments.
+pub const ROW: Row<'static> = Row {
+    name: "who",
+    about: "Prints who made and who read the versions of an object",
+    after: WHO_AFTER,
+    forms: &[
+        TRACE_FORM,
+        Form::NeededPlace(OBJECT, "The number of the object"),
+        Form::Place(
+            VERSION_NUMBER,
+            "The number of the version; without it all versions are printed",
+        ),
+        Form::Valued(
+            FROM_IMAGE,
+            "IMAGE",
+            "The file with the image, or an ELF file of the guest: the steps of the events",
+        ),
+        Form::Valued(
+            WORD,
+            "K",
+            "The number of a word of the object: only the versions that change it",
+        ),
+    ],
+    bonds: &[
+        Bond::Excludes(WORD, VERSION_NUMBER),
+        Bond::Needs(WORD, FROM_IMAGE),
+    ],
+};
 
 /// The number of the object.
 const OBJECT: &str = "O";
@@ -72,80 +86,14 @@ pub struct WhoArguments {
     pub image: Option<String>,
 }
 
-fn word_arg<'a>(alloc: Global) -> Arg<'a>
-    ensures { IsArgument result (option (codes "word")) }
-{
-    option_arg(
-        alloc,
-        WORD,
-        "K",
-        "The number of a word of the object: only the versions that change it",
-    )
-}
-
-// The arguments of which not all may be given together, as messages show them.
-const THE_WORD: Named<'static> = Named {
-    id: WORD,
-    shown: "--word <K>",
-};
-
-const THE_VERSION: Named<'static> = Named {
-    id: VERSION_NUMBER,
-    shown: "[V]",
-};
-
-const THE_IMAGE: Named<'static> = Named {
-    id: FROM_IMAGE,
-    shown: "--image <IMAGE>",
-};
-
-/// Which arguments exclude each other, and which need others.
-pub const BONDS: [Bond<'static>; 2] = [
-    Bond::Excludes(THE_WORD, THE_VERSION),
-    Bond::Needs(THE_WORD, THE_IMAGE),
-];
-
-/// The command with its arguments.
-pub fn with_arguments<'a>(alloc: Global, command: Command<'a>) -> Result<Command<'a>, AllocError>
-    ensures { IfOk result (λ c. app_in c ≡ and_rules (app_in command.entry) (rules_of sub.Who)) }
-{
-    let command = with_arg(command, file_arg(alloc, TRACE, "The file with the trace"))?;
-    let command = with_arg(command, file_arg(alloc, OBJECT, "The number of the object"))?;
-    let command = with_arg(
-        command,
-        place_arg(
-            alloc,
-            VERSION_NUMBER,
-            "The number of the version; without it all versions are printed",
-        ),
-    )?;
-    let command = with_arg(
-        command,
-        from_image_arg(
-            alloc,
-            "The file with the image, or an ELF file of the guest: the steps of the events",
-        ),
-    )?;
-    with_arg(command, word_arg(alloc))
-}
-
 /// What its arguments ask for.
 #[tactic(auto, unfolding(crate::specs::Asking::versions_in))]
-pub fn asked(alloc: Global, matches: &ArgMatches<'_>) -> Result<Asked, AllocError>
-    ensures { IfOk result (λ asked. request_view asked ≡ versions_asked (rows_of_matches matches.now)) }
+pub fn asked(alloc: Global, matches: &ArgMatches<'_>) -> Result<Asked, ArgumentErr>
+    ensures { AsksFor versions_asked matches.now result }
 {
-    let object = match number_in(alloc, OBJECT, text_for(matches, OBJECT))? {
-        Ok(object) => object,
-        Err(why) => return Ok(Asked::Nothing(why)),
-    };
-    let version = match given_number(alloc, matches, VERSION_NUMBER, VERSION_NUMBER)? {
-        Ok(version) => version,
-        Err(why) => return Ok(Asked::Nothing(why)),
-    };
-    let word = match given_number(alloc, matches, WORD, "--word")? {
-        Ok(word) => word,
-        Err(why) => return Ok(Asked::Nothing(why)),
-    };
+    let object = number_in(alloc, OBJECT, text_for(matches, OBJECT))?;
+    let version = given_number(alloc, matches, VERSION_NUMBER, VERSION_NUMBER)?;
+    let word = given_number(alloc, matches, WORD, "--word")?;
     Ok(Asked::Print(Print::Who(WhoArguments {
         trace: text_of(alloc, matches, TRACE)?,
         object,

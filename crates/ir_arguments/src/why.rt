@@ -1,24 +1,21 @@
 //! The arguments of `ir why`.
 
-ghost use Rattle.std.specs.Prelude.{◌≡◌, codes, option_map, IfOk};
-ghost use Rattle.std.specs.Result.{result_ok};
+ghost use Rattle.std.specs.Prelude.{codes, option_map};
 ghost use Rattle.ir_arguments.specs.Reading.{if_given, large_numbers, small_number};
 ghost use Rattle.ir_arguments.specs.Asking.{reasons_asked};
-ghost use Rattle.ir_arguments.specs.Values.{rows_of_matches, first_given, text_for};
-ghost use Rattle.ir_arguments.specs.Views.{request_view};
-ghost use Rattle.ir_arguments.specs.Parser.{IsArgument, and_rules, app_in, option, option_or, rules_of};
-ghost use Rattle.ir_arguments.specs.declared.subcommands.Subcommand.TheVariants as sub;
+ghost use Rattle.ir_arguments.specs.Values.{YieldsOrNothing, rows_of_matches, first_given, text_for};
+ghost use Rattle.ir_arguments.specs.Views.{AsksFor};
 
+use crate::argument_err::ArgumentErr;
 use crate::asked::{Asked, Print};
-use crate::bonds::{Bond, Named};
-use crate::forms::{option_arg, option_or_arg, with_arg};
+use crate::bonds::Bond;
+use crate::forms::Form;
 use crate::subcommands::Row;
 use crate::values::{
-    FROM_IMAGE, TRACE, file_arg, from_image_arg, given, given_text, number_in, numbers_in,
-    text_for, text_of,
+    FROM_IMAGE, TRACE, TRACE_FORM, given, given_text, number_in, numbers_in, text_for, text_of,
 };
-use clap::{Arg, ArgMatches, Command};
-use std::alloc::{AllocError, Global};
+use clap::ArgMatches;
+use std::alloc::Global;
 
 /// What follows the help of `ir why`.
 pub const WHY_AFTER: &str =
@@ -43,16 +40,29 @@ the trace doesn't have, or positions that are no consistent cut, 3 a refused ima
 or a trace of no run of the image.
 ";
 
-/// What the help says of it, beside its arguments.
-pub fn row<'a>() -> Row<'a>
-    ensures { result.name.now ≡ codes "why" }
-{
-    Row {
-        name: "why",
-        about: "Prints what an event needs, and the chain of waits that led to it",
-        after: WHY_AFTER,
-    }
-}
+/// What the help says of it, and its arguments.
+pub const ROW: Row<'static> = Row {
+    name: "why",
+    about: "Prints what an event needs, and the chain of waits that led to it",
+    after: WHY_AFTER,
+    forms: &[
+        TRACE_FORM,
+        Form::NeededPlace(THREAD, "The number of the thread"),
+        Form::NeededPlace(EVENT, "The number of the event in the thread's log, from 0"),
+        Form::ValuedOr(LINES, "N", "20", "The most lines of the chain of waits"),
+        Form::Valued(
+            FROM_IMAGE,
+            "IMAGE",
+            "The file with the image, or an ELF file of the guest: the steps of the events and of the leaves, the least cut that has the event, and waits of threads that held an object",
+        ),
+        Form::Valued(
+            AT,
+            "P0,P1,..",
+            "The positions of a consistent cut, a position for each thread: tells if what is needed has been left there",
+        ),
+    ],
+    bonds: &[Bond::Needs(AT, FROM_IMAGE)],
+};
 
 /// The number of the thread.
 const THREAD: &str = "T";
@@ -81,115 +91,37 @@ pub struct WhyArguments {
     pub at: Option<Vec<u64>>,
 }
 
-fn lines_arg<'a>(alloc: Global) -> Arg<'a>
-    ensures { IsArgument result (option_or (codes "lines") (codes "20")) }
-{
-    option_or_arg(
-        alloc,
-        LINES,
-        "N",
-        "20",
-        "The most lines of the chain of waits",
-    )
-}
-
-fn at_arg<'a>(alloc: Global) -> Arg<'a>
-    ensures { IsArgument result (option (codes "at")) }
-{
-    option_arg(
-        alloc,
-        AT,
-        "P0,P1,..",
-        "The positions of a consistent cut, a position for each thread: tells if what is needed has been left there",
-    )
-}
-
-/// Which arguments need others.
-pub const BONDS: [Bond<'static>; 1] = [Bond::Needs(
-    Named {
-        id: AT,
-        shown: "--at <P0,P1,..>",
-    },
-    Named {
-        id: FROM_IMAGE,
-        shown: "--image <IMAGE>",
-    },
-)];
-
-/// The command with its arguments.
-pub fn with_arguments<'a>(alloc: Global, command: Command<'a>) -> Result<Command<'a>, AllocError>
-    ensures { IfOk result (λ c. app_in c ≡ and_rules (app_in command.entry) (rules_of sub.Why)) }
-{
-    let command = with_arg(command, file_arg(alloc, TRACE, "The file with the trace"))?;
-    let command = with_arg(command, file_arg(alloc, THREAD, "The number of the thread"))?;
-    let command = with_arg(
-        command,
-        file_arg(
-            alloc,
-            EVENT,
-            "The number of the event in the thread's log, from 0",
-        ),
-    )?;
-    let command = with_arg(command, lines_arg(alloc))?;
-    let command = with_arg(
-        command,
-        from_image_arg(
-            alloc,
-            "The file with the image, or an ELF file of the guest: the steps of the events and of the leaves, the least cut that has the event, and waits of threads that held an object",
-        ),
-    )?;
-    with_arg(command, at_arg(alloc))
-}
-
 // The number of an argument, or else what is wrong with it.
 fn number_of(
     alloc: Global,
     matches: &ArgMatches<'_>,
     argument: &str,
     name: &str,
-) -> Result<Result<u32, String>, AllocError>
-    ensures { IfOk result (λ read. result_ok read ≡ small_number (text_for (rows_of_matches matches.now) argument.now)) }
+) -> Result<u32, ArgumentErr>
+    ensures { YieldsOrNothing (λ v. v) result (small_number (text_for (rows_of_matches matches.now) argument.now)) }
 {
     number_in(alloc, name, text_for(matches, argument))
 }
 
 // The positions of a cut, if they are given, or else what is wrong with them.
-fn positions_of(
-    alloc: Global,
-    matches: &ArgMatches<'_>,
-) -> Result<Result<Option<Vec<u64>>, String>, AllocError>
-    ensures { IfOk result (λ read. option_map (option_map (λ v. v.items)) (result_ok read) ≡ if_given large_numbers (first_given (rows_of_matches matches.now) (codes "at"))) }
+fn positions_of(alloc: Global, matches: &ArgMatches<'_>) -> Result<Option<Vec<u64>>, ArgumentErr>
+    ensures { YieldsOrNothing (option_map (λ v. v.items)) result (if_given large_numbers (first_given (rows_of_matches matches.now) (codes "at"))) }
 {
-    let Some(text) = given(matches, AT) else {
-        return Ok(Ok(None));
-    };
-    match numbers_in(alloc, "--at", text)? {
-        Ok(positions) => Ok(Ok(Some(positions))),
-        Err(why) => Ok(Err(why)),
+    match given(matches, AT) {
+        Some(text) => Ok(Some(numbers_in(alloc, "--at", text)?)),
+        None => Ok(None),
     }
 }
 
 /// What its arguments ask for.
 #[tactic(auto, unfolding(crate::specs::Asking::reasons_in))]
-pub fn asked(alloc: Global, matches: &ArgMatches<'_>) -> Result<Asked, AllocError>
-    ensures { IfOk result (λ asked. request_view asked ≡ reasons_asked (rows_of_matches matches.now)) }
+pub fn asked(alloc: Global, matches: &ArgMatches<'_>) -> Result<Asked, ArgumentErr>
+    ensures { AsksFor reasons_asked matches.now result }
 {
-    let thread = match number_of(alloc, matches, THREAD, THREAD)? {
-        Ok(thread) => thread,
-        Err(why) => return Ok(Asked::Nothing(why)),
-    };
-    let event = match number_of(alloc, matches, EVENT, EVENT)? {
-        Ok(event) => event,
-        Err(why) => return Ok(Asked::Nothing(why)),
-    };
-    let lines = match number_of(alloc, matches, LINES, "--lines")? {
-        Ok(lines) => lines,
-        Err(why) => return Ok(Asked::Nothing(why)),
-    };
-    let at = match positions_of(alloc, matches)? {
-        Ok(at) => at,
-        Err(why) => return Ok(Asked::Nothing(why)),
-    };
+    let thread = number_of(alloc, matches, THREAD, THREAD)?;
+    let event = number_of(alloc, matches, EVENT, EVENT)?;
+    let lines = number_of(alloc, matches, LINES, "--lines")?;
+    let at = positions_of(alloc, matches)?;
     Ok(Asked::Print(Print::Why(WhyArguments {
         trace: text_of(alloc, matches, TRACE)?,
         thread,

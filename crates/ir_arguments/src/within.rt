@@ -1,26 +1,39 @@
 //! The arguments of `ir explore --within` and `--only`.
 
-ghost use Rattle.std.specs.Prelude.{◌≡◌, Some, None, codes, option_map, IfOk, MatchBool};
-ghost use Rattle.std.specs.Result.{result_ok};
+ghost use Rattle.std.specs.Prelude.{◌≡◌, Some, None, codes, IfOk, MatchBool};
 ghost use Rattle.std.specs.String.{string_bytes};
 ghost use Rattle.ir_arguments.specs.Exploring.{parts_given, parts_listed, parts_taken, with_part};
-ghost use Rattle.ir_arguments.specs.Values.{rows_of_matches, first_given, text_for};
+ghost use Rattle.ir_arguments.specs.Values.{YieldsOrNothing, rows_of_matches, first_given, text_for};
 ghost use Rattle.ir_arguments.specs.Views.{parts_view, taken_view};
-ghost use Rattle.ir_arguments.specs.Parser.{IsArgument, option};
 
+use crate::argument_err::ArgumentErr;
 use crate::explore::ExploreArguments;
-use crate::forms::option_arg;
+use crate::forms::Form;
 use crate::texts::first_part;
 use crate::values::{UNTIL, given, text_of};
-use clap::{Arg, ArgMatches};
+use clap::ArgMatches;
 use ir_record_command::number_within;
 use std::alloc::{AllocError, Global};
 
-/// The option that names the image of the other guest.
+/// The name of the option that names the image of the other guest.
 pub const WITHIN: &str = "within";
 
-/// The option that says what of outcomes counts.
+/// The name of the option that says what of outcomes counts.
 pub const ONLY: &str = "only";
+
+/// The option that names the image of the other guest.
+pub const WITHIN_FORM: Form<'static> = Form::Valued(
+    WITHIN,
+    "OTHER",
+    "The file with the image of another guest, or its ELF file: print the outcomes that it doesn't have",
+);
+
+/// The option that says what of outcomes counts.
+pub const ONLY_FORM: Form<'static> = Form::Valued(
+    ONLY,
+    "PARTS",
+    "What of outcomes counts, with commas between: out, codes, objects, or the number of an object",
+);
 
 // The greatest number of an object.
 const LAST_OBJECT: u64 = 63;
@@ -67,28 +80,6 @@ pub struct ClassesArguments {
     pub counted: Counted,
 }
 
-pub fn within_arg<'a>(alloc: Global) -> Arg<'a>
-    ensures { IsArgument result (option (codes "within")) }
-{
-    option_arg(
-        alloc,
-        WITHIN,
-        "OTHER",
-        "The file with the image of another guest, or its ELF file: print the outcomes that it doesn't have",
-    )
-}
-
-pub fn only_arg<'a>(alloc: Global) -> Arg<'a>
-    ensures { IsArgument result (option (codes "only")) }
-{
-    option_arg(
-        alloc,
-        ONLY,
-        "PARTS",
-        "What of outcomes counts, with commas between: out, codes, objects, or the number of an object",
-    )
-}
-
 // What counts by the parts so far.
 #[derive(Drop)]
 struct Taken {
@@ -129,8 +120,8 @@ fn counted_by(taken: Taken) -> Counted
 
 // What counts by the parts that a text lists, or what is wrong with it.
 #[tactic(auto, using(crate::proofs::Parts::parts_after_part, crate::proofs::Parts::parts_fail))]
-fn counted_in(alloc: Global, text: &str) -> Result<Result<Counted, String>, AllocError>
-    ensures { IfOk result (λ read. option_map parts_view (result_ok read) ≡ parts_listed text.now) }
+fn counted_in(alloc: Global, text: &str) -> Result<Counted, ArgumentErr>
+    ensures { YieldsOrNothing parts_view result (parts_listed text.now) }
 {
     let mut taken = Taken {
         outputs: false,
@@ -142,29 +133,26 @@ fn counted_in(alloc: Global, text: &str) -> Result<Result<Counted, String>, Allo
     'parts: while let Some(text) = rest {
         let (part, others) = first_part(text, ',');
         if !take_part(&mut taken, part)? {
-            return Ok(Err(format!(in alloc;
+            return Err(ArgumentErr::Wrong(format!(in alloc;
                 "--{ONLY}: '{part}' isn't out, codes, objects or the number of an object up to {LAST_OBJECT}"
             )?));
         }
         rest = others;
     }
-    Ok(Ok(counted_by(taken)))
+    Ok(counted_by(taken))
 }
 
 /// What counts of outcomes, all of them without the option; or what is wrong with it.
-pub fn counted_of(
-    alloc: Global,
-    matches: &ArgMatches<'_>,
-) -> Result<Result<Counted, String>, AllocError>
-    ensures { IfOk result (λ read. option_map parts_view (result_ok read) ≡ parts_given (first_given (rows_of_matches matches.now) (codes "only"))) }
+pub fn counted_of(alloc: Global, matches: &ArgMatches<'_>) -> Result<Counted, ArgumentErr>
+    ensures { YieldsOrNothing parts_view result (parts_given (first_given (rows_of_matches matches.now) (codes "only"))) }
 {
     match given(matches, ONLY) {
         Some(text) => counted_in(alloc, text),
-        None => Ok(Ok(Counted {
+        None => Ok(Counted {
             outputs: true,
             ends: true,
             objects: None,
-        })),
+        }),
     }
 }
 

@@ -1,4 +1,5 @@
 pub mod CallerLemmas
+mod Counted
 mod Explored
 mod Kept
 mod Listed

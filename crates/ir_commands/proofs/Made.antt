@@ -39,7 +39,7 @@ bad_is_none_of (inr (inr r)) b = let bad : 2 ≡ 3 = sym (ap status_number b) �
 
 -- ---- standard error
 
--- what a call that made a file left standard error as, or failed in: a line that is told after it tells all
+-- if a call left standard error as it was, or standard error failed, a line that is reported after the call is reported since before it
 pub told_since : {T : Type 0} (written : T → Option (List ℕ)) (broken : T → Bool) (first ran last : T) → (ran ≡ first) ⊎ (broken ran ≡ true)
     → IsTold (writer_of (written ran) (written last) (broken last)) → (broken ran ≡ true → broken last ≡ true)
     → IsTold (writer_of (written first) (written last) (broken last))

@@ -10,11 +10,12 @@ use Rattle.ir_files.specs.declared.exit_status.ExitStatus.TheVariants as status
 use Rattle.ir_record_command.specs.Stopping.{Tellings, Devices, lines_between}
 use Rattle.ir_explore.specs.Until.{recording}
 use Rattle.ir_explore.specs.declared.fault.ExploreFault.TheVariants as explore
+use Rattle.ir_thread.specs.declared.profile.Profile.{Profile}
 use Rattle.ir_within.specs.Faults.{Comparison, ToldNone, within_fault_status}
 use Rattle.ir_within.specs.Outside.{StopsOutside}
 use Rattle.ir_within.specs.declared.fault.WithinFault.{WithinFault}
 use Rattle.ir_within.specs.declared.fault.WithinFault.TheVariants as within
-use Rattle.ir_commands.specs.Exploring.{AsksComparison, IsInput, IsPlanOf, IsStatusOfNoComparison, LacksCounted, LacksIn, counted_asked}
+use Rattle.ir_commands.specs.Exploring.{AsksComparison, IsComparisonOf, IsInput, IsPlanOf, IsStatusOfLack, IsStatusOfNoComparison, LacksCounted, LacksIn}
 use Rattle.ir_commands.specs.Files.{IsImageIn, LacksGuest, RefusesGuest}
 use Rattle.ir_commands.specs.Outside.{IsComparisonAnswer, IsComparisonAnswerTo, MissesOutside, RefusesEither, TellsNoneOutside}
 use Rattle.ir_commands.specs.Printing.{Paths}
@@ -28,17 +29,23 @@ use Rattle.ir_commands.proofs.Refused.{spelled_lacks_guest, stopped_lacks_guest}
 use Rattle.ir_commands.proofs.Stored.{reported_is_told}
 
 -- what is compared, by what was read
-pub comparison_asked : {at : Paths} {within : WithinArguments} {image other input read : List ℕ} (c : Comparison) → c.image ≡ image
-    → IsImageIn (at (string_bytes within.explore.image)) image → c.other ≡ other → IsImageIn (at (string_bytes within.other)) other
-    → IsInput at within.explore.input input → read ≡ input → IsPlanOf within.explore read c.plan → c.aspects ≡ counted_asked within.counted
+pub comparison_asked : {at : Paths} {within : WithinArguments} {image other input first second read : List ℕ} {c : Comparison}
+    → IsComparisonOf within first second read c → first ≡ image → IsImageIn (at (string_bytes within.explore.image)) image
+    → second ≡ other → IsImageIn (at (string_bytes within.other)) other → read ≡ input → IsInput at within.explore.input input
     → AsksComparison at within c
-comparison_asked {at} {within} {image} {other} {input} {read} c same is_image same_other is_other is_input got is_plan counts = record {
+comparison_asked {at} {within} {image} {other} {input} {c = c} is same is_image same_other is_other got is_input = record {
   input = input;
-  is_image = subst (IsImageIn (at (string_bytes within.explore.image))) (sym same) is_image;
-  is_other = subst (IsImageIn (at (string_bytes within.other))) (sym same_other) is_other;
+  is_image = subst (IsImageIn (at (string_bytes within.explore.image))) (sym (is.is_image ∙ same)) is_image;
+  is_other = subst (IsImageIn (at (string_bytes within.other))) (sym (is.is_other ∙ same_other)) is_other;
   is_input = is_input;
-  is_plan = subst (λ z. IsPlanOf within.explore z c.plan) got is_plan;
-  counts = counts;
+  is = record {
+    is_image = refl;
+    is_other = refl;
+    is_plan = subst (λ z. IsPlanOf within.explore z c.plan) got is.is_plan;
+    counts = is.counts;
+    has = is.has;
+    other_has = is.other_has;
+  };
 }
 
 -- why no comparison is told
@@ -104,8 +111,8 @@ outside_tells_none d answered c old new reports (inr (inr h)) =
 
 either_refused : (at : Paths) (arguments : OutsideArguments) (c : Comparison) → AsksComparison at arguments.within c
     → LacksGuest c.image c.plan.profile ⊎ LacksGuest c.other c.plan.profile → RefusesEither at arguments
-either_refused at arguments c asked (inl lacks) = inl (inr (c.image, asked.is_image, subst (λ p. LacksGuest c.image p) asked.is_plan.profile lacks))
-either_refused at arguments c asked (inr lacks) = inr (inr (c.other, asked.is_other, subst (λ p. LacksGuest c.other p) asked.is_plan.profile lacks))
+either_refused at arguments c asked (inl lacks) = inl (inr (c.image, asked.is_image, subst (λ p. LacksGuest c.image p) asked.is.is_plan.profile lacks))
+either_refused at arguments c asked (inr lacks) = inr (inr (c.other, asked.is_other, subst (λ p. LacksGuest c.other p) asked.is.is_plan.profile lacks))
 
 -- no outcome is known to be outside, or nothing was compared
 pub outside_misses : {at : Paths} {arguments : OutsideArguments} {c : Comparison} {told faults : Writer} (answered : ExitStatus) (out : Writer)
@@ -119,7 +126,18 @@ outside_misses {at} {arguments} {c} answered out asked same (inr h) =
     (none_since (either_refused at arguments c asked) (λ text x. (c, asked, x)) h))
 
 -- the guest of one of two files lacks an object whose words count
-pub either_lacks : (known others : Option (List ℕ)) {image other first second : List ℕ} (counted : Counted) → IsImageIn known image → IsImageIn others other
-    → first ≡ image → second ≡ other → LacksCounted first counted ⊎ LacksCounted second counted → LacksIn known counted ⊎ LacksIn others counted
-either_lacks known others {image} {other} counted is is_other same same_other (inl h) = inl (image, is, subst (λ z. LacksCounted z counted) same h)
-either_lacks known others {image} {other} counted is is_other same same_other (inr h) = inr (other, is_other, subst (λ z. LacksCounted z counted) same_other h)
+either_lacks : (known others : Option (List ℕ)) {image other first second : List ℕ} (profile : Profile) (counted : Counted) → IsImageIn known image
+    → IsImageIn others other → first ≡ image → second ≡ other → LacksCounted first profile counted ⊎ LacksCounted second profile counted
+    → LacksIn known profile counted ⊎ LacksIn others profile counted
+either_lacks known others {image} {other} profile counted is is_other same same_other (inl h) = inl (image, is, subst (λ z. LacksCounted z profile counted) same h)
+either_lacks known others {image} {other} profile counted is is_other same same_other (inr h) =
+    inr (other, is_other, subst (λ z. LacksCounted z profile counted) same_other h)
+
+-- the exit status where a guest of two isn't shown to have each object whose words count
+pub no_comparison_for_lack : (at : Paths) (arguments : WithinArguments) {image other first second : List ℕ} {answered : ExitStatus}
+    → IsImageIn (at (string_bytes arguments.explore.image)) image → IsImageIn (at (string_bytes arguments.other)) other → first ≡ image → second ≡ other
+    → IsStatusOfLack (LacksCounted first arguments.explore.profile arguments.counted ⊎ LacksCounted second arguments.explore.profile arguments.counted) answered
+    → IsStatusOfNoComparison at arguments answered
+no_comparison_for_lack at arguments is is_other same same_other (inl failed) = inl (inl failed)
+no_comparison_for_lack at arguments is is_other same same_other (inr h) =
+    inr (inr (h.0, either_lacks _ _ arguments.explore.profile arguments.counted is is_other same same_other h.1))

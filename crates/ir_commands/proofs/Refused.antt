@@ -24,7 +24,7 @@ use Rattle.ir_record_command.specs.declared.record_fault.RecordFault.TheVariants
 use Rattle.ir_schedule.specs.Conditions.{Condition}
 use Rattle.ir_thread.specs.State.{IsAllowed}
 use Rattle.ir_thread.specs.declared.profile.Profile.{Profile}
-use Rattle.ir_commands.specs.Files.{IsImageIn, IsNoGuest, IsStatusOfNone, LacksGuest, RefusesGuest}
+use Rattle.ir_commands.specs.Files.{IsNoGuest, IsStatusOfNone, LacksGuest}
 use Rattle.ir_commands.specs.Writing.{IsStatusOfNoRecording}
 
 pub failed_is_not_refused : {A : Type 0} → status.Failed ≡ status.Refused → A
@@ -38,7 +38,7 @@ abbrev guest_or : Guest → Result Guest ImageErr → Guest
 guest_or other (Ok guest) = guest
 guest_or other (Err e) = other
 
-guests_are_same : (a b : Guest) → ◌≡◌ {A = Result Guest ImageErr} (Ok a) (Ok b) → a ≡ b
+pub guests_are_same : (a b : Guest) → ◌≡◌ {A = Result Guest ImageErr} (Ok a) (Ok b) → a ≡ b
 guests_are_same a b e = ap (guest_or a) e
 
 lists_are_same : {a b : List ℕ} → Some a ≡ Some b → a ≡ b

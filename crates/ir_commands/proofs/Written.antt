@@ -12,7 +12,9 @@ use Rattle.ir_symbols.specs.declared.map_err.MapErr.TheVariants as fault
 use Rattle.ir_commands.specs.Conditions.{AreWritten}
 use Rattle.ir_files.specs.declared.exit_status.ExitStatus.{ExitStatus}
 use Rattle.ir_files.specs.declared.exit_status.ExitStatus.TheVariants as status
-use Rattle.ir_commands.specs.Files.{HasFaultyLine, IsFileIn, IsNoGuest, IsStatusOfNone, IsStatusOfNoNames, map_status}
+use Rattle.ir_symbols.specs.Symbols.{Symbol}
+use Rattle.ir_commands.specs.Files.{HasFaultyLine, IsFileIn, IsNoGuest, IsStatusOfNone, IsStatusOfNoNames, OfNamedImage, map_status}
+use Rattle.ir_commands.specs.Printing.{Paths}
 
 -- a further text and its condition
 pub written_more : (texts : List (List ℕ)) (conditions : List Condition) (text : List ℕ) (condition : Condition) → AreWritten texts conditions
@@ -42,3 +44,16 @@ pub read_file_status : (known : Option (List ℕ)) (file : List ℕ) (answered :
     → (answered ≡ status.Failed) ⊎ ((answered ≡ status.Refused) × IsNoGuest file) → IsStatusOfNone known answered
 read_file_status known file answered is (inl failed) = inl failed
 read_file_status known file answered is (inr h) = inr (h.0, no_guest_where_known known file is h.1)
+
+-- what holds of the bytes of an image and of names holds where they were read
+pub holds_of_named_image : {Z : Type 0} {at : Paths} {path : String Z} {file : Option (String Z)} {image : List ℕ} {names : List Symbol}
+    (P : List ℕ → List Symbol → Type 0) → OfNamedImage at path file (λ bytes symbols. (bytes ≡ image) × (symbols ≡ names)) → P image names → OfNamedImage at path file P
+holds_of_named_image {image = image} P read so = record {
+  file = read.file;
+  image = read.image;
+  names = read.names;
+  is_file = read.is_file;
+  is_image = read.is_image;
+  are_names = read.are_names;
+  so = subst (λ (bytes : List ℕ). P bytes read.names) (sym read.so.0) (subst (λ (symbols : List Symbol). P image symbols) (sym read.so.1) so);
+}

@@ -1,17 +1,19 @@
 -- What the commands print that are asked about files, by the bytes that a folder says are at the paths of their arguments.
 use Rattle.std.specs.Prelude.{◌≡◌, ◌≢◌, ◌⊎◌, ℕ, Bool, List, Option, option_map, MatchOption, String, true, false}
 use Rattle.std.specs.String.{string_bytes}
-use Rattle.ir_trace.specs.Recorded.{recorded_at}
+use Rattle.ir_fit.specs.Fit.{FittedTrace}
+use Rattle.ir_trace.specs.Recorded.{Recorded, recorded_at}
 use Rattle.ir_files.specs.Writers.{Writer, Reports, Took, fault_text}
 use Rattle.ir_files.specs.declared.exit_status.ExitStatus.{ExitStatus}
 use Rattle.ir_files.specs.declared.exit_status.ExitStatus.TheVariants as status
 use Rattle.ir_symbols.specs.Symbols.{Symbol}
 use Rattle.ir_past.specs.Answers.{Answered, NotAnswered, Stops, fault_words}
-use Rattle.ir_past.specs.Replies.{IsAnswerOf, ask_status, ask_words}
+use Rattle.ir_past.specs.Replies.{IsAnswerOf, IsTraceReply, IsTraceReplyless, ask_status, ask_words}
+use Rattle.ir_past.specs.declared.absent.Absent.{Absent}
 use Rattle.ir_past.specs.declared.ask_err.AskErr.{AskErr}
 use Rattle.ir_past.specs.Lines.{IsStaleAnswer}
 use Rattle.ir_past.specs.declared.past_err.PastErr.{PastErr}
-use Rattle.ir_opened.specs.Answers.{IsFitAnswerOf}
+use Rattle.ir_opened.specs.Answers.{IsFitAnswerOf, IsRunReply, IsRunReplyless}
 use Rattle.ir_stale_run.specs.Lines.{IsRestsAnswer}
 use Rattle.ir_who.specs.Lines.{IsWhoAnswer, IsWhoUnanswered}
 use Rattle.ir_who.specs.FitLines.{IsFitWhoAnswer, IsFitUnanswered}
@@ -40,7 +42,7 @@ use Rattle.ir_arguments.specs.declared.list.ListArguments.{ListArguments}
 use Rattle.ir_arguments.specs.declared.events.EventsArguments.{EventsArguments}
 use Rattle.ir_listing.specs.Code.{IsCodeListing, RefusesImage}
 use Rattle.ir_listing.specs.Events.{AreEventLines}
-use Rattle.ir_commands.specs.Files.{IsStatusOfNone, IsStatusOfNoNames, OfNamedImage, OfTrace, OfTraces, OfImageAndTrace, TellsFault}
+use Rattle.ir_commands.specs.Files.{IsStatusOfNone, IsStatusOfNoNames, IsUnread, OfNamedImage, OfTrace, OfTraces, OfImageAndTrace, TellsFault}
 use Rattle.ir_commands.specs.Listing.{shown_trace, listing_status}
 
 -- what the folder says is at a path
@@ -59,6 +61,20 @@ PrintedIfThere IsAnswer IsUnanswered answered out faults =
     (answered ≢ status.Failed → answered ≢ status.BadArguments → Answered IsAnswer answered out)
     × ((answered ≡ status.Failed) ⊎ (answered ≡ status.BadArguments)
     → (e : AskErr) × (answered ≡ ask_status e) × IsUnanswered e out × Reports faults (fault_text (ask_words e)))
+
+-- the answer to a question about a trace, or about a run of an image, was printed so
+abbrev pub AnswersTrace : (Recorded → ExitStatus → List ℕ → Type 0) → (Recorded → Absent → Type 0) → List ℕ → ExitStatus → Writer → Writer → Type 0
+AnswersTrace IsAnswer IsAbsent trace = PrintedIfThere (IsTraceReply IsAnswer (recorded_at trace)) (IsTraceReplyless IsAnswer IsAbsent (recorded_at trace))
+
+abbrev pub AnswersRun : (FittedTrace → ExitStatus → List ℕ → Type 0) → (FittedTrace → Absent → Type 0) → List ℕ → List ℕ → ExitStatus → Writer → Writer → Type 0
+AnswersRun IsAnswer IsAbsent image trace = PrintedIfThere (IsRunReply IsAnswer image trace) (IsRunReplyless IsAnswer IsAbsent image trace)
+
+-- this was printed of the trace in a file, or, if an image is named, this of its run
+abbrev pub PrintsOfFiles : {Y Z : Type 0} → Paths → String Y → Option (String Z) → (List ℕ → ExitStatus → Writer → Writer → Type 0)
+    → (List ℕ → List ℕ → ExitStatus → Writer → Writer → Type 0) → ExitStatus → Writer → Writer → Type 0
+PrintsOfFiles at trace image OfItsTrace OfItsRun answered out faults = MatchOption image
+    (OfTrace (at (string_bytes trace)) (λ bytes. OfItsTrace bytes answered out faults))
+    (λ path. OfImageAndTrace (at (string_bytes path)) (at (string_bytes trace)) (λ bytes others. OfItsRun bytes others answered out faults))
 
 -- `ir trace`: the lines of the trace, or why it is none; or a fault stopped them
 pub record PrintsTrace (at : Paths) (arguments : TraceArguments) (answered : ExitStatus) (out faults : Writer) : Type 0 where
@@ -88,10 +104,8 @@ IsStatusOfNoImage at path map answered = IsStatusOfNone (at (string_bytes path))
 
 -- `ir stale`: the stale writes, of an image those that rest on what was read
 abbrev pub PrintsStale : Paths → StaleArguments → ExitStatus → Writer → Writer → Type 0
-PrintsStale at arguments answered out faults = MatchOption arguments.image
-    (OfTrace (at (string_bytes arguments.trace)) (λ trace. IsPrinted (IsAnswerOf IsStaleAnswer (recorded_at trace)) answered out faults))
-    (λ image. OfImageAndTrace (at (string_bytes image)) (at (string_bytes arguments.trace)) (λ bytes trace.
-    IsPrinted (IsFitAnswerOf IsRestsAnswer bytes trace) answered out faults))
+PrintsStale at arguments = PrintsOfFiles at arguments.trace arguments.image (λ trace. IsPrinted (IsAnswerOf IsStaleAnswer (recorded_at trace)))
+    (λ image trace. IsPrinted (IsFitAnswerOf IsRestsAnswer image trace))
 
 -- what `ir who` asks
 abbrev pub who_asked : WhoArguments → who.Question
@@ -110,11 +124,9 @@ PrintsVersions image trace arguments answered out faults = MatchOption arguments
 
 -- `ir who`
 abbrev pub PrintsWho : Paths → WhoArguments → ExitStatus → Writer → Writer → Type 0
-PrintsWho at arguments answered out faults = MatchOption arguments.image
-    (OfTrace (at (string_bytes arguments.trace)) (λ trace. PrintedIfThere
-    (IsAnswerOf (IsWhoAnswer (who_asked arguments)) (recorded_at trace)) (IsWhoUnanswered (who_asked arguments) (recorded_at trace)) answered out faults))
-    (λ image. OfImageAndTrace (at (string_bytes image)) (at (string_bytes arguments.trace)) (λ bytes trace.
-    PrintsVersions bytes trace arguments answered out faults))
+PrintsWho at arguments = PrintsOfFiles at arguments.trace arguments.image
+    (λ trace. PrintedIfThere (IsAnswerOf (IsWhoAnswer (who_asked arguments)) (recorded_at trace)) (IsWhoUnanswered (who_asked arguments) (recorded_at trace)))
+    (λ image trace. PrintsVersions image trace arguments)
 
 -- what `ir why` asks
 abbrev pub why_asked : WhyArguments → why.Question
@@ -125,12 +137,9 @@ why_asked_at arguments = record { what = why_asked arguments; at = arguments.at 
 
 -- `ir why`
 abbrev pub PrintsWhy : Paths → WhyArguments → ExitStatus → Writer → Writer → Type 0
-PrintsWhy at arguments answered out faults = MatchOption arguments.image
-    (OfTrace (at (string_bytes arguments.trace)) (λ trace. PrintedIfThere
-    (IsWhyAnswer (why_asked arguments) (recorded_at trace)) (IsWhyUnanswered (why_asked arguments) (recorded_at trace)) answered out faults))
-    (λ image. OfImageAndTrace (at (string_bytes image)) (at (string_bytes arguments.trace)) (λ bytes trace.
-    PrintedIfThere (IsFitAnswerOf (IsFitReason (why_asked_at arguments)) bytes trace)
-    (IsWhyFitUnanswered (why_asked_at arguments) bytes trace) answered out faults))
+PrintsWhy at arguments = PrintsOfFiles at arguments.trace arguments.image
+    (λ trace. PrintedIfThere (IsWhyAnswer (why_asked arguments) (recorded_at trace)) (IsWhyUnanswered (why_asked arguments) (recorded_at trace)))
+    (λ image trace. PrintedIfThere (IsFitAnswerOf (IsFitReason (why_asked_at arguments)) image trace) (IsWhyFitUnanswered (why_asked_at arguments) image trace))
 
 -- `ir diff`
 abbrev pub PrintsDiff : Paths → DiffArguments → ExitStatus → Writer → Writer → Type 0
@@ -151,15 +160,18 @@ view_asked arguments = record { form = form_asked arguments.json arguments.chrom
 
 -- `ir view`
 abbrev pub PrintsView : Paths → ViewArguments → ExitStatus → Writer → Writer → Type 0
-PrintsView at arguments answered out faults = MatchOption arguments.image
-    (OfTrace (at (string_bytes arguments.trace)) (λ trace. PrintedIfThere
-    (IsViewAnswer (view_asked arguments) (recorded_at trace)) (IsViewUnanswered (view_asked arguments) (recorded_at trace)) answered out faults))
-    (λ image. OfImageAndTrace (at (string_bytes image)) (at (string_bytes arguments.trace)) (λ bytes trace.
-    PrintedIfThere (IsRunViewAnswer (view_asked arguments) bytes trace)
-    (IsRunViewUnanswered (view_asked arguments) bytes trace) answered out faults))
+PrintsView at arguments = PrintsOfFiles at arguments.trace arguments.image
+    (λ trace. PrintedIfThere (IsViewAnswer (view_asked arguments) (recorded_at trace)) (IsViewUnanswered (view_asked arguments) (recorded_at trace)))
+    (λ image trace. PrintedIfThere (IsRunViewAnswer (view_asked arguments) image trace) (IsRunViewUnanswered (view_asked arguments) image trace))
 
 -- no answer is printed where a file isn't read, and a line tells why
 pub record LeavesUnread (is_status is_kept : Type 0) (faults : Writer) : Type 0 where
   pub status : is_status
   pub kept : is_kept
   pub told : TellsFault faults
+
+-- questions about the trace in a file, and about its run if an image is named, were answered so; or a file isn't read
+abbrev pub AnswersFiles : {Y Z : Type 0} → Paths → String Y → Option (String Z) → (List ℕ → ExitStatus → Writer → Writer → Type 0)
+    → (List ℕ → List ℕ → ExitStatus → Writer → Writer → Type 0) → ExitStatus → Writer → Writer → Type 0 → Type 0
+AnswersFiles at trace image OfItsTrace OfItsRun answered out faults unprinted =
+    PrintsOfFiles at trace image OfItsTrace OfItsRun answered out faults ⊎ LeavesUnread (IsUnread at image answered) unprinted faults

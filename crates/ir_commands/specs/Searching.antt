@@ -1,5 +1,5 @@
 -- What the commands that look for a run leave, by the bytes that a folder says are at the paths of their arguments.
-use Rattle.std.specs.Prelude.{◌≡◌, ◌⊎◌, ℕ, Bool, true, false, List, [], ◌++◌, Option, Some, None, Result, Ok, Err, length, map, nat_lt, IfSome}
+use Rattle.std.specs.Prelude.{◌≡◌, ◌⊎◌, ℕ, Bool, true, false, List, [], Option, Some, None, Result, Ok, Err, length, map, nat_lt, IfSome}
 use Rattle.std.specs.String.{string_bytes}
 use Rattle.ir_arguments.specs.declared.explore.UntilArguments.{UntilArguments}
 use Rattle.ir_arguments.specs.declared.hunt.HuntArguments.{HuntArguments}

@@ -7,7 +7,7 @@ ghost use Rattle.ir_commands.specs.Conditions.{AreAboutNothing, AreWritten};
 ghost use Rattle.ir_commands.specs.Files.{TellsFault};
 ghost use Rattle.ir_commands.specs.Writing.{IsStatusOfNoRecording};
 
-use crate::files::say;
+use crate::files::{out_of_memory, say};
 use ir_arguments::ConditionText;
 use ir_files::ExitStatus;
 use ir_record_command::ParsedImage;
@@ -56,8 +56,7 @@ pub fn conditions_of<'a, E: Sink>(
     ensures read { IfOk result (λ conditions. AreWritten texts.now conditions.items) }
 {
     let Ok(conditions) = read_conditions(alloc, texts) else {
-        say(faults, "memory ran out", "", "");
-        return Err(ExitStatus::Failed);
+        return Err(out_of_memory(faults));
     };
     if let Some(text) = about_nothing(image, conditions.as_slice(), texts) {
         let why = ": the image has no such thread, object or word";
@@ -88,9 +87,6 @@ pub fn texts_of<E: Sink>(
 {
     match copied_texts(alloc, texts) {
         Ok(copies) => Ok(copies),
-        Err(_) => {
-            say(faults, "memory ran out", "", "");
-            Err(ExitStatus::Failed)
-        }
+        Err(_) => Err(out_of_memory(faults)),
     }
 }

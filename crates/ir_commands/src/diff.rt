@@ -1,11 +1,9 @@
 //! `ir diff`: what two recordings have in common is printed.
 
-ghost use Rattle.std.specs.Prelude.{◌≡◌, ◌≢◌, ◌⊎◌, false};
-ghost use Rattle.ir_files.specs.Writers.{writer_of, Reports, fault_text};
+ghost use Rattle.std.specs.Prelude.{◌≡◌, ◌⊎◌, false};
+ghost use Rattle.ir_files.specs.Writers.{writer_of};
 ghost use Rattle.ir_files.specs.declared.exit_status.ExitStatus.TheVariants as status;
 ghost use Rattle.ir_trace.specs.Recorded.{recorded_at};
-ghost use Rattle.ir_past.specs.Answers.{Answered, NotAnswered, fault_words};
-ghost use Rattle.ir_past.specs.declared.past_err.PastErr.{PastErr};
 ghost use Rattle.ir_diff.specs.Lines.{IsDiffAnswer};
 ghost use Rattle.ir_commands.specs.Printing.{IsPrinted, PrintsDiff, LeavesUnread};
 
@@ -18,26 +16,7 @@ use ir_past::ask_trace;
 use ir_stream::Sink;
 use std::alloc::Global;
 
-// Prints what two traces have in common.
-fn difference_of<O: Sink, E: Sink>(
-    alloc: Global,
-    first: &[u8],
-    second: &[u8],
-    out: &mut O,
-    faults: &mut E,
-) -> ExitStatus
-    requires writes { O.broken out.old ≡ false }
-    requires reports { E.broken faults.old ≡ false }
-    ensures done { result ≢ status.Failed
-        → Answered (IsDiffAnswer (recorded_at first.now) (recorded_at second.now)) result (writer_of (O.written out.old) (O.written out.new) (O.broken out.new)) × (faults.new ≡ faults.old) }
-    ensures stopped { result ≡ status.Failed → (e : PastErr)
-        × NotAnswered (IsDiffAnswer (recorded_at first.now) (recorded_at second.now)) e (writer_of (O.written out.old) (O.written out.new) (O.broken out.new))
-        × Reports (writer_of (E.written faults.old) (E.written faults.new) (E.broken faults.new)) (fault_text (fault_words e)) }
-{
-    ask_trace(alloc, first, &Difference { second }, out, faults)
-}
-
-// The same; it is reported which of them is refused, and why.
+// Prints what two traces have in common. It is reported which of them is refused, and why.
 fn of_traces<O: Sink, E: Sink>(
     alloc: Global,
     first: &[u8],
@@ -51,7 +30,7 @@ fn of_traces<O: Sink, E: Sink>(
         (writer_of (O.written out.old) (O.written out.new) (O.broken out.new)) (writer_of (E.written faults.old) (E.written faults.new) (E.broken faults.new)) }
     ensures quiet { result ≡ status.Done → faults.new ≡ faults.old }
 {
-    let status = difference_of(alloc, first, second, out, faults);
+    let status = ask_trace(alloc, first, &Difference { second }, out, faults);
     explain_trace(alloc, "the first trace", first, status, faults);
     explain_trace(alloc, "the second trace", second, status, faults);
     status

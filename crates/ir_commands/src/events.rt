@@ -8,8 +8,9 @@ ghost use Rattle.ir_listing.specs.Events.{AreEventLines};
 ghost use Rattle.ir_commands.specs.Printing.{IsPrinted, PrintsEvents, IsStatusOfNoImage, LeavesUnread};
 
 use crate::asking::answer_of_run;
-use crate::files::{bytes_of, image_of_file};
-use crate::maps::names_in;
+use crate::explaining::{NO_RUN, RunFiles};
+use crate::files::bytes_of;
+use crate::maps::named_image;
 use ir_arguments::EventsArguments;
 use ir_files::{ExitStatus, Folder, MOST_FILE_BYTES};
 use ir_listing::EventsQuestion;
@@ -32,14 +33,13 @@ fn of_run<O: Sink, E: Sink>(
         (writer_of (O.written out.old) (O.written out.new) (O.broken out.new)) (writer_of (E.written faults.old) (E.written faults.new) (E.broken faults.new)) }
     ensures quiet { result ≡ status.Done → faults.new ≡ faults.old }
 {
-    answer_of_run(
-        alloc,
+    let no_run = NO_RUN;
+    let files = RunFiles {
         image,
         trace,
-        &EventsQuestion { symbols },
-        out,
-        faults,
-    )
+        no_run,
+    };
+    answer_of_run(alloc, &EventsQuestion { symbols }, files, out, faults)
 }
 
 // Prints the events of the run in two files, with the names of a map or of an ELF file. It is reported why there is none.
@@ -58,22 +58,15 @@ pub fn events_file<D: Folder, O: Sink, E: Sink>(
         (writer_of (E.written faults.old) (E.written faults.new) (E.broken faults.new)) }
     ensures quiet { result ≡ status.Done → faults.new ≡ faults.old }
 {
-    let path = arguments.image.as_str();
-    let Some(file) = bytes_of(alloc, folder, faults, path, MOST_FILE_BYTES) else {
+    let path = arguments.trace.as_str();
+    let Some(trace) = bytes_of(alloc, folder, faults, path, MOST_FILE_BYTES) else {
         return ExitStatus::Failed;
     };
-    let of_trace = arguments.trace.as_str();
-    let Some(trace) = bytes_of(alloc, folder, faults, of_trace, MOST_FILE_BYTES) else {
-        return ExitStatus::Failed;
-    };
-    let symbols = match names_in(alloc, folder, faults, &file, &arguments.map) {
-        Ok(symbols) => symbols,
-        Err(status) => return status,
-    };
-    let image = match image_of_file(alloc, faults, path, file) {
-        Ok(image) => image,
-        Err(status) => return status,
-    };
-    let (image, trace) = (image.as_slice(), trace.as_slice());
-    of_run(alloc, image, trace, &symbols, out, faults)
+    match named_image(alloc, folder, faults, &arguments.image, &arguments.map) {
+        Ok(named) => {
+            let (image, trace) = (named.image.as_slice(), trace.as_slice());
+            of_run(alloc, image, trace, &named.names, out, faults)
+        }
+        Err(status) => status,
+    }
 }

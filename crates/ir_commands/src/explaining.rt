@@ -10,14 +10,19 @@ use ir_stream::Sink;
 use ir_trace::read_trace;
 use std::alloc::{AllocError, Global};
 
-// What a session reads.
+// What is said if no run of an image has a trace.
+pub const NO_RUN: &str =
+    "no run of this image has this trace: it may be another image's, or the image was changed";
+
+// The bytes of an image and of a trace, and what is said if no run of the image has the trace.
 #[derive(Clone, Copy)]
-struct Files<'a> {
-    image: &'a [u8],
-    trace: &'a [u8],
+pub struct RunFiles<'a> {
+    pub image: &'a [u8],
+    pub trace: &'a [u8],
+    pub no_run: &'a str,
 }
 
-impl Files<'_> {
+impl RunFiles<'_> {
     // Whether each begins as the other should.
     fn are_exchanged(self) -> bool {
         self.image.starts_with(b"IRT") && self.trace.starts_with(b"IRI")
@@ -36,7 +41,7 @@ impl Files<'_> {
 }
 
 // Says in words why the image or the trace is refused.
-fn explain_refusal<E: Sink>(alloc: Global, files: Files<'_>, faults: &mut E) {
+fn explain_refusal<E: Sink>(alloc: Global, files: RunFiles<'_>, faults: &mut E) {
     if files.are_exchanged() {
         say(faults, "IMAGE and TRACE are exchanged", "", "");
     } else if let Ok(why) = files.refusal(alloc) {
@@ -44,17 +49,13 @@ fn explain_refusal<E: Sink>(alloc: Global, files: Files<'_>, faults: &mut E) {
     }
 }
 
-// Says in words why a session opened nothing, if it didn't.
-fn explain<E: Sink>(alloc: Global, files: Files<'_>, status: ExitStatus, faults: &mut E)
+// Says in words why an image and a trace opened nothing, if they didn't.
+pub fn explain_run<E: Sink>(alloc: Global, files: RunFiles<'_>, status: ExitStatus, faults: &mut E)
     ensures { status ≢ exit.Refused → status ≢ exit.NotFit → faults.new ≡ faults.old }
 {
     match status {
         ExitStatus::Refused => explain_refusal(alloc, files, faults),
-        ExitStatus::NotFit => {
-            let why =
-                "no run of this image has this trace: it may be another image's, or the image was changed";
-            say(faults, why, "", "");
-        }
+        ExitStatus::NotFit => say(faults, files.no_run, "", ""),
         _ => {}
     }
 }
@@ -83,7 +84,24 @@ pub fn explain_trace<E: Sink>(
     }
 }
 
-// Says in words why an image and a trace opened nothing, if they didn't.
+// Says in words why a trace isn't answered, if it isn't; if no run has it, in the words that are given for that.
+pub fn explain_alone<E: Sink>(
+    alloc: Global,
+    trace: &[u8],
+    no_run: Option<&str>,
+    status: ExitStatus,
+    faults: &mut E,
+)
+    ensures { status ≢ exit.Refused → status ≢ exit.NotFit → faults.new ≡ faults.old }
+{
+    if status != ExitStatus::NotFit {
+        explain_trace(alloc, THE_TRACE, trace, status, faults);
+    } else if let Some(words) = no_run {
+        say(faults, words, "", "");
+    }
+}
+
+// The same, where the words say that no run of the image has the trace.
 pub fn explain_files<E: Sink>(
     alloc: Global,
     image: &[u8],
@@ -93,5 +111,11 @@ pub fn explain_files<E: Sink>(
 )
     ensures { status ≢ exit.Refused → status ≢ exit.NotFit → faults.new ≡ faults.old }
 {
-    explain(alloc, Files { image, trace }, status, faults);
+    let no_run = NO_RUN;
+    let files = RunFiles {
+        image,
+        trace,
+        no_run,
+    };
+    explain_run(alloc, files, status, faults);
 }

@@ -1,10 +1,10 @@
 //! `ir explore`: the outcomes of a guest are printed.
 
-ghost use Rattle.std.specs.Prelude.{◌≡◌, ◌⊎◌, false};
+ghost use Rattle.std.specs.Prelude.{◌≡◌, ◌⊎◌, IfErr, IfOk, OnErr, OnOk, false};
 ghost use Rattle.std.specs.String.{string_bytes};
 ghost use Rattle.ir_files.specs.Writers.{writer_of};
-ghost use Rattle.ir_commands.specs.Exploring.{Explores, IsPlanOf};
-ghost use Rattle.ir_commands.specs.Files.{IsStatusOfNone};
+ghost use Rattle.ir_commands.specs.Exploring.{Explores, IsInput, IsPlanOf};
+ghost use Rattle.ir_commands.specs.Files.{IsImageIn, IsStatusOfNone, TellsFault};
 ghost use Rattle.ir_commands.specs.Printing.{LeavesUnread};
 
 use crate::files::image_in;
@@ -15,6 +15,7 @@ use ir_explore::{ExplorePlan, explore_run};
 use ir_files::{ExitStatus, Folder};
 use ir_search::Observer;
 use ir_stream::Sink;
+use std::alloc::Global;
 
 // How a guest is explored, which reads these bytes.
 pub fn plan_of<'a>(arguments: &ExploreArguments, input: &'a [u8]) -> ExplorePlan<'a>
@@ -39,6 +40,40 @@ pub fn plan_of<'a>(arguments: &ExploreArguments, input: &'a [u8]) -> ExplorePlan
     plan.bounded(seconds, outcomes)
 }
 
+/// What is read to explore a guest.
+#[derive(Drop)]
+pub struct GuestFiles {
+    /// The guest's image.
+    pub image: Vec<u8>,
+    /// What it reads.
+    pub input: Vec<u8>,
+}
+
+impl GuestFiles {
+    /// Reads the files that the arguments name; if they can't be had, the reason is reported.
+    ///
+    /// # Errors
+    /// The exit status.
+    pub fn of<D: Folder, E: Sink>(
+        alloc: Global,
+        folder: &D,
+        arguments: &ExploreArguments,
+        faults: &mut E,
+    ) -> Result<GuestFiles, ExitStatus>
+        ensures kept { OnOk result (faults.new ≡ faults.old) }
+        ensures image { IfOk result (λ files. IsImageIn (D.bytes_at folder.now (string_bytes arguments.now.image)) files.image.items) }
+        ensures input { IfOk result (λ files. IsInput (D.bytes_at folder.now) arguments.now.input files.input.items) }
+        ensures status { IfErr result (IsStatusOfNone (D.bytes_at folder.now (string_bytes arguments.now.image))) }
+        ensures told { OnErr result (E.broken faults.old ≡ false → TellsFault (writer_of (E.written faults.old) (E.written faults.new) (E.broken faults.new))) }
+    {
+        let image = image_in(alloc, folder, faults, arguments.image.as_str())?;
+        match input_of(alloc, folder, faults, &arguments.input) {
+            Some(input) => Ok(GuestFiles { image, input }),
+            None => Err(ExitStatus::Failed),
+        }
+    }
+}
+
 // Prints the outcomes of the guest in a file.
 pub fn explore_file<R, D, G, O, E>(
     around: &Surroundings<'_, R, D, G>,
@@ -59,14 +94,12 @@ where
         ⊎ LeavesUnread (IsStatusOfNone (D.bytes_at around.now.folder.now (string_bytes arguments.now.image)) result) (out.new ≡ out.old)
         (writer_of (E.written faults.old) (E.written faults.new) (E.broken faults.new)) }
 {
-    let (alloc, folder) = (around.rt.alloc(), around.folder);
-    let image = match image_in(alloc, folder, faults, arguments.image.as_str()) {
-        Ok(image) => image,
+    let alloc = around.rt.alloc();
+    let files = match GuestFiles::of(alloc, around.folder, arguments, faults) {
+        Ok(files) => files,
         Err(status) => return status,
     };
-    let Some(input) = input_of(alloc, folder, faults, &arguments.input) else {
-        return ExitStatus::Failed;
-    };
-    let plan = plan_of(arguments, input.as_slice());
-    explore_run(alloc, image.as_slice(), &plan, around.gate, out, faults)
+    let plan = plan_of(arguments, files.input.as_slice());
+    let image = files.image.as_slice();
+    explore_run(alloc, image, &plan, around.gate, out, faults)
 }

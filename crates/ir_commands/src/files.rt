@@ -24,6 +24,15 @@ pub fn say<E: Sink>(faults: &mut E, name: &str, what: &str, why: &str)
     }
 }
 
+// Reports that memory ran out; the exit status.
+pub fn out_of_memory<E: Sink>(faults: &mut E) -> ExitStatus
+    ensures status { result ≡ exit.Failed }
+    ensures told { E.broken faults.old ≡ false → TellsFault (writer_of (E.written faults.old) (E.written faults.new) (E.broken faults.new)) }
+{
+    say(faults, "memory ran out", "", "");
+    ExitStatus::Failed
+}
+
 // The bytes of a file; if there are none, the reason is reported.
 pub fn bytes_of<D: Folder, E: Sink>(
     alloc: Global,

@@ -6,7 +6,7 @@ ghost use Rattle.std.specs.String.{string_bytes};
 ghost use Rattle.ir_files.specs.Outputs.{TookEach, output_writer_of};
 ghost use Rattle.ir_files.specs.Writers.{writer_of};
 ghost use Rattle.ir_files.specs.declared.exit_status.ExitStatus.TheVariants as exit;
-ghost use Rattle.ir_commands.specs.Files.{GoesOn, LacksGuest};
+ghost use Rattle.ir_commands.specs.Files.{GoesOn};
 ghost use Rattle.ir_commands.specs.Searching.{EndsFound, HuntsFile, IsHuntAnswerTo, MissesSeed, RecordsHunted, RefusesFound, RefusesSearch, ShrinksFound, StopsFound, TellsNoSearch};
 ghost use Rattle.ir_commands.specs.Writing.{KeptAt, storing, texts_of_paths};
 
@@ -33,14 +33,8 @@ fn paths(arguments: &HuntArguments) -> RecordingPaths<'_>
     ensures input { result.input.now ≡ arguments.now.options.input }
     ensures output { option_map (λ prefix. prefix.now) result.output ≡ arguments.now.options.output }
 {
-    RecordingPaths {
-        image: arguments.image.as_str(),
-        other: None,
-        trace: arguments.trace.as_str(),
-        input: &arguments.options.input,
-        list: None,
-        output: arguments.options.output.as_ref(),
-    }
+    let (options, trace) = (&arguments.options, &arguments.trace);
+    RecordingPaths::new(&arguments.image, trace, &options.input, &options.output)
 }
 
 // What is hunted, and as which arguments say.
@@ -139,6 +133,7 @@ fn shrunk<'a, R: Threads + Sync + Clock + Eprint + AllocGlobal, D: Folder, G, O:
         is_shown: plan.is_shown,
     };
     let sought = Shrinking {
+        rt: around.rt,
         image: hunted.image,
         trace: found,
         plan: &shrinking,

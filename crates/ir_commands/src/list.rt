@@ -5,10 +5,9 @@ ghost use Rattle.ir_files.specs.Writers.{writer_of};
 ghost use Rattle.ir_files.specs.declared.exit_status.ExitStatus.TheVariants as status;
 ghost use Rattle.ir_commands.specs.Printing.{PrintsCode, IsStatusOfNoImage, LeavesUnread};
 
-use crate::files::{bytes_of, image_of_file};
-use crate::maps::names_in;
+use crate::maps::named_image;
 use ir_arguments::ListArguments;
-use ir_files::{ExitStatus, Folder, MOST_FILE_BYTES};
+use ir_files::{ExitStatus, Folder};
 use ir_listing::list_report;
 use ir_stream::Sink;
 use std::alloc::Global;
@@ -29,16 +28,8 @@ pub fn list_file<D: Folder, O: Sink, E: Sink>(
         (writer_of (E.written faults.old) (E.written faults.new) (E.broken faults.new)) }
     ensures quiet { result ≡ status.Done → faults.new ≡ faults.old }
 {
-    let path = arguments.image.as_str();
-    let Some(file) = bytes_of(alloc, folder, faults, path, MOST_FILE_BYTES) else {
-        return ExitStatus::Failed;
-    };
-    let symbols = match names_in(alloc, folder, faults, &file, &arguments.map) {
-        Ok(symbols) => symbols,
-        Err(status) => return status,
-    };
-    match image_of_file(alloc, faults, path, file) {
-        Ok(image) => list_report(alloc, image.as_slice(), &symbols, out, faults),
+    match named_image(alloc, folder, faults, &arguments.image, &arguments.map) {
+        Ok(named) => list_report(alloc, named.image.as_slice(), &named.names, out, faults),
         Err(status) => status,
     }
 }

@@ -1,6 +1,6 @@
 //! A trace in lines.
 
-ghost use Rattle.std.specs.Prelude.{◌≡◌, OnOk, IfOk, IfErr, length, unwrap_or, false};
+ghost use Rattle.std.specs.Prelude.{◌≡◌, OnOk, IfOk, IfErr, unwrap_or, false};
 ghost use Rattle.std.specs.String.{string_bytes};
 ghost use Rattle.std.specs.Io.KnownBytes.{Appends};
 ghost use Rattle.ir_commands.specs.Listing.{profile_number, header_line, thread_listing, threads_listing, listing};

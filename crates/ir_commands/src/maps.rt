@@ -11,9 +11,10 @@ ghost use Rattle.ir_symbols.specs.Symbols.{Symbol};
 ghost use Rattle.ir_make.specs.Opening.{is_elf};
 ghost use Rattle.ir_files.specs.Writers.{writer_of};
 ghost use Rattle.ir_files.specs.declared.exit_status.ExitStatus.TheVariants as exit;
-ghost use Rattle.ir_commands.specs.Files.{AreNames, IsStatusOfNoNames, IsTold, map_status, TellsFault};
+ghost use Rattle.ir_commands.specs.Files.{AreNames, IsStatusOfNoNames, IsTold, OfNamedImage, map_status, TellsFault};
+ghost use Rattle.ir_commands.specs.Printing.{IsStatusOfNoImage};
 
-use crate::files::{bytes_of, say, told_of_file};
+use crate::files::{bytes_of, image_of_file, out_of_memory, say, told_of_file};
 use ir_asm::Labels;
 use ir_elf_symbols::elf_symbols;
 use ir_files::{ExitStatus, Folder, MOST_FILE_BYTES, WholeFile};
@@ -28,8 +29,7 @@ fn refused<E: Sink>(alloc: Global, faults: &mut E, path: &str, why: MapErr) -> E
     ensures told { E.broken faults.old ≡ false → TellsFault (writer_of (E.written faults.old) (E.written faults.new) (E.broken faults.new)) }
 {
     let MapErr::Line(number) = why else {
-        say(faults, "memory ran out", "", "");
-        return ExitStatus::Failed;
+        return out_of_memory(faults);
     };
     match format!(in alloc; "line {number} is no symbol as nm prints it") {
         Ok(why) => say(faults, path, ": ", why.as_str()),
@@ -52,10 +52,7 @@ fn own_names<E: Sink>(alloc: Global, faults: &mut E, file: &[u8]) -> Result<Symb
     };
     match symbols {
         Ok(symbols) => Ok(symbols),
-        Err(_) => {
-            say(faults, "memory ran out", "", "");
-            Err(ExitStatus::Failed)
-        }
+        Err(_) => Err(out_of_memory(faults)),
     }
 }
 
@@ -83,6 +80,40 @@ pub fn names_in<D: Folder, E: Sink>(
     match read_map(alloc, bytes.as_slice()) {
         Ok(symbols) => Ok(symbols),
         Err(why) => Err(refused(alloc, faults, path, why)),
+    }
+}
+
+// The bytes of an image, and the names for its addresses.
+#[derive(Drop)]
+pub struct NamedImage {
+    pub image: Vec<u8>,
+    pub names: SymbolTable,
+}
+
+// The image in a file, which may be an ELF file, and the names for its addresses. If there are none, the reason is reported.
+pub fn named_image<D: Folder, E: Sink>(
+    alloc: Global,
+    folder: &D,
+    faults: &mut E,
+    path: &String,
+    map: &Option<String>,
+) -> Result<NamedImage, ExitStatus>
+    ensures kept { OnOk result (faults.new ≡ faults.old) }
+    ensures named { IfOk result (λ named. OfNamedImage (D.bytes_at folder.now) path.now map.now (λ image names. (image ≡ named.image.items) × (names ≡ named.names))) }
+    ensures status { IfErr result (IsStatusOfNoImage (D.bytes_at folder.now) path.now map.now) }
+    ensures told { OnErr result (E.broken faults.old ≡ false → TellsFault (writer_of (E.written faults.old) (E.written faults.new) (E.broken faults.new))) }
+{
+    let path = path.as_str();
+    let Some(file) = bytes_of(alloc, folder, faults, path, MOST_FILE_BYTES) else {
+        return Err(ExitStatus::Failed);
+    };
+    let names = match names_in(alloc, folder, faults, &file, map) {
+        Ok(names) => names,
+        Err(status) => return Err(status),
+    };
+    match image_of_file(alloc, faults, path, file) {
+        Ok(image) => Ok(NamedImage { image, names }),
+        Err(status) => Err(status),
     }
 }
 

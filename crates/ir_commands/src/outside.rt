@@ -10,11 +10,10 @@ ghost use Rattle.ir_commands.specs.Searching.{TellsNoSearch};
 ghost use Rattle.ir_commands.specs.Writing.{storing};
 
 use crate::ends::tell_ends;
-use crate::explore::plan_of;
 use crate::recording::{Places, RecordingPaths, loses_input, output_places, recorded_into};
 use crate::sought::RunSought;
 use crate::surroundings::Surroundings;
-use crate::within::{aspects_of, both_images, compared_files, lacks_either};
+use crate::within::{both_images, compared_files, comparison_plan};
 use ir_arguments::OutsideArguments;
 use ir_files::{ExitStatus, Folder, OutputSink, WholeSink};
 use ir_record_command::RecordFiles;
@@ -29,24 +28,22 @@ fn paths(arguments: &OutsideArguments) -> RecordingPaths<'_>
     ensures trace { result.trace.now ≡ string_bytes arguments.now.trace }
     ensures output { option_map (λ prefix. prefix.now) result.output ≡ arguments.now.output }
 {
-    let within = &arguments.within;
+    let (within, output) = (&arguments.within, &arguments.output);
+    let explore = &within.explore;
     RecordingPaths {
-        image: within.explore.image.as_str(),
         other: Some(&within.other),
-        trace: arguments.trace.as_str(),
-        input: &within.explore.input,
-        list: None,
-        output: arguments.output.as_ref(),
+        ..RecordingPaths::new(&explore.image, &arguments.trace, &explore.input, output)
     }
 }
 
 // A run of a guest that is looked for: its outcome is the first that another guest doesn't have.
 #[derive(Clone, Copy)]
-struct Outside<'a, G> {
+struct Outside<'a, 'b, R, G> {
+    rt: &'b R,
     plan: &'a WithinPlan<'a, 'a, 'a, G>,
 }
 
-impl<G: Observer> RunSought for Outside<'_, G> {
+impl<R: Clock + Eprint + AllocGlobal, G: Observer> RunSought for Outside<'_, '_, R, G> {
     type Run = Trace;
 
     ghost trace_of = { λ recorded. recorded };
@@ -57,21 +54,13 @@ impl<G: Observer> RunSought for Outside<'_, G> {
         (LacksGuest (comparison_of sought.plan.now).image sought.plan.now.explore.profile ⊎ LacksGuest (comparison_of sought.plan.now).other sought.plan.now.explore.profile)
         (IsComparisonAnswer (comparison_of sought.plan.now)) answered out reports };
 
-    fn recorded<R, W, P, O, E>(
+    fn recorded<W: WholeSink, P: OutputSink, O: Sink, E: Sink>(
         &self,
-        rt: &R,
         files: &mut RecordFiles<W, P>,
         out: &mut O,
         faults: &mut E,
-    ) -> Result<Trace, ExitStatus>
-    where
-        R: Clock + Eprint + AllocGlobal,
-        W: WholeSink,
-        P: OutputSink,
-        O: Sink,
-        E: Sink,
-    {
-        outside_run(rt, self.plan, files, out, faults)
+    ) -> Result<Trace, ExitStatus> {
+        outside_run(self.rt, self.plan, files, out, faults)
     }
 }
 
@@ -92,26 +81,19 @@ fn outside_by<R: Clock + Eprint + AllocGlobal, D: Folder, G: Observer, O: Sink, 
         (IsComparisonAnswerTo (D.bytes_at around.now.folder.now) arguments.now) answered (writer_of (O.written out.old) (O.written out.new) (O.broken out.new))
         (writer_of (E.written faults.old) (E.written faults.new) (E.broken faults.new))) }
 {
-    let (alloc, folder, within) = (around.rt.alloc(), around.folder, &arguments.within);
+    let (rt, folder, within) = (around.rt, around.folder, &arguments.within);
+    let alloc = rt.alloc();
     let paths = paths(arguments);
     if loses_input(folder, faults, &paths) {
         return Err(ExitStatus::BadArguments);
     }
     let files = compared_files(alloc, folder, within, faults)?;
     let both = both_images(alloc, &files);
-    let plan = WithinPlan {
-        image: &both.0,
-        other: &both.1,
-        explore: plan_of(&within.explore, files.input.as_slice()),
-        aspects: aspects_of(&within.counted),
-        observer: around.gate,
-    };
-    if lacks_either(alloc, &plan.explore, &both, within, faults) {
-        return Err(ExitStatus::BadArguments);
-    }
+    let input = files.guest.input.as_slice();
+    let plan = comparison_plan(around, within, &both, input, faults)?;
     let outputs = output_places(alloc, folder, faults, &paths, &both.0)?;
     let places = Places::new(paths.trace, &outputs);
-    let sought = Outside { plan: &plan };
+    let sought = Outside { rt, plan: &plan };
     recorded_into(around, places, &sought, out, faults)
 }
 

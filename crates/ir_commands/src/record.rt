@@ -1,6 +1,6 @@
 //! `ir record`: a guest in a file is recorded, its trace and what its threads print go into others.
 
-ghost use Rattle.std.specs.Prelude.{◌≡◌, ◌⊎◌, ◌++◌, ◌∷◌, ℕ, List, [], Some, IfErr, IfOk, IfSome, IsSomeAnd, OnErr, OnOk, MatchOption, true, false, map, option_map};
+ghost use Rattle.std.specs.Prelude.{◌≡◌, ◌⊎◌, ◌++◌, ◌∷◌, ℕ, List, [], Some, IfErr, IfOk, IfSome, IsSomeAnd, OnErr, OnOk, MatchOption, false, map, option_map};
 ghost use Rattle.std.specs.String.{string_bytes};
 ghost use Rattle.ir_files.specs.Writers.{writer_of};
 ghost use Rattle.ir_hunt.specs.Finding.{IsOrderOfSeed};
@@ -10,7 +10,7 @@ ghost use Rattle.ir_commands.specs.Printing.{LeavesUnread};
 ghost use Rattle.ir_commands.specs.Writing.{AreOutputPaths, IsListIn, IsNoText, IsOrderAsked, IsStatusOfNoRecording, Records, RecordsFile, RefusesRecording, StopsRecords, recorded_status, storing};
 
 use crate::ends::{all_ended, tell_ends};
-use crate::files::{bytes_of, image_in, say};
+use crate::files::{bytes_of, image_in, out_of_memory, say};
 use crate::recording::{
     Places, RecordingPaths, input_of, loses_input, output_places, record_files,
 };
@@ -44,10 +44,7 @@ fn copied<E: Sink>(alloc: Global, faults: &mut E, list: &str) -> Result<Option<S
 {
     match String::from_str(alloc, list) {
         Ok(list) => Ok(Some(list)),
-        Err(_) => {
-            say(faults, "memory ran out", "", "");
-            Err(ExitStatus::Failed)
-        }
+        Err(_) => Err(out_of_memory(faults)),
     }
 }
 
@@ -134,13 +131,10 @@ fn paths(arguments: &RecordArguments) -> RecordingPaths<'_>
     ensures input { result.input.now ≡ arguments.now.options.input }
     ensures output { option_map (λ prefix. prefix.now) result.output ≡ arguments.now.options.output }
 {
+    let (options, trace) = (&arguments.options, &arguments.trace);
     RecordingPaths {
-        image: arguments.image.as_str(),
-        other: None,
-        trace: arguments.trace.as_str(),
-        input: &arguments.options.input,
         list: arguments.order_file.as_ref(),
-        output: arguments.options.output.as_ref(),
+        ..RecordingPaths::new(&arguments.image, trace, &options.input, &options.output)
     }
 }
 

@@ -9,14 +9,13 @@ ghost use Rattle.ir_commands.specs.Files.{GoesOn, TellsFault};
 ghost use Rattle.ir_commands.specs.Sought.{RecordsRun};
 ghost use Rattle.ir_commands.specs.Writing.{AreOutputPaths, IsStatusOfNoRecording, KeptAt, storing, texts_of_paths};
 
-use crate::files::{bytes_of, is_lost, say};
+use crate::files::{bytes_of, is_lost, out_of_memory};
 use crate::sought::RunSought;
 use crate::surroundings::Surroundings;
 use ir_files::{ExitStatus, Folder, MOST_GUEST_INPUT, OutputFiles, WholeFile, output_paths};
 use ir_record_command::{ParsedImage, RecordFiles};
 use ir_stream::Sink;
 use std::alloc::{AllocError, Global};
-use std::time::Clock;
 
 /// What a recording reads and writes.
 #[derive(Clone, Copy)]
@@ -33,6 +32,30 @@ pub struct RecordingPaths<'a> {
     pub list: Option<&'a String>,
     /// What the paths of the files of what threads print begin with, if they are asked for.
     pub output: Option<&'a String>,
+}
+
+impl<'a> RecordingPaths<'a> {
+    /// Those of a recording of a single guest, with no list in a file.
+    pub fn new(
+        image: &'a String,
+        trace: &'a String,
+        input: &'a Option<String>,
+        output: &'a Option<String>,
+    ) -> RecordingPaths<'a>
+        ensures image { result.image.now ≡ string_bytes image.now }
+        ensures trace { result.trace.now ≡ string_bytes trace.now }
+        ensures input { result.input.now ≡ input.now }
+        ensures output { option_map (λ prefix. prefix.now) result.output ≡ output.now }
+    {
+        RecordingPaths {
+            image: image.as_str(),
+            other: None,
+            trace: trace.as_str(),
+            input,
+            list: None,
+            output: output.as_ref(),
+        }
+    }
 }
 
 /// Where a recording goes.
@@ -91,7 +114,7 @@ pub fn recorded_into<R, D, G, S, O, E>(
     faults: &mut E,
 ) -> Result<S::Run, ExitStatus>
 where
-    R: Clock + Eprint + AllocGlobal,
+    R: AllocGlobal,
     D: Folder,
     S: RunSought,
     O: Sink,
@@ -107,7 +130,7 @@ where
 {
     let Surroundings { rt, folder, .. } = *around;
     let mut files = record_files(rt.alloc(), folder, places.trace, places.outputs);
-    sought.recorded(rt, &mut files, out, faults)
+    sought.recorded(&mut files, out, faults)
 }
 
 /// The bytes that guests read, none without a file.
@@ -144,6 +167,48 @@ fn loses_given<D: Folder, E: Sink>(
     }
 }
 
+// What is reported if a file that a recording reads would be lost by what is written.
+#[derive(Clone, Copy)]
+struct Losses {
+    image: &'static str,
+    other: &'static str,
+    file: &'static str,
+    list: &'static str,
+}
+
+// If the trace would be written over it.
+const OVER_BY_TRACE: Losses = Losses {
+    image: "TRACE would be written over IMAGE",
+    other: "TRACE would be written over OTHER",
+    file: "TRACE would be written over FILE",
+    list: "TRACE would be written over LISTFILE",
+};
+
+// If what a thread prints would be.
+const OVER_BY_OUTPUT: Losses = Losses {
+    image: "PREFIX.T would be written over IMAGE",
+    other: "PREFIX.T would be written over OTHER",
+    file: "PREFIX.T would be written over FILE",
+    list: "PREFIX.T would be written over LISTFILE",
+};
+
+// Whether a file that a recording reads would be lost by writing to a path, which is reported.
+fn loses_read<D: Folder, E: Sink>(
+    folder: &D,
+    faults: &mut E,
+    paths: &RecordingPaths<'_>,
+    would: Losses,
+    written: &str,
+) -> bool
+    ensures kept { result ≡ false → faults.new ≡ faults.old }
+    ensures told { result ≡ true → E.broken faults.old ≡ false → TellsFault (writer_of (E.written faults.old) (E.written faults.new) (E.broken faults.new)) }
+{
+    is_lost(folder, faults, would.image, paths.image, written)
+        || loses_given(folder, faults, would.other, paths.other, written)
+        || loses_given(folder, faults, would.file, paths.input.as_ref(), written)
+        || loses_given(folder, faults, would.list, paths.list, written)
+}
+
 /// Whether a recording's trace would be written over one of the files that it reads.
 pub fn loses_input<D: Folder, E: Sink>(
     folder: &D,
@@ -153,15 +218,7 @@ pub fn loses_input<D: Folder, E: Sink>(
     ensures kept { result ≡ false → faults.new ≡ faults.old }
     ensures told { result ≡ true → E.broken faults.old ≡ false → TellsFault (writer_of (E.written faults.old) (E.written faults.new) (E.broken faults.new)) }
 {
-    const OVER_IMAGE: &str = "TRACE would be written over IMAGE";
-    const OVER_OTHER: &str = "TRACE would be written over OTHER";
-    const OVER_FILE: &str = "TRACE would be written over FILE";
-    const OVER_LIST: &str = "TRACE would be written over LISTFILE";
-    let trace = paths.trace;
-    is_lost(folder, faults, OVER_IMAGE, paths.image, trace)
-        || loses_given(folder, faults, OVER_OTHER, paths.other, trace)
-        || loses_given(folder, faults, OVER_FILE, paths.input.as_ref(), trace)
-        || loses_given(folder, faults, OVER_LIST, paths.list, trace)
+    loses_read(folder, faults, paths, OVER_BY_TRACE, paths.trace)
 }
 
 // The paths of what the threads of an image print, if they are asked for.
@@ -189,16 +246,9 @@ fn loses_other<D: Folder, E: Sink>(
     ensures kept { result ≡ false → faults.new ≡ faults.old }
     ensures told { result ≡ true → E.broken faults.old ≡ false → TellsFault (writer_of (E.written faults.old) (E.written faults.new) (E.broken faults.new)) }
 {
-    const OVER_IMAGE: &str = "PREFIX.T would be written over IMAGE";
-    const OVER_OTHER: &str = "PREFIX.T would be written over OTHER";
-    const OVER_TRACE: &str = "PREFIX.T would be written over TRACE";
-    const OVER_FILE: &str = "PREFIX.T would be written over FILE";
-    const OVER_LIST: &str = "PREFIX.T would be written over LISTFILE";
-    is_lost(folder, faults, OVER_IMAGE, paths.image, path)
-        || loses_given(folder, faults, OVER_OTHER, paths.other, path)
-        || is_lost(folder, faults, OVER_TRACE, paths.trace, path)
-        || loses_given(folder, faults, OVER_FILE, paths.input.as_ref(), path)
-        || loses_given(folder, faults, OVER_LIST, paths.list, path)
+    let would = "PREFIX.T would be written over TRACE";
+    is_lost(folder, faults, would, paths.trace, path)
+        || loses_read(folder, faults, paths, OVER_BY_OUTPUT, path)
 }
 
 // The same of any of these threads.
@@ -234,8 +284,7 @@ pub fn output_places<D: Folder, E: Sink>(
     ensures told { OnErr result (E.broken faults.old ≡ false → TellsFault (writer_of (E.written faults.old) (E.written faults.new) (E.broken faults.new))) }
 {
     let Ok(outputs) = paths_of(alloc, paths, image) else {
-        say(faults, "memory ran out", "", "");
-        return Err(ExitStatus::Failed);
+        return Err(out_of_memory(faults));
     };
     match &outputs {
         Some(each) if any_loses(folder, faults, paths, each.as_slice()) => {

@@ -15,7 +15,7 @@ ghost use Rattle.ir_commands.specs.Writing.{storing, IsStatusOfNoRecording};
 use crate::conditions::texts_of;
 use crate::ends::tell_ends;
 use crate::explaining::explain_files;
-use crate::files::{bytes_of, image_in, is_lost, say};
+use crate::files::{bytes_of, image_in, is_lost, out_of_memory, say};
 use crate::recording::{Places, RecordingPaths, loses_input, recorded_into};
 use crate::search_files::SearchFiles;
 use crate::sought::RunSought;
@@ -36,14 +36,8 @@ fn paths(arguments: &ShrinkArguments) -> RecordingPaths<'_>
     ensures input { result.input.now ≡ arguments.now.input }
     ensures output { option_map (λ prefix. prefix.now) result.output ≡ arguments.now.output }
 {
-    RecordingPaths {
-        image: arguments.image.as_str(),
-        other: None,
-        trace: arguments.out.as_str(),
-        input: &arguments.input,
-        list: None,
-        output: arguments.output.as_ref(),
-    }
+    let (input, output) = (&arguments.input, &arguments.output);
+    RecordingPaths::new(&arguments.image, &arguments.out, input, output)
 }
 
 // Whether a file that is read would be lost by what is written, which is reported.
@@ -113,10 +107,7 @@ fn fitting_trace<O: Sink, E: Sink>(
     match open_fit(alloc, image, trace) {
         Ok(Opened::Fits(_)) => match read_trace(alloc, trace) {
             Ok(trace) => Ok(trace),
-            Err(_) => {
-                say(faults, "memory ran out", "", "");
-                Err(ExitStatus::Failed)
-            }
+            Err(_) => Err(out_of_memory(faults)),
         },
         Ok(Opened::Refused(why)) => match refuse(&why, out) {
             Ok(status) => {
@@ -128,10 +119,7 @@ fn fitting_trace<O: Sink, E: Sink>(
                 Err(ExitStatus::Failed)
             }
         },
-        Err(_) => {
-            say(faults, "memory ran out", "", "");
-            Err(ExitStatus::Failed)
-        }
+        Err(_) => Err(out_of_memory(faults)),
     }
 }
 
@@ -150,7 +138,9 @@ pub fn plan_like<'a>(trace: &Trace, random: u64, input: &'a [u8]) -> RecordPlan<
 
 /// A run of a guest that is looked for: what the given run is shrunk to.
 #[derive(Clone, Copy)]
-pub struct Shrinking<'a> {
+pub struct Shrinking<'a, 'b, R> {
+    /// The clock, and where it is said how far it is.
+    pub rt: &'b R,
     /// The image of the guest.
     pub image: &'a ParsedImage<'a>,
     /// The trace of the given run.
@@ -159,7 +149,7 @@ pub struct Shrinking<'a> {
     pub plan: &'a ShrinkPlan<'a>,
 }
 
-impl RunSought for Shrinking<'_> {
+impl<R: Clock + Eprint + AllocGlobal> RunSought for Shrinking<'_, '_, R> {
     type Run = Shrunk;
 
     ghost trace_of = { λ shrunk. shrunk.trace };
@@ -169,25 +159,17 @@ impl RunSought for Shrinking<'_> {
     ghost is_missed = { λ sought answered out reports. RefusesGiven sought.image.now sought.trace.now sought.plan.now answered out reports
         ⊎ TellsNoSearch (LacksGuest sought.image.now sought.plan.now.record.profile) (IsShrinkAnswer sought.image.now sought.trace.now sought.plan.now) answered out reports };
 
-    fn recorded<R, W, P, O, E>(
+    fn recorded<W: WholeSink, P: OutputSink, O: Sink, E: Sink>(
         &self,
-        rt: &R,
         files: &mut RecordFiles<W, P>,
         out: &mut O,
         faults: &mut E,
-    ) -> Result<Shrunk, ExitStatus>
-    where
-        R: Clock + Eprint + AllocGlobal,
-        W: WholeSink,
-        P: OutputSink,
-        O: Sink,
-        E: Sink,
-    {
+    ) -> Result<Shrunk, ExitStatus> {
         let given = GivenRun {
             image: self.image,
             trace: self.trace,
         };
-        shrink_run(rt, &given, self.plan, files, out, faults)
+        shrink_run(self.rt, &given, self.plan, files, out, faults)
     }
 }
 
@@ -267,6 +249,7 @@ fn shrunk_by<R: Clock + Eprint + AllocGlobal, D: Folder, G, O: Sink, E: Sink>(
         is_shown: explains,
     };
     let sought = Shrinking {
+        rt: around.rt,
         image: &image,
         trace: &trace,
         plan: &plan,

@@ -12,7 +12,6 @@ ghost use Rattle.ir_commands.specs.Sought.{RecordsRun};
 use ir_files::{ExitStatus, OutputSink, WholeSink};
 use ir_record_command::RecordFiles;
 use ir_stream::Sink;
-use std::time::Clock;
 
 /// A run that is looked for.
 pub trait RunSought {
@@ -32,19 +31,12 @@ pub trait RunSought {
     ///
     /// # Errors
     /// The exit status: there is none, or a fault stopped the recording.
-    fn recorded<R, W, P, O, E>(
+    fn recorded<W: WholeSink, P: OutputSink, O: Sink, E: Sink>(
         &self,
-        rt: &R,
         files: &mut RecordFiles<W, P>,
         out: &mut O,
         faults: &mut E,
     ) -> Result<Self::Run, ExitStatus>
-    where
-        R: Clock + Eprint + AllocGlobal,
-        W: WholeSink,
-        P: OutputSink,
-        O: Sink,
-        E: Sink,
         requires writes { W.broken files.old.trace ≡ false }
         requires puts { P.broken files.old.outputs ≡ false }
         requires prints { O.broken out.old ≡ false }

@@ -28,24 +28,19 @@ fn paths(arguments: &UntilArguments) -> RecordingPaths<'_>
     ensures input { result.input.now ≡ arguments.now.explore.input }
     ensures output { option_map (λ prefix. prefix.now) result.output ≡ arguments.now.output }
 {
-    RecordingPaths {
-        image: arguments.explore.image.as_str(),
-        other: None,
-        trace: arguments.trace.as_str(),
-        input: &arguments.explore.input,
-        list: None,
-        output: arguments.output.as_ref(),
-    }
+    let (explore, output) = (&arguments.explore, &arguments.output);
+    RecordingPaths::new(&explore.image, &arguments.trace, &explore.input, output)
 }
 
 // A run of a guest that is looked for: it hangs, or has an outcome that fulfils conditions.
 #[derive(Clone, Copy)]
-struct Until<'a, G> {
+struct Until<'a, 'b, R, G> {
+    rt: &'b R,
     plan: &'a UntilPlan<'a, 'a, 'a, G>,
     hang: bool,
 }
 
-impl<G: Observer> RunSought for Until<'_, G> {
+impl<R: Clock + Eprint + AllocGlobal, G: Observer> RunSought for Until<'_, '_, R, G> {
     type Run = Trace;
 
     ghost trace_of = { λ recorded. recorded };
@@ -54,20 +49,12 @@ impl<G: Observer> RunSought for Until<'_, G> {
 
     ghost is_missed = { λ sought answered out reports. UntilMisses sought.hang sought.plan.now.image.now sought.plan.now.explore sought.plan.now.conditions.now answered out reports };
 
-    fn recorded<R, W, P, O, E>(
+    fn recorded<W: WholeSink, P: OutputSink, O: Sink, E: Sink>(
         &self,
-        rt: &R,
         files: &mut RecordFiles<W, P>,
         out: &mut O,
         faults: &mut E,
-    ) -> Result<Trace, ExitStatus>
-    where
-        R: Clock + Eprint + AllocGlobal,
-        W: WholeSink,
-        P: OutputSink,
-        O: Sink,
-        E: Sink,
-    {
+    ) -> Result<Trace, ExitStatus> {
         if self.hang {
             let plan = self.plan;
             let hang = HangPlan {
@@ -75,9 +62,9 @@ impl<G: Observer> RunSought for Until<'_, G> {
                 explore: plan.explore.within(plan.explore.most()),
                 observer: plan.observer,
             };
-            explore_hang(rt, &hang, files, out, faults)
+            explore_hang(self.rt, &hang, files, out, faults)
         } else {
-            explore_until(rt, self.plan, files, out, faults)
+            explore_until(self.rt, self.plan, files, out, faults)
         }
     }
 }
@@ -110,6 +97,7 @@ fn found_by<R: Clock + Eprint + AllocGlobal, D: Folder, G: Observer, O: Sink, E:
         observer: around.gate,
     };
     let sought = Until {
+        rt: around.rt,
         plan: &plan,
         hang: arguments.hang,
     };

@@ -12,7 +12,7 @@ use crate::common::common_part;
 use crate::lines::header_line;
 use crate::texts::{Side, diff_text};
 use ir_files::ExitStatus;
-use ir_past::{AskErr, Opened, PastErr, TraceQuestion, makers_of, open_trace, refuse};
+use ir_past::{Opened, PastErr, Printed, TraceQuestion, makers_of, open_trace, refuse};
 use ir_stream::{Sink, write_all};
 use ir_trace::Trace;
 use std::alloc::{AllocError, Global};
@@ -110,12 +110,7 @@ impl<'a> TraceQuestion for Difference<'a> {
 
     ghost is_absent = { λ _ _ _. ⊥ };
 
-    fn print<O: Sink>(
-        &self,
-        alloc: Global,
-        trace: &Trace,
-        out: &mut O,
-    ) -> Result<ExitStatus, AskErr> {
+    fn print<O: Sink>(&self, alloc: Global, trace: &Trace, out: &mut O) -> Printed {
         Ok(show_second(alloc, trace, self.second, out)?)
     }
 }

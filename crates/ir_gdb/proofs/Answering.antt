@@ -13,12 +13,14 @@ use Rattle.ir_packet.specs.Stream.{TooLong}
 use Rattle.ir_packet.specs.declared.reply.Reply.{Reply}
 use Rattle.ir_packet.specs.declared.reply.Reply.TheVariants as reply
 use Rattle.ir_packet.specs.declared.request.Request.{Request}
+use Rattle.ir_monitor.specs.Asking.{asked_of}
 use Rattle.ir_gdb.specs.Guards.{Guarded}
 use Rattle.ir_gdb.specs.Setting.{break_setting, setting_reply, with_break}
 use Rattle.ir_gdb.specs.Stub.{Stub}
 use Rattle.ir_gdb.specs.Replies.{RepliesIfMemory, Lacks, RepliesTo}
 use Rattle.ir_gdb.specs.Connection.{Connecting, Link, sent, sign, connection_answer_text, Responds, AnswersLine, RepliesToItem}
 use Rattle.ir_gdb.specs.Connection.{AnswersRequest, AnswersPacket, AnswersNew, Sent, SentInPart, IsBreakSet, SetsBreak}
+use Rattle.ir_gdb.proofs.Lines.{responds_to_implied}
 
 pub on_ok_of_implied : {X E : Type 0} (r : Result X E) (P Q : Type 0) → (P → Q) → OnOk r P → OnOk r Q
 on_ok_of_implied (Ok x) P Q go p = go p
@@ -72,13 +74,9 @@ line_answered_done : (b : Bool) (l : Link) (line : List ℕ) (s : Stub) (answer 
 line_answered_done true l line s answer goes r = absurd cc
 line_answered_done false l line s answer goes r = inl (
   s,
-  (
-    r.0,
-    r.1,
-    r.2,
-    r.3,
-    ap (λ (x : List ℕ). connection_answer_text x ++ packet_of (reply_text reply.Done)) r.4,
-  ),
+  responds_to_implied (asked_of line) l.stub line s (λ text. answer ≡ text)
+      (λ text. connection_answer_text answer ++ packet_of (reply_text reply.Done) ≡ connection_answer_text text ++ packet_of (reply_text reply.Done))
+      (λ text same. ap (λ (x : List ℕ). connection_answer_text x ++ packet_of (reply_text reply.Done)) same) r,
   refl,
 )
 

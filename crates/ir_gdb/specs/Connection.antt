@@ -10,6 +10,8 @@ use Rattle.ir_stream.specs.declared.serving.Fault.{Fault}
 use Rattle.ir_stream.specs.declared.serving.Fault.TheVariants as fault
 use Rattle.ir_debug.specs.Machine.{Desk}
 use Rattle.ir_debug.specs.Machine as session
+use Rattle.ir_monitor.specs.Asking.{asked_of}
+use Rattle.ir_monitor.specs.declared.asked.Asked.{Asked}
 use Rattle.ir_packet.specs.Packets.{packet_of}
 use Rattle.ir_packet.specs.Replies.{reply_text, output_reply}
 use Rattle.ir_packet.specs.Requests.{request_of, console_line, break_conditions}
@@ -24,6 +26,7 @@ use Rattle.ir_gdb.specs.Stub.{Stub}
 use Rattle.ir_gdb.specs.Guards.{Guarded, guarded}
 use Rattle.ir_gdb.specs.Setting.{break_setting, setting_reply, with_break}
 use Rattle.ir_gdb.specs.Replies.{RepliesTo, breakpoint}
+use Rattle.ir_gdb.specs.Questions.{AnswersQuestion}
 
 pub record Link : Type 0 where
   pub stub : Stub
@@ -61,9 +64,9 @@ sign l text = if l.acknowledges then text else []
 abbrev pub resent : Link → List ℕ
 resent l = sign l l.last
 
--- ---- a session's line
+-- ---- a line of `monitor`
 
--- the most bytes of a session's answer in one packet
+-- the most bytes of its answer in one packet
 abbrev pub most_piece : ℕ
 most_piece = 500
 
@@ -81,10 +84,18 @@ abbrev pub with_desk : Stub → Desk → Stub
 with_desk s d = record s { desk = d }
 
 -- a session may answer a line by a text of which P holds
-abbrev pub Responds : Stub → List ℕ → Stub → (List ℕ → Type 0) → Type 0
-Responds s line next P = (answer : List ℕ) × (d : Desk) × session.Replies s.desk line answer d × (next ≡ with_desk s d) × P answer
+abbrev pub RespondsInSession : Stub → List ℕ → Stub → (List ℕ → Type 0) → Type 0
+RespondsInSession s line next P = (answer : List ℕ) × (d : Desk) × session.Replies s.desk line answer d × (next ≡ with_desk s d) × P answer
 
--- what a session answers to a line that doesn't quit, and the stub is then so; or there was no memory to keep the answer
+-- so may a question of the run, if the line asks one; any other line a session
+abbrev pub RespondsTo : Option Asked → Stub → List ℕ → Stub → (List ℕ → Type 0) → Type 0
+RespondsTo None s line next P = RespondsInSession s line next P
+RespondsTo (Some asked) s line next P = (answer : List ℕ) × AnswersQuestion s asked answer next × P answer
+
+abbrev pub Responds : Stub → List ℕ → Stub → (List ℕ → Type 0) → Type 0
+Responds s line next P = RespondsTo (asked_of line) s line next P
+
+-- what a line that doesn't quit is answered, and the stub is then so; or there was no memory to keep the answer
 abbrev pub Consults : {E : Type 0} → Link → List ℕ → Result (Option Answered) E → Link → Type 0
 Consults l line (Ok None) next = (session.quits line ≡ true) × (next ≡ l)
 Consults l line (Ok (Some answered)) next = (session.quits line ≡ false)
@@ -92,7 +103,7 @@ Consults l line (Ok (Some answered)) next = (session.quits line ≡ false)
 Consults l line (Err e) next = (session.quits line ≡ false)
     × ((next ≡ l) ⊎ ((s : Stub) × Responds l.stub line s (λ text. ⊤) × (next ≡ record l { stub = s })))
 
--- what a session answers, and then `OK`; or there was no memory to keep the answer
+-- what a line is answered, and then `OK`; or there was no memory for the answer
 abbrev pub AnswersLine : Bool → Link → List ℕ → List ℕ → Link → Type 0
 AnswersLine true l line text next = (text ≡ packet_of (reply_text reply.NotPermitted)) × (next ≡ sent l l.stub (packet_of (reply_text reply.NotPermitted)))
 AnswersLine false l line text next =

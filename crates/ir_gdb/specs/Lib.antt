@@ -16,6 +16,7 @@ pub mod Moves
 pub mod Restarts
 pub mod Texts
 pub mod Replies
+pub mod Questions
 pub mod Connection
 pub mod Session
 pub mod Laws

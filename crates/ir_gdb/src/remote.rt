@@ -28,6 +28,7 @@ mod memory;
 mod moves;
 mod over;
 mod points;
+mod questions;
 mod reads;
 mod replies;
 mod restarts;

@@ -8,7 +8,7 @@ use ir_events::{events_text, pcs};
 use ir_files::ExitStatus;
 use ir_fit::Fitted;
 use ir_opened::RunQuestion;
-use ir_past::{AskErr, put_bytes};
+use ir_past::{Printed, put_bytes};
 use ir_stream::Sink;
 use ir_symbols::SymbolTable;
 use std::alloc::{AllocError, Global};
@@ -38,12 +38,7 @@ impl<'a> RunQuestion for EventsQuestion<'a> {
 
     ghost is_absent = { λ _ _ _. ⊥ };
 
-    fn print<O: Sink>(
-        &self,
-        alloc: Global,
-        fitted: &Fitted,
-        out: &mut O,
-    ) -> Result<ExitStatus, AskErr> {
+    fn print<O: Sink>(&self, alloc: Global, fitted: &Fitted, out: &mut O) -> Printed {
         let text = fitted_lines(alloc, fitted, self.symbols)?;
         put_bytes(text.as_slice(), out)?;
         Ok(ExitStatus::Done)

@@ -7,18 +7,21 @@ use crate::numbers::{address, decimal};
 use crate::place::Place;
 use crate::thing::Thing;
 
-// The words that say what is behind them.
-const THREAD: &[u8] = b"thread";
+/// The word before the number of a thread, in answers and in files of names.
+pub const THREAD: &[u8] = b"thread";
 
-const OBJECT: &[u8] = b"object";
+/// The word before the number of an object.
+pub const OBJECT: &[u8] = b"object";
 
+/// The word before the index of a word of an object.
+pub const WORD: &[u8] = b"word";
+
+// The other words of answers that say what is behind them.
 const READ: &[u8] = b"read";
 
 const WRITE: &[u8] = b"write";
 
 const TRY: &[u8] = b"try";
-
-const WORD: &[u8] = b"word";
 
 const WORDS: &[u8] = b"words";
 

@@ -8,6 +8,7 @@ ghost use Rattle.ir_names.specs.Lines.{row_if_name, thing_by, word_by, word_row,
 
 use crate::legal::is_name;
 use crate::names_err::NamesErr;
+use crate::naming::{OBJECT, THREAD, WORD};
 use crate::numbers::{address, decimal};
 use crate::table::Names;
 use crate::thing::Thing;
@@ -16,13 +17,6 @@ use std::alloc::Global;
 
 // How many digits an address has.
 const ADDRESS_DIGITS: usize = 8;
-
-// The words of lines.
-const THREAD: &[u8] = b"thread";
-
-const OBJECT: &[u8] = b"object";
-
-const WORD: &[u8] = b"word";
 
 // A thing and its name.
 type Row<'a> = (Thing, &'a [u8]);

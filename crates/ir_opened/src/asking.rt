@@ -15,7 +15,7 @@ use crate::opened::Opened;
 use crate::opening::{open_fit, refuse};
 use ir_files::{ExitStatus, tell};
 use ir_fit::Fitted;
-use ir_past::AskErr;
+use ir_past::{AskErr, Printed};
 use ir_stream::Sink;
 use std::alloc::Global;
 
@@ -32,12 +32,7 @@ pub trait RunQuestion {
     /// # Errors
     /// The run doesn't have what the question is about, and nothing was written; or memory ran out or the writer failed, and a prefix of the
     /// answer was written.
-    fn print<O: Sink>(
-        &self,
-        alloc: Global,
-        fitted: &Fitted,
-        out: &mut O,
-    ) -> Result<ExitStatus, AskErr>
+    fn print<O: Sink>(&self, alloc: Global, fitted: &Fitted, out: &mut O) -> Printed
         requires { O.broken out.old ≡ false }
         ensures ok { IfOk result (λ s. Answered (is_answer self.now fitted.now) s (writer_of (O.written out.old) (O.written out.new) (O.broken out.new))) }
         ensures fails { IfErr result (λ e. IsUnsaid (is_answer self.now fitted.now) (is_absent self.now fitted.now) e (writer_of (O.written out.old) (O.written out.new) (O.broken out.new))) }

@@ -19,6 +19,9 @@ pub enum AskErr {
     Unwritten(PastErr),
 }
 
+/// How an answer was printed: its exit status, or why there is none.
+pub type Printed = Result<ExitStatus, AskErr>;
+
 impl AskErr {
     ghost use Rattle.ir_past.specs.Replies.{ask_status, ask_words};
 

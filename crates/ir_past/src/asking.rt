@@ -10,7 +10,7 @@ ghost use Rattle.ir_past.specs.Replies.{IsTraceReply, IsTraceReplyless, IsUnsaid
 ghost use Rattle.ir_past.specs.declared.absent.Absent.{Absent};
 ghost use Rattle.ir_past.specs.declared.ask_err.AskErr.{AskErr};
 
-use crate::ask_err::AskErr;
+use crate::ask_err::{AskErr, Printed};
 use crate::opened::Opened;
 use crate::opening::{open_trace, refuse};
 use ir_files::{ExitStatus, tell};
@@ -31,12 +31,7 @@ pub trait TraceQuestion {
     /// # Errors
     /// The trace doesn't have what the question is about, and nothing was written; or memory ran out or the writer failed, and a prefix of the
     /// answer was written.
-    fn print<O: Sink>(
-        &self,
-        alloc: Global,
-        trace: &Trace,
-        out: &mut O,
-    ) -> Result<ExitStatus, AskErr>
+    fn print<O: Sink>(&self, alloc: Global, trace: &Trace, out: &mut O) -> Printed
         requires works { O.broken out.old ≡ false }
         requires coherent { AreCoherent trace.now }
         ensures ok { IfOk result (λ s. Answered (is_answer self.now trace.now) s (writer_of (O.written out.old) (O.written out.new) (O.broken out.new))) }

@@ -25,7 +25,7 @@ mod stale_write;
 
 pub use absent::Absent;
 pub use answer::{Answer, line_answer, put_answer, put_bytes};
-pub use ask_err::AskErr;
+pub use ask_err::{AskErr, Printed};
 pub use asking::{TraceQuestion, ask_trace};
 pub use counts::write_count;
 pub use laws::{entries_left, returns_counted};

@@ -7,7 +7,7 @@ ghost use Rattle.ir_past.specs.Answers.{Stops};
 ghost use Rattle.ir_past.specs.Lines.{row_lines, stale_text, IsStaleAnswer};
 ghost use Rattle.ir_past.specs.Replies.{IsDoneWith};
 
-use crate::ask_err::AskErr;
+use crate::ask_err::Printed;
 use crate::asking::TraceQuestion;
 use crate::counts::write_count;
 use crate::lines::{count_line, row_line};
@@ -60,12 +60,7 @@ impl TraceQuestion for StaleQuestion {
 
     ghost is_absent = { λ _ _ _. ⊥ };
 
-    fn print<O: Sink>(
-        &self,
-        alloc: Global,
-        trace: &Trace,
-        out: &mut O,
-    ) -> Result<ExitStatus, AskErr> {
+    fn print<O: Sink>(&self, alloc: Global, trace: &Trace, out: &mut O) -> Printed {
         let rows = stale_writes(alloc, trace)?;
         put_stale(alloc, write_count(trace), rows.as_slice(), out)?;
         Ok(ExitStatus::Done)

@@ -20,7 +20,7 @@ use crate::limits::MOST_BOXES;
 use crate::picture::Picture;
 use crate::pictures::picture_of;
 use ir_files::ExitStatus;
-use ir_past::{Answer, AskErr, PastErr, TraceQuestion, line_answer, put_answer};
+use ir_past::{Answer, AskErr, PastErr, Printed, TraceQuestion, line_answer, put_answer};
 use ir_stream::Sink;
 use ir_trace::Trace;
 use std::alloc::{AllocError, Global};
@@ -124,12 +124,7 @@ impl TraceQuestion for Asked {
 
     ghost is_absent = { LacksAround };
 
-    fn print<O: Sink>(
-        &self,
-        alloc: Global,
-        trace: &Trace,
-        out: &mut O,
-    ) -> Result<ExitStatus, AskErr> {
+    fn print<O: Sink>(&self, alloc: Global, trace: &Trace, out: &mut O) -> Printed {
         match judged(alloc, trace, self)? {
             Err(circle) => Ok(put_answer(&circle_answer(alloc, &circle)?, out)?),
             Ok(picture) => Ok(show_picture(alloc, trace, self, &picture, out)?),

@@ -18,7 +18,7 @@ use crate::view::View;
 use ir_files::ExitStatus;
 use ir_fit::Fitted;
 use ir_opened::RunQuestion;
-use ir_past::{AskErr, PastErr, put_answer};
+use ir_past::{AskErr, PastErr, Printed, put_answer};
 use ir_picture::{Around, Asked, Form, MOST_BOXES, data_frame, many_answer, page_frame};
 use ir_stream::Sink;
 use std::alloc::{AllocError, Global};
@@ -144,12 +144,7 @@ impl<'a> RunQuestion for RunView<'a> {
 
     ghost is_absent = { λ view. LacksAroundIn view.asked.now };
 
-    fn print<O: Sink>(
-        &self,
-        alloc: Global,
-        fitted: &Fitted,
-        out: &mut O,
-    ) -> Result<ExitStatus, AskErr> {
+    fn print<O: Sink>(&self, alloc: Global, fitted: &Fitted, out: &mut O) -> Printed {
         show_run(alloc, fitted, self.asked, out)
     }
 }

@@ -9,7 +9,7 @@ use crate::walk::rests;
 use ir_files::ExitStatus;
 use ir_fit::Fitted;
 use ir_opened::RunQuestion;
-use ir_past::{AskErr, put_bytes, stale_writes};
+use ir_past::{Printed, put_bytes, stale_writes};
 use ir_stream::Sink;
 use std::alloc::{AllocError, Global};
 
@@ -33,12 +33,7 @@ impl RunQuestion for RestsQuestion {
 
     ghost is_absent = { λ _ _ _. ⊥ };
 
-    fn print<O: Sink>(
-        &self,
-        alloc: Global,
-        fitted: &Fitted,
-        out: &mut O,
-    ) -> Result<ExitStatus, AskErr> {
+    fn print<O: Sink>(&self, alloc: Global, fitted: &Fitted, out: &mut O) -> Printed {
         let text = fitted_lines(alloc, fitted)?;
         put_bytes(text.as_slice(), out)?;
         Ok(ExitStatus::Done)

@@ -18,7 +18,7 @@ use crate::versions::versions_of;
 use ir_files::ExitStatus;
 use ir_fit::Fitted;
 use ir_opened::{RunQuestion, leave_of};
-use ir_past::{Absent, AskErr, Place, makers_of, put_bytes, readers_of};
+use ir_past::{Absent, AskErr, Place, Printed, makers_of, put_bytes, readers_of};
 use ir_stream::Sink;
 use std::alloc::{AllocError, Global};
 
@@ -109,12 +109,7 @@ impl RunQuestion for Question {
 
     ghost is_absent = { LacksAskedIn };
 
-    fn print<O: Sink>(
-        &self,
-        alloc: Global,
-        fitted: &Fitted,
-        out: &mut O,
-    ) -> Result<ExitStatus, AskErr> {
+    fn print<O: Sink>(&self, alloc: Global, fitted: &Fitted, out: &mut O) -> Printed {
         let text = answer(alloc, fitted, self)?;
         put_bytes(text.as_bytes(), out)?;
         Ok(ExitStatus::Done)

@@ -10,7 +10,7 @@ use crate::question::Question;
 use crate::texts::{object_text, version_text};
 use crate::versions::versions_of;
 use ir_files::ExitStatus;
-use ir_past::{Absent, AskErr, TraceQuestion, makers_of, put_bytes, readers_of};
+use ir_past::{Absent, AskErr, Printed, TraceQuestion, makers_of, put_bytes, readers_of};
 use ir_stream::Sink;
 use ir_trace::Trace;
 use std::alloc::{AllocError, Global};
@@ -60,12 +60,7 @@ impl TraceQuestion for Question {
 
     ghost is_absent = { LacksAsked };
 
-    fn print<O: Sink>(
-        &self,
-        alloc: Global,
-        trace: &Trace,
-        out: &mut O,
-    ) -> Result<ExitStatus, AskErr> {
+    fn print<O: Sink>(&self, alloc: Global, trace: &Trace, out: &mut O) -> Printed {
         let text = answer(alloc, trace, self)?;
         put_bytes(text.as_bytes(), out)?;
         Ok(ExitStatus::Done)

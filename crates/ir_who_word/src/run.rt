@@ -9,7 +9,7 @@ use crate::question::Question;
 use ir_files::ExitStatus;
 use ir_fit::Fitted;
 use ir_opened::RunQuestion;
-use ir_past::{AskErr, put_bytes};
+use ir_past::{Printed, put_bytes};
 use ir_stream::Sink;
 use std::alloc::Global;
 
@@ -18,12 +18,7 @@ impl RunQuestion for Question {
 
     ghost is_absent = { LacksWord };
 
-    fn print<O: Sink>(
-        &self,
-        alloc: Global,
-        fitted: &Fitted,
-        out: &mut O,
-    ) -> Result<ExitStatus, AskErr> {
+    fn print<O: Sink>(&self, alloc: Global, fitted: &Fitted, out: &mut O) -> Printed {
         let text = answer(alloc, fitted, self)?;
         put_bytes(text.as_bytes(), out)?;
         Ok(ExitStatus::Done)

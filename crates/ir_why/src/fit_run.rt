@@ -18,7 +18,7 @@ use ir_cut::{Cut, consistent};
 use ir_files::ExitStatus;
 use ir_fit::Fitted;
 use ir_opened::RunQuestion;
-use ir_past::{Absent, AskErr, Place, put_bytes};
+use ir_past::{Absent, AskErr, Place, Printed, put_bytes};
 use ir_picture::{picture_of, runs_have_no_circle};
 use ir_stream::Sink;
 use std::alloc::{AllocError, Global};
@@ -85,12 +85,7 @@ impl RunQuestion for FitQuestion {
 
     ghost is_absent = { LacksFitAsked };
 
-    fn print<O: Sink>(
-        &self,
-        alloc: Global,
-        fitted: &Fitted,
-        out: &mut O,
-    ) -> Result<ExitStatus, AskErr> {
+    fn print<O: Sink>(&self, alloc: Global, fitted: &Fitted, out: &mut O) -> Printed {
         let text = text_asked(alloc, fitted, self)?;
         put_bytes(&text, out)?;
         Ok(ExitStatus::Done)

@@ -10,7 +10,7 @@ ghost use Rattle.ir_why.specs.Answers.{event_asked, HasAsked, LacksEvent, IsEven
 use crate::question::Question;
 use crate::texts::reason_of;
 use ir_files::ExitStatus;
-use ir_past::{Absent, Answer, AskErr, Place, TraceQuestion, put_answer};
+use ir_past::{Absent, Answer, AskErr, Place, Printed, TraceQuestion, put_answer};
 use ir_picture::{circle_answer, picture_of};
 use ir_stream::Sink;
 use ir_trace::Trace;
@@ -73,12 +73,7 @@ impl TraceQuestion for Question {
 
     ghost is_absent = { LacksEvent };
 
-    fn print<O: Sink>(
-        &self,
-        alloc: Global,
-        trace: &Trace,
-        out: &mut O,
-    ) -> Result<ExitStatus, AskErr> {
+    fn print<O: Sink>(&self, alloc: Global, trace: &Trace, out: &mut O) -> Printed {
         let answer = answer_of(alloc, trace, self)?;
         Ok(put_answer(&answer, out)?)
     }

@@ -39,7 +39,7 @@ fn quits(line: &[u8]) -> bool
 }
 
 impl Connection {
-    // What a session answers to the line of the packet that was read last; none if it would end the session.
+    // What the line of the packet that was read last is answered; none if it would end the session.
     fn answer_of<H: Hands>(&mut self, hands: &H) -> Result<Option<Answered>, AllocError>
         requires { length self.old.reading.payload ≤ 4096 }
         ensures answer { Consults self.old.link (console_line self.old.reading.payload) result self.new.link }
@@ -55,13 +55,13 @@ impl Connection {
         };
         let mut answered = answered;
         let line = self.line.as_slice();
-        let Ok(()) = self.remote.respond(hands, line, &mut answered) else {
+        let Ok(()) = self.remote.hear(hands, line, &mut answered) else {
             return Err(AllocError);
         };
         Ok(Some(answered))
     }
 
-    // `qRcmd`: what a session answers, and then `OK`.
+    // `qRcmd`: what its line is answered, and then `OK`.
     fn answer_line<H: Hands, W: Sink>(&mut self, hands: &H, writer: &mut W) -> Result<(), Fault>
         requires { length self.old.reading.payload ≤ 4096 }
         ensures reading { self.new.reading ≡ self.old.reading }

@@ -6,7 +6,7 @@ ghost use Rattle.ir_stream.specs.Answers.{AppendsPrefix};
 ghost use Rattle.ir_stream.specs.Writing.{WritesOrFails};
 ghost use Rattle.ir_debug.specs.Debugging.{IsAnswer};
 ghost use Rattle.ir_gdb.specs.Serving.{debugging_of};
-ghost use Rattle.ir_gdb.specs.Connection.{Responds, with_desk};
+ghost use Rattle.ir_gdb.specs.Connection.{RespondsInSession, with_desk};
 
 use crate::remote::Remote;
 use ir_command::{Command, Refusal, parse_line};
@@ -44,8 +44,8 @@ impl Remote {
         writer: &mut W,
     ) -> Result<(), DeviceErr>
         ensures { WritesOrFails W.broken writer.old writer.new
-            (Responds self.old.stub line.now self.new.stub (Appends (W.written writer.old) (W.written writer.new)))
-            (Responds self.old.stub line.now self.new.stub (AppendsPrefix (W.written writer.old) (W.written writer.new))) result }
+            (RespondsInSession self.old.stub line.now self.new.stub (Appends (W.written writer.old) (W.written writer.new)))
+            (RespondsInSession self.old.stub line.now self.new.stub (AppendsPrefix (W.written writer.old) (W.written writer.new))) result }
     {
         let asked = parse_line(line);
         let Some(answer) = self.consult(hands, &asked) else {

@@ -2,14 +2,14 @@ use Rattle.std.proofs.Common.{◌≡◌, false, inl, inr, ◌∙◌, List, ℕ, 
 use Rattle.std.proofs.lemmas.Result.{IfErr-weaker, err_from_is_err_and}
 use Rattle.ir_files.specs.Writers.{writer_of}
 use Rattle.ir_within.specs.Faults.{Comparison}
-use Rattle.ir_within.specs.Plans.{aspects_of}
+use Rattle.ir_within.specs.Plans.{comparison_of}
 use Rattle.ir_commands.specs.Exploring.{AsksComparison}
 use Rattle.ir_files.proofs.CallerLemmas.{if_err_handed_on}
 use Rattle.ir_commands.specs.Files.{TellsFault}
 use Rattle.std.proofs.KnownBytes.{Appends-nil}
 use Rattle.ir_commands.specs.Writing.{storing}
 use Rattle.ir_commands.proofs.Kept.{kept_as_asked, output_paths_as_asked, run_kept}
-use Rattle.ir_commands.proofs.Outsides.{comparison_asked, no_comparison_no_recording, outside_misses}
+use Rattle.ir_commands.proofs.Outsides.{comparison_asked, no_comparison_for_lack, no_comparison_no_recording, outside_misses}
 use Rattle.ir_commands.proofs.Printed.{nothing_searched}
 use Rattle.ir_commands.proofs.Refused.{refused_since}
 use Rattle.ir_commands.proofs.Searched.{ok_gives}
@@ -21,10 +21,9 @@ returns-clause-found g c =
     let at = g.D.Folder.bytes_at folder in
     let stored = storing g.D.Folder.known g.D.Folder.known_closed (g.D.Folder.knows folder) (g.D.Folder.was_put folder) in
     let within = c.args.arguments.now.within in
-    let both = c.both_images-both.result in
-    let comparison : Comparison = record { image = both.0; other = both.1; plan = c.plan_of.result; aspects = aspects_of c.aspects_of.result } in
-    let asked : AsksComparison at within comparison = comparison_asked comparison c.both_images-both.ensures.0 c.in_ok-files.ensures.image
-    c.both_images-both.ensures.1 c.in_ok-files.ensures.other c.in_ok-files.ensures.input c.as_slice.ensures.value c.plan_of.ensures c.aspects_of.ensures in
+    let comparison : Comparison = comparison_of c.in_ok-plan.plan in
+    let asked : AsksComparison at within comparison = comparison_asked c.in_ok-plan.ensures.plan c.both_images-both.ensures.0 c.in_ok-files.ensures.image
+    c.both_images-both.ensures.1 c.in_ok-files.ensures.other c.as_slice-input.ensures.value c.in_ok-files.ensures.input in
     let out = writer_of (g.O.Sink.written c.args.out.now) (g.O.Sink.written c.recorded_into.new.out) (g.O.Sink.broken c.recorded_into.new.out) in
     let outs = output_paths_as_asked (λ v. v.items) c.paths-paths.result.output c.new-places.result.outputs c.in_ok-outputs.outputs c.paths-paths.ensures.output
     c.new-places.ensures.outputs c.in_ok-outputs.ensures.paths in
@@ -39,12 +38,11 @@ pub returns-clause-none : goal.returns-clause-none
 returns-clause-none g c =
     let at = g.D.Folder.bytes_at c.args.around.now.folder.now in
     let within = c.args.arguments.now.within in
-    let both = c.both_images-both.result in
-    let comparison : Comparison = record { image = both.0; other = both.1; plan = c.plan_of.result; aspects = aspects_of c.aspects_of.result } in
-    let asked : AsksComparison at within comparison = comparison_asked comparison c.both_images-both.ensures.0 c.in_ok-files.ensures.image
-    c.both_images-both.ensures.1 c.in_ok-files.ensures.other c.in_ok-files.ensures.input c.as_slice.ensures.value c.plan_of.ensures c.aspects_of.ensures in
+    let comparison : Comparison = comparison_of c.in_ok-plan.plan in
+    let asked : AsksComparison at within comparison = comparison_asked c.in_ok-plan.ensures.plan c.both_images-both.ensures.0 c.in_ok-files.ensures.image
+    c.both_images-both.ensures.1 c.in_ok-files.ensures.other c.as_slice-input.ensures.value c.in_ok-files.ensures.input in
     let out = writer_of (g.O.Sink.written c.args.out.now) (g.O.Sink.written c.recorded_into.new.out) (g.O.Sink.broken c.recorded_into.new.out) in
-    let kept = c.in_ok-outputs.ensures.kept ∙ c.if-lacks_either.ensures.kept refl ∙ c.in_ok-files.ensures.kept ∙ c.if-loses_input.ensures.kept refl in
+    let kept = c.in_ok-outputs.ensures.kept ∙ c.in_ok-plan.ensures.kept ∙ c.in_ok-files.ensures.kept ∙ c.if-loses_input.ensures.kept refl in
     IfErr-weaker c.recorded_into.result _ _ (λ answered h. outside_misses answered out asked (ap
     (λ f. writer_of (g.E.Sink.written f) (g.E.Sink.written c.recorded_into.new.faults) (g.E.Sink.broken c.recorded_into.new.faults)) kept) h) c.recorded_into.ensures.none
 
@@ -63,17 +61,23 @@ returns-in_err-files-clause-none g c =
 pub returns-in_err-outputs-clause-none : goal.returns-in_err-outputs-clause-none
 returns-in_err-outputs-clause-none g c =
     let p = err_from_is_err_and c.from_residual-in_err-outputs.result c.from_residual-in_err-outputs.ensures.1 in
-    let kept = c.if-lacks_either.ensures.kept refl ∙ c.in_ok-files.ensures.kept ∙ c.if-loses_input.ensures.kept refl in
+    let kept = c.in_ok-plan.ensures.kept ∙ c.in_ok-files.ensures.kept ∙ c.if-loses_input.ensures.kept refl in
     let told : TellsFault (writer_of (g.E.Sink.written c.args.faults.now) (g.E.Sink.written c.output_places.new.faults) (g.E.Sink.broken c.output_places.new.faults)) =
     subst (λ f. TellsFault (writer_of (g.E.Sink.written f) (g.E.Sink.written c.output_places.new.faults) (g.E.Sink.broken c.output_places.new.faults))) kept
     (c.in_err-outputs.ensures.told (subst (λ f. g.E.Sink.broken f ≡ false) (sym kept) c.requires.reports)) in
     if_err_handed_on _ c.from_residual-in_err-outputs.result c.in_err-outputs.field-0.0 p.0 p.1 p.2
     (inr (nothing_searched (refused_since (λ never. absurd never) c.in_err-outputs.ensures.status) told (Appends-nil (g.O.Sink.written c.args.out.now))))
 
-pub returns-then-lacks_either-clause-none : goal.returns-then-lacks_either-clause-none
-returns-then-lacks_either-clause-none g c =
+pub returns-in_err-plan-clause-none : goal.returns-in_err-plan-clause-none
+returns-in_err-plan-clause-none g c =
+    let p = err_from_is_err_and c.from_residual-in_err-plan.result c.from_residual-in_err-plan.ensures.1 in
+    let new = c.comparison_plan.new.faults in
+    let within = c.args.arguments.now.within in
     let kept = c.in_ok-files.ensures.kept ∙ c.if-loses_input.ensures.kept refl in
-    let told : TellsFault (writer_of (g.E.Sink.written c.args.faults.now) (g.E.Sink.written c.lacks_either.new.faults) (g.E.Sink.broken c.lacks_either.new.faults)) =
-    subst (λ f. TellsFault (writer_of (g.E.Sink.written f) (g.E.Sink.written c.lacks_either.new.faults) (g.E.Sink.broken c.lacks_either.new.faults))) kept
-    (c.if-lacks_either.ensures.told refl (subst (λ f. g.E.Sink.broken f ≡ false) (sym kept) c.requires.reports)) in
-    inr (nothing_searched (inl refl) told (Appends-nil (g.O.Sink.written c.args.out.now)))
+    let told : TellsFault (writer_of (g.E.Sink.written c.args.faults.now) (g.E.Sink.written new) (g.E.Sink.broken new)) =
+    subst (λ f. TellsFault (writer_of (g.E.Sink.written f) (g.E.Sink.written new) (g.E.Sink.broken new))) kept
+    (c.in_err-plan.ensures.told (subst (λ f. g.E.Sink.broken f ≡ false) (sym kept) c.requires.reports)) in
+    if_err_handed_on _ c.from_residual-in_err-plan.result c.in_err-plan.field-0.0 p.0 p.1 p.2
+    (inr (nothing_searched (no_comparison_no_recording (g.D.Folder.bytes_at c.args.around.now.folder.now) within
+    (no_comparison_for_lack (g.D.Folder.bytes_at c.args.around.now.folder.now) within c.in_ok-files.ensures.image c.in_ok-files.ensures.other
+    c.both_images-both.ensures.0 c.both_images-both.ensures.1 c.in_err-plan.ensures.lacks)) told (Appends-nil (g.O.Sink.written c.args.out.now))))

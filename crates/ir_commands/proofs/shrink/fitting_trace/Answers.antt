@@ -13,7 +13,7 @@ returns-in-Ok-Refused-clause-stopped g c =
     (subst (λ o. IsFitOpened c.as_slice-image.result.now c.as_slice-trace.result.now o) c.in-Ok-Refused.field-0-is c.in-Ok-Refused.ensures)) in
     inr (
       refl,
-      c.say-in-Err-refuse.ensures.told c.requires.reports,
+      c.say.ensures.told c.requires.reports,
       inr (
         unfit_text why,
         (unfit_status why, record { why = why; because = because; status = refl; line = refl }),

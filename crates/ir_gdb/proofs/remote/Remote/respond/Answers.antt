@@ -5,14 +5,14 @@ use Rattle.ir_stream.specs.Answers.{AppendsPrefix}
 use Rattle.ir_debug.specs.Debugging.{IsAnswer}
 use Rattle.ir_gdb.specs.Stub.{Stub}
 use Rattle.ir_gdb.specs.Serving.{Serving, debugging_of}
-use Rattle.ir_gdb.specs.Connection.{Responds, with_desk}
+use Rattle.ir_gdb.specs.Connection.{RespondsInSession, with_desk}
 use Rattle.ir_stream.proofs.CallerLemmas.{writes_or_fails_whole, writes_or_fails_mono}
 use Rattle.ir_gdb.proofs.Lines.{responds_by_answer, no_command_no_response}
 use Rattle.ir_gdb.proofs.remote.Remote.respond.Goals as goal
 
 pub returns-in_default : goal.returns-in_default
 returns-in_default g c = writes_or_fails_whole (let none = c.in_default.ensures.none in
-    subst (λ (s : Stub). Responds c.args.self.now.stub c.args.line.now s (Appends (g.W.Sink.written c.args.writer.now) (g.W.Sink.written c.args.writer.now)))
+    subst (λ (s : Stub). RespondsInSession c.args.self.now.stub c.args.line.now s (Appends (g.W.Sink.written c.args.writer.now) (g.W.Sink.written c.args.writer.now)))
     (sym (ap (λ (x : Serving). x.stub) none.1))
     (no_command_no_response c.parse_line-asked.result c.args.line.now c.args.self.now.stub
     (Appends (g.W.Sink.written c.args.writer.now) (g.W.Sink.written c.args.writer.now)) c.parse_line-asked.ensures none.0

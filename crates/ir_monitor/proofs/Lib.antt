@@ -1,0 +1,5 @@
+mod Told
+mod Joined
+mod LastSteps
+mod Arms
+mod Unknown
