@@ -828,7 +828,7 @@ def check_until_failures(folder):
 
 def check_as_found(folder):
     """The first outcome is printed while a long search goes on."""
-    assembled(folder, "long", source_of([ROUND * 3] * 4, 1))
+    assembled(folder, "long", source_of([ROUND * 6] * 4, 1))
     words = [program(), "explore", "long.img", "--states", "3000000"]
     with subprocess.Popen(words, cwd=folder, stdout=subprocess.PIPE) as search:
         first, running = search.stdout.readline(), search.poll() is None
@@ -861,7 +861,7 @@ def check_bounded(folder, row):
 
 def check_seconds(folder):
     """A search that ends by its time: what it has printed is what a search of so many switches prints."""
-    assembled(folder, "long", source_of([ROUND * 3] * 4, 1))
+    assembled(folder, "long", source_of([ROUND * 6] * 4, 1))
     ended = run("explore long.img --states 100000000 --seconds 1", folder)
     lines = ended.stdout.decode().splitlines()
     found = re.fullmatch(r"stopped seconds covered (\d+) outcomes (\d+) states \d+", lines[-1])
