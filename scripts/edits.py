@@ -40,6 +40,8 @@ SAID = {True: "refused", False: "NOT REFUSED", ALONE: ALONE, WHOLE: WHOLE, NO_VE
 # How many edits one check tries at most, so that those of a large crate take several processors.
 MOST = 12
 CALLS = re.compile(r"^:? ?(?:it calls `[^`]*`(?:, `[^`]*`| and `[^`]*`)*, which (?:is|are) not proved)?$")
+# What is said of a function whose body the borrow checker doesn't cover, or of a caller of such a function: that is no verdict on what an edit means.
+UNCOVERED = "borrow checker"
 
 
 # Where all goes that the checks say, if it is wanted.
@@ -174,8 +176,10 @@ def refused(crate, edits, room, asked=()):
     failed = FAILED.findall(said)
     if status not in (0, 1) or status == 1 and not failed:
         raise NoVerdict(" ".join(said.split())[-300:])
-    is_refused = status == 1 and any(name.startswith(f"{crate.name}::") for name, _, _ in failed)
-    return {name: why for name, what, why in failed if what == "not proved" or not CALLS.match(why)}, is_refused, seconds
+    names = {name: why for name, what, why in failed if UNCOVERED not in why and (what == "not proved" or not CALLS.match(why))}
+    if failed and not names:
+        raise NoVerdict(failed[0][2].lstrip(":; ")[:300])
+    return names, any(name.startswith(f"{crate.name}::") for name in names), seconds
 
 
 def checked(crate, place):
