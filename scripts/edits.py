@@ -32,6 +32,8 @@ FUNCTION = re.compile(r"^ *(?:pub(?:\([a-z]+\))? )?(?:const )?fn (\w+)", re.MULT
 IMPL = re.compile(r"^impl(?:<.*?>)? (?:(?:\w+::)*(\w+)(?:<[^{]*?>)? for )?&?(?:\w+::)*(\w+)[^\n]*$|^(\})$", re.MULTILINE)
 # `not proved` says that a goal of the function fails; `no proof` that it lacks something, which may be the proof of what it calls alone.
 FAILED = re.compile(r"^fn (\S+): (no proof|not proved)(.*)$", re.MULTILINE)
+# A lemma that doesn't have its type, which is all that the prover says where a crate has no functions.
+LEMMA = re.compile(r"^\./(?:proofs|specs)/\S+: error: `([^`]+)`: (?:as printed, the two types|computed as far as they go, the two types|expected type)", re.MULTILINE)
 # The goals that the prover names in what it says of a function.
 GOALS = re.compile(r"did not prove ((?:`[^`]*`(?:, | and )?)+)")
 # What is printed of an edit, by whether it is refused; where it isn't yet, how it is tried next.
@@ -173,7 +175,7 @@ def refused(crate, edits, room, asked=()):
     for log in LOG:
         with log.open("a", encoding="utf-8") as file:
             file.write(f"== {crate.name} {' '.join(edit.stem for edit in edits)}\n{said}")
-    failed = FAILED.findall(said)
+    failed = FAILED.findall(said) or [(f"{crate.name}::{name}", "not proved", ": a lemma") for name in LEMMA.findall(said)]
     if status not in (0, 1) or status == 1 and not failed:
         raise NoVerdict(" ".join(said.split())[-300:])
     names = {name: why for name, what, why in failed if UNCOVERED not in why and (what == "not proved" or not CALLS.match(why))}
