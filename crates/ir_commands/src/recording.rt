@@ -46,6 +46,7 @@ impl<'a> RecordingPaths<'a> {
         ensures trace { result.trace.now ≡ string_bytes trace.now }
         ensures input { result.input.now ≡ input.now }
         ensures output { option_map (λ prefix. prefix.now) result.output ≡ output.now }
+        ensures alone { (result.other ≡ None) × (result.list ≡ None) }
     {
         RecordingPaths {
             image: image.as_str(),

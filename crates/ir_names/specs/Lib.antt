@@ -3,3 +3,4 @@ pub mod Lines
 pub mod Naming
 pub mod Taken
 pub mod Words
+pub mod Sinks

@@ -2,6 +2,7 @@
 
 ghost use Rattle.std.specs.Prelude.{◌≡◌, ◌≤◌, [], length, not, MatchOption, Some};
 ghost use Rattle.ir_names.specs.Naming.{answer_start, tag, tag_text};
+ghost use Rattle.ir_names.specs.Sinks.{names_of, reached_of};
 ghost use Rattle.ir_names.specs.Taken.{has_no_bytes, known_plain, bytes_before_name};
 ghost use Rattle.ir_stream.specs.Writing.{WritesText};
 
@@ -89,8 +90,8 @@ impl<W> NamedSink<W> {
 
     /// Puts these names in from now on, in an answer whose lines may begin with addresses.
     pub fn begin(&mut self, names: Names, lists: bool)
-        ensures names { self.new.names ≡ names }
-        ensures reached { self.new.reached ≡ answer_start lists }
+        ensures names { names_of self.new ≡ names }
+        ensures reached { reached_of self.new ≡ answer_start lists }
         ensures sink { self.new.sink ≡ self.old.sink }
     {
         self.names = names;
@@ -100,7 +101,7 @@ impl<W> NamedSink<W> {
 
 impl<W: Sink> Sink for NamedSink<W> {
     // Which names it puts in, in numbers, and the answer without them, by what the writer behind took.
-    ghost written = { λ n. known_plain n.names n.reached (W.broken n.sink) (W.written n.sink) };
+    ghost written = { λ n. known_plain (names_of n) (reached_of n) (W.broken n.sink) (W.written n.sink) };
 
     ghost broken = { λ n. W.broken n.sink };
 
